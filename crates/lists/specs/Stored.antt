@@ -1,12 +1,13 @@
 -- How a table's array holds a list of records, and the laws by which a loop builds one in place.
 -- Assumes nothing.
 use mathlib.Core.Path.{_≡_, refl, sym, ap, _∙_}
-use Prim.Native.Nat.{ℕ, zero, suc, _+_, _-_, _≤_, _<_}
-use native.Mathlib.Nat.{zero-add, add-zero}
+use Prim.Native.Nat.{ℕ, zero, suc, min, _+_, _-_, _≤_, _<_}
+use native.Mathlib.Nat.{min-eq-left}
+use native.Mathlib.Decide.{decLe}
 use mathlib.Core.Bool.{Bool, true, false, cond}
 use mathlib.Core.List.{List, [], _∷_, _++_, append-assoc, append-nil}
 use lib.ListN.{length, take, drop, getD, set, replicate, length-append, length-take, length-drop, length-replicate}
-use lib.Seq.{drop-cons, take-suc, set-at, getD-at, length-take-le}
+use lib.Seq.{drop-cons, take-suc, set-at, getD-at, length-take-le, take-all}
 use native.Mathlib.Numerals.{add-one, one-add, sub-one}
 use native.Mathlib.Omega.{arith}
 use Rattle.lists.specs.Walk.{keep}
@@ -59,14 +60,15 @@ module _ {A : Type 0} where
   unfoldable pub parted : A → List A → ℕ → List A → List A
   parted z list gap r = list ++ (replicate gap z ++ r)
 
-  parted-read : (z : A) (list : List A) (gap i : ℕ) (x : A) (r : List A) (d : A) → i ≡ length list + gap → getD (parted z list gap (x ∷ r)) i d ≡ x
+  -- the element behind the gap
+  pub parted-read : (z : A) (list : List A) (gap i : ℕ) (x : A) (r : List A) (d : A) → i ≡ length list + gap → getD (parted z list gap (x ∷ r)) i d ≡ x
   unfolding parted
   parted-read z list gap i x r d e =
       let long : length (list ++ replicate gap z) ≡ i = rw (length-append, length-replicate) (sym e) in
       rw (← append-assoc) (getD-at (list ++ replicate gap z) x r d i long)
 
   -- the element behind the gap is emptied: the gap is longer by one
-  parted-empty : (z : A) (list : List A) (gap i : ℕ) (x : A) (r : List A) → i ≡ length list + gap
+  pub parted-empty : (z : A) (list : List A) (gap i : ℕ) (x : A) (r : List A) → i ≡ length list + gap
       → set (parted z list gap (x ∷ r)) i z ≡ parted z list (suc gap) r
   unfolding parted
   parted-empty z list gap i x r e =
@@ -77,7 +79,7 @@ module _ {A : Type 0} where
       ∙ ap (λ (l : List A). list ++ l) (sym (replicate-snoc gap z r))
 
   -- the first element of the gap becomes a record
-  parted-fill : (z : A) (list : List A) (gap w : ℕ) (x : A) (r : List A) → w ≡ length list
+  pub parted-fill : (z : A) (list : List A) (gap w : ℕ) (x : A) (r : List A) → w ≡ length list
       → set (parted z list (suc gap) r) w x ≡ parted z (list ++ (x ∷ [])) gap r
   unfolding parted
   parted-fill z list gap w x r e = set-at list z (replicate gap z ++ r) x w (sym e) ∙ sym (append-assoc list (x ∷ []) (replicate gap z ++ r))
@@ -133,3 +135,77 @@ module _ {A : Type 0} where
         ap (λ (l : List A). set l (length (keep p (take i xs))) (getD xs i d)) emptied
         ∙ parted-fill z (keep p (take i xs)) (i - length (keep p (take i xs))) (length (keep p (take i xs))) (getD xs i d) (drop (suc i) xs) refl
         ∙ sym (kept-parted z p xs (i + 1) (omega arith) ∙ rw (more, long, gap, add-one))
+
+-- What a loop that keeps some of the first records in place holds after i turns: the array, and how many were kept.
+pub record Keeping {A : Type 0} (z : A) (p : A → Bool) (xs : List A) (i : ℕ) (list : List A) (count : ℕ) : Type 0 where
+  pub holds : list ≡ kept z p xs i
+  pub counts : count ≡ length (keep p (take i xs))
+
+module _ {A : Type 0} (z : A) (p : A → Bool) (xs : List A) where
+  pub keeping-none : Keeping z p xs 0 xs 0
+  unfolding keep
+  keeping-none = record { holds = sym (kept-none z p xs); counts = refl }
+
+  pub length-kept : (i : ℕ) → i ≤ length xs → length (kept z p xs i) ≡ length xs
+  unfolding parted
+  length-kept i h =
+      let s : length (keep p (take i xs)) ≤ length (take i xs) = length-keep p (take i xs) in
+      let t : length (take i xs) ≡ i = length-take-le i xs h in
+      rw (kept-parted z p xs i h, length-append, length-append, length-replicate, length-drop) (omega arith)
+
+  module _ (i : ℕ) (list : List A) (count : ℕ) (k : Keeping z p xs i list count) where
+    -- no more were kept than were passed
+    pub keeping-most : i ≤ length xs → count ≤ i
+    keeping-most h =
+        let s : length (keep p (take i xs)) ≤ length (take i xs) = length-keep p (take i xs) in
+        let t : length (take i xs) ≡ i = length-take-le i xs h in
+        let e = k .counts in
+        omega arith
+
+    -- the array is as long as it was
+    pub keeping-length : i ≤ length xs → length list ≡ length xs
+    keeping-length h = rw (k .holds) (length-kept i h)
+
+    module _ (d : A) (h : i < length xs) where
+      next-is : getD list i d ≡ getD xs i d
+      next-is = rw (k .holds) (kept-read z p xs i d h)
+
+      -- a turn that gives the record up
+      pub keeping-no : p (getD list i d) ≡ false → Keeping z p xs (i + 1) (set list i z) count
+      keeping-no e =
+          let f : p (getD xs i d) ≡ false = rw (← next-is) e in
+          let same : keep p (take (i + 1) xs) ≡ keep p (take i xs) = keep-more p xs i d h ∙ rw f (append-nil _) in
+          record {
+            holds = rw (k .holds) (kept-no z p xs i d h f);
+            counts = k .counts ∙ sym (ap length same);
+          }
+
+      -- a turn that keeps it
+      pub keeping-yes : p (getD list i d) ≡ true → Keeping z p xs (i + 1) (set (set list i z) count (getD list i d)) (count + 1)
+      keeping-yes e =
+          let f : p (getD xs i d) ≡ true = rw (← next-is) e in
+          let more : keep p (take (i + 1) xs) ≡ keep p (take i xs) ++ (getD xs i d ∷ []) = keep-more p xs i d h ∙ rw f in
+          record {
+            holds = rw (next-is, k .holds, k .counts) (kept-yes z p xs i d h f);
+            counts = rw (k .counts) (sym (ap length more ∙ length-append (keep p (take i xs)) (getD xs i d ∷ [])));
+          }
+
+module _ {A : Type 0} (xs : List A) (n limit : ℕ) (full : length xs ≡ limit) where
+  -- a count past the array's room counts the whole array
+  pub take-most : take (min n limit) xs ≡ take n xs
+  take-most =
+      elim (decLe n limit) [
+        | yes h ↦ rw (min-eq-left h)
+        | no h ↦
+            let k : limit ≤ n = omega arith in
+            let a : length xs ≤ min n limit = omega arith in
+            let b : length xs ≤ n = omega arith in
+            take-all (min n limit) xs a ∙ sym (take-all n xs b)
+      ]
+
+  pub length-take-most : length (take n xs) ≡ min n limit
+  length-take-most = rw (length-take, full)
+
+  pub kept-most : (z : A) (p : A → Bool) → kept z p xs (min n limit) ≡ stored z xs (length (take n xs)) (keep p (take n xs))
+  unfolding kept
+  kept-most z p = rw (take-most, length-take-most)

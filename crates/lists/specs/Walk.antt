@@ -1,7 +1,7 @@
 -- What a walk over a list computes, and the two laws by which a loop from front to back follows it.
 -- Assumes nothing.
 use mathlib.Core.Path.{_≡_, refl, sym, ap, _∙_}
-use Prim.Native.Nat.{ℕ, zero, suc, _+_, _≤_, _<_}
+use Prim.Native.Nat.{ℕ, zero, suc, min, _+_, _≤_, _<_}
 use mathlib.Core.Bool.{Bool, true, false, not, cond, _&&_, _||_}
 use mathlib.Core.List.{List, [], _∷_, _++_}
 use lib.ListN.{length, take, drop, getD, drop-of-length-le, length-take}
@@ -57,5 +57,11 @@ module _ {A : Type 0} where
 
   pub rest-past : (xs : List A) (n i : ℕ) → length xs ≤ i → rest xs n i ≡ []
   rest-past xs n i h =
+      let m : length (take n xs) ≤ i = rw length-take (omega arith) in
+      drop-of-length-le (take n xs) m
+
+  -- nothing is left at the end of what counts
+  pub rest-most : (xs : List A) (n limit i : ℕ) → length xs ≡ limit → i ≡ min n limit → rest xs n i ≡ []
+  rest-most xs n limit i full e =
       let m : length (take n xs) ≤ i = rw length-take (omega arith) in
       drop-of-length-le (take n xs) m

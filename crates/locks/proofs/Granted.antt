@@ -1,0 +1,128 @@
+-- The locks of a request, range by range, against the list and the request's own earlier locks.
+-- Assumes nothing.
+use mathlib.Core.Path.{_≡_, refl, sym, ap, _∙_}
+use Prim.Native.Nat.{ℕ, _+_, _-_, _≤_}
+use mathlib.Core.Bool.{Bool, false}
+use mathlib.Core.List.{List, [], _∷_, _++_, map, append-assoc, append-nil}
+use lib.ListN.{length, length-map}
+use native.Mathlib.Omega.{arith}
+use Rattle.lists.specs.Walk.{found, foundFrom}
+use Rattle.lists.specs.FoundLaws.{firstOf, shifted, found-append, foundFrom-no}
+use Rattle.lists.specs.declared.Found.{Found}
+use Rattle.lists.specs.declared.Found.the-variants.{At, Nothing}
+use Rattle.records.specs.declared.Lock.{Lock}
+use Rattle.locks.specs.Range.{passesEnd}
+use Rattle.locks.specs.Answer.{answers}
+use Rattle.locks.specs.Wire.{rangeAt, rangesAt, length-ranges, ranges-more}
+use Rattle.locks.specs.Request.{rangePasses, askOf, lockOf, Grants, granted, blocked, afterWalk, grantAll}
+use Rattle.locks.specs.Blocked.{blockedAt, conflictOf}
+use Rattle.locks.specs.declared.types.LockRange.{LockRange}
+use Rattle.locks.specs.declared.types.Purpose.the-variants.{Grant}
+
+-- a range passes 2^64 where its numbers say so
+pub range-passes : {r w : LockRange} {t u : Bool} → r ≡ w → t ≡ passesEnd (r .offset) (r .length) → t ≡ u → rangePasses w ≡ u
+unfolding rangePasses
+range-passes e f g = rw (← e, ← f) g
+
+-- a place in the way says which
+pub blocked-at : (g : Grants) (k : ℕ) → At k ≡ blockedAt g → g ≡ blocked k
+unfolding blockedAt
+blocked-at (granted l) k e = let no : _≡_ {A = ℕ} 0 1 = cc in absurd (omega arith)
+blocked-at (blocked j) k e = cc
+
+-- a walk that finds nothing leaves it to the other ranges
+after-granted : (f : Found) (g : Grants) (l : List Lock) → (Nothing ≡ blockedAt g → g ≡ granted l) → Nothing ≡ blockedAt (afterWalk f g)
+    → afterWalk f g ≡ granted l
+unfolding blockedAt afterWalk
+after-granted (At k) g l h e = let no : _≡_ {A = ℕ} 0 1 = cc in absurd (omega arith)
+after-granted Nothing g l h e = h e
+
+-- the lock of one range more
+pub map-snoc : (f : LockRange → Lock) (rs : List LockRange) (r : LockRange) → map f (rs ++ (r ∷ [])) ≡ map f rs ++ (f r ∷ [])
+map-snoc f [] r = refl
+map-snoc f (x ∷ rs) r = ap (λ (l : List Lock). f x ∷ l) (map-snoc f rs r)
+
+-- a walk that starts at a place counts from 0 there
+pub found-whole : (p : Lock → Bool) (from : ℕ) (l : List Lock) → found p l ≡ foundFrom (from - from) p l
+unfolding found
+found-whole p from l = let e : from - from ≡ 0 = omega arith in rw e
+
+-- a lock that does not answer is passed over
+pub found-next : (p : Lock → Bool) (from k : ℕ) (x : Lock) (l : List Lock) → from ≤ k → p x ≡ false
+    → foundFrom (k - from) p (x ∷ l) ≡ foundFrom (k + 1 - from) p l
+found-next p from k x l h e = let next : k - from + 1 ≡ k + 1 - from = omega arith in rw (← next) (foundFrom-no p x l (k - from) e)
+
+module _ (fid : ℕ) (shared large : Bool) (s : List ℕ) (from : ℕ) where
+  -- the request's own locks, those of its ranges from..k
+  abbrev pub own : ℕ → List Lock
+  own k = map (lockOf fid shared) (rangesAt large s from (k - from))
+
+  -- as many as there are ranges
+  pub length-own : (k : ℕ) → length (own k) ≡ k - from
+  length-own k = rw (length-map, length-ranges)
+
+  module _ (list : List Lock) where
+    -- the list with them behind it
+    abbrev pub along : ℕ → List Lock
+    along k = list ++ own k
+
+    -- at first there are none of them
+    pub along-start : along from ≡ list
+    unfolding rangesAt
+    along-start = let e : from - from ≡ 0 = omega arith in rw e (append-nil list)
+
+    -- one lock more
+    pub along-more : (k : ℕ) → from ≤ k → along (k + 1) ≡ along k ++ (lockOf fid shared (rangeAt large s k) ∷ [])
+    along-more k h = rw (ranges-more large s from k h, map-snoc) (sym (append-assoc list (own k) (lockOf fid shared (rangeAt large s k) ∷ [])))
+
+module _ (file : ℕ → ℕ) (fid : ℕ) (shared : Bool) where
+  -- where nothing stands in the way all locks are granted, in order
+  pub granted-all : (rs : List LockRange) (list : List Lock) → Nothing ≡ blockedAt (grantAll file fid shared rs list)
+      → grantAll file fid shared rs list ≡ granted (list ++ map (lockOf fid shared) rs)
+  unfolding grantAll
+  granted-all [] list e = ap granted (sym (append-nil list))
+  granted-all (r ∷ rs) list e =
+      after-granted (found (answers file (askOf fid (Grant shared) r)) list) (grantAll file fid shared rs (list ++ (lockOf fid shared r ∷ [])))
+      (list ++ (lockOf fid shared r ∷ map (lockOf fid shared) rs))
+      (λ h. granted-all rs (list ++ (lockOf fid shared r ∷ [])) h ∙ ap granted (append-assoc list (lockOf fid shared r ∷ []) (map (lockOf fid shared) rs)))
+      e
+
+  module _ (large : Bool) (s : List ℕ) (from : ℕ) (list : List Lock) where
+    -- at first all ranges stand against the list alone
+    pub grant-start : (rs : List LockRange) → grantAll file fid shared rs list ≡ grantAll file fid shared rs (along fid shared large s from list from)
+    grant-start rs = ap (grantAll file fid shared rs) (sym (along-start fid shared large s from list))
+
+    module _ (k : ℕ) where
+      -- a lock in the way of range k blocks the request
+      pub grant-stop : (rs : List LockRange) (place : ℕ) → At place ≡ conflictOf file fid shared large s from k list
+          → grantAll file fid shared (rangeAt large s k ∷ rs) (along fid shared large s from list k) ≡ blocked place
+      unfolding grantAll afterWalk conflictOf
+      grant-stop rs place e = rw (← e)
+
+      -- with none in its way it is granted
+      pub grant-more : (rs : List LockRange) → from ≤ k → Nothing ≡ conflictOf file fid shared large s from k list
+          → grantAll file fid shared (rangeAt large s k ∷ rs) (along fid shared large s from list k)
+          ≡ grantAll file fid shared rs (along fid shared large s from list (k + 1))
+      unfolding grantAll afterWalk conflictOf
+      grant-more rs h e = rw (← e, along-more fid shared large s from list k h)
+
+      -- whether a lock is in the way of range k
+      abbrev asked : Lock → Bool
+      asked = answers file (askOf fid (Grant shared) (rangeAt large s k))
+
+      -- a listed lock is in the way of range k
+      pub conflict-listed : (place : ℕ) → At place ≡ found asked list → At place ≡ conflictOf file fid shared large s from k list
+      unfolding conflictOf firstOf
+      conflict-listed place e = rw (found-append, ← e)
+
+      -- none is, and none of the request's own
+      pub conflict-none : Nothing ≡ found asked list → Nothing ≡ found asked (own fid shared large s from k)
+          → Nothing ≡ conflictOf file fid shared large s from k list
+      unfolding conflictOf firstOf shifted
+      conflict-none e g = rw (found-append, ← e, ← g)
+
+      -- none is, but one of the request's own
+      pub conflict-own : (place n : ℕ) → length list ≡ n → Nothing ≡ found asked list → At place ≡ found asked (own fid shared large s from k)
+          → At (n + place) ≡ conflictOf file fid shared large s from k list
+      unfolding conflictOf firstOf shifted
+      conflict-own place n l e g = rw (found-append, ← e, ← g, l)

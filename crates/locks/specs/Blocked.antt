@@ -1,0 +1,24 @@
+-- The conflict of one range of a request, and the first of all of them, by place.
+-- Assumes nothing.
+use Prim.Native.Nat.{ℕ, _-_}
+use mathlib.Core.Bool.{Bool}
+use mathlib.Core.List.{List, _++_, map}
+use Rattle.lists.specs.Walk.{found}
+use Rattle.lists.specs.declared.Found.{Found}
+use Rattle.lists.specs.declared.Found.the-variants.{At, Nothing}
+use Rattle.locks.specs.Wire.{rangeAt, rangesAt}
+use Rattle.locks.specs.Answer.{answers}
+use Rattle.locks.specs.Request.{lockOf, askOf, Grants, granted, blocked}
+use Rattle.records.specs.declared.Lock.{Lock}
+use Rattle.locks.specs.declared.types.Purpose.the-variants.{Grant}
+
+-- range k against the list and, behind it, the request's own locks from..k
+unfoldable pub conflictOf : (ℕ → ℕ) → ℕ → Bool → Bool → List ℕ → ℕ → ℕ → List Lock → Found
+conflictOf file fid shared large area from k list =
+    found (answers file (askOf fid (Grant shared) (rangeAt large area k)))
+    (list ++ map (lockOf fid shared) (rangesAt large area from (k - from)))
+
+-- the place of the lock in the way, if there is one
+unfoldable pub blockedAt : Grants → Found
+blockedAt (blocked k) = At k
+blockedAt (granted list) = Nothing

@@ -1,0 +1,6 @@
+pub mod Range
+pub mod Wire
+pub mod Answer
+pub mod Request
+pub mod Released
+pub mod Blocked

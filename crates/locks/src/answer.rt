@@ -1,0 +1,117 @@
+// One listed lock against what is asked, and the walk from the front of the list to the first lock
+// that answers. Locks, reads, writes and unlocks all go by this one walk.
+
+use crate::range::overlap;
+use crate::types::Ask;
+use crate::types::Purpose;
+use lists::Found;
+use records::Lock;
+ghost use mathlib.Core.Path.{_≡_};
+ghost use lib.ListN.{take};
+ghost use Rattle.lists.specs.Walk.{found};
+ghost use Rattle.locks.specs.Answer.{fileIn, owns, bars, inWay, named, answers};
+
+// The file of a FID, 255 where the table has none.
+pub fn file_in(files: &[u8; 65], fid: u16) -> u8
+    ensures { λ r. ⌜ r ≡ fileIn (now (files .entry)) fid ⌝ }
+{
+    let table: &[u8] = files;
+    let at = fid as usize;
+    if at < table.len() { table[at] } else { 255 }
+}
+
+// Whether the lock is the asker's: "An owner is a FID with a process."
+fn owned(q: Ask, l: Lock) -> bool
+    ensures { λ r. ⌜ r ≡ owns q l ⌝ }
+{
+    if l.fid != q.fid {
+        return false;
+    }
+    l.process == q.process
+}
+
+// Whether an overlapping lock of the same file stands in the way of what is asked.
+fn barring(q: Ask, l: Lock) -> bool
+    ensures { λ r. ⌜ r ≡ bars (q .purpose) q l ⌝ }
+{
+    let purpose = q.purpose;
+    match purpose {
+        Purpose::Grant(shared) => {
+            if l.shared {
+                return !shared;
+            }
+            true
+        }
+        Purpose::Read => {
+            if l.shared {
+                return false;
+            }
+            !owned(q, l)
+        }
+        Purpose::Write => {
+            if l.shared {
+                return true;
+            }
+            !owned(q, l)
+        }
+        Purpose::Release => false,
+    }
+}
+
+// Whether the lock stands in the way of what is asked; the overlap is tested first, since most locks
+// lie elsewhere.
+fn in_way(files: &[u8; 65], q: Ask, l: Lock) -> bool
+    ensures { λ r. ⌜ r ≡ inWay (fileIn (now (files .entry))) q l ⌝ }
+{
+    if !overlap(l.offset, l.length, q.offset, q.length) {
+        return false;
+    }
+    if !barring(q, l) {
+        return false;
+    }
+    file_in(files, l.fid) == file_in(files, q.fid)
+}
+
+// Whether the lock is the one that an unlock names.
+fn is_named(q: Ask, l: Lock) -> bool
+    ensures { λ r. ⌜ r ≡ named q l ⌝ }
+{
+    if l.offset != q.offset {
+        return false;
+    }
+    if l.length != q.length {
+        return false;
+    }
+    owned(q, l)
+}
+
+// Whether the lock answers what is asked.
+pub fn answering(files: &[u8; 65], q: Ask, l: Lock) -> bool
+    ensures { λ r. ⌜ r ≡ answers (fileIn (now (files .entry))) q l ⌝ }
+{
+    let purpose = q.purpose;
+    match purpose {
+        Purpose::Grant(_) => in_way(files, q, l),
+        Purpose::Read => in_way(files, q, l),
+        Purpose::Write => in_way(files, q, l),
+        Purpose::Release => is_named(q, l),
+    }
+}
+
+// The place of the first listed lock that answers what is asked.
+pub fn first_answer(files: &[u8; 65], locks: [Lock; 128], count: usize, q: Ask) -> Found
+    ensures { λ r. ⌜ r ≡ found (answers (fileIn (now (files .entry))) q) (take count locks) ⌝ }
+{
+    let mut i: usize = 0;
+    while i < 128 {
+        if count <= i {
+            return Found::Nothing;
+        }
+        let l = locks[i];
+        if answering(files, q, l) {
+            return Found::At(i);
+        }
+        i += 1;
+    }
+    Found::Nothing
+}

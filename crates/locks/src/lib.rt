@@ -1,0 +1,11 @@
+// Ranges and byte-range locks (document 01, "Locks, reads and writes"). A lock list is an array of
+// 128 records in order of grant with a count; each FID's file is read off a table of 65 entries,
+// made from the opens, so that a walk over the locks looks at no open.
+
+pub mod answer;
+pub mod grant;
+pub mod range;
+pub mod release;
+pub mod request;
+pub mod types;
+pub mod wire_form;
