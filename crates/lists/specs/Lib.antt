@@ -1,3 +1,4 @@
+pub mod Both
 pub mod Walk
 pub mod WalkLaws
 pub mod FoundLaws

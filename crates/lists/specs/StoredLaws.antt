@@ -1,9 +1,9 @@
 -- Laws of an array that holds a list: stored twice, made longer by one, made shorter by one.
 -- Assumes nothing.
-use mathlib.Core.Path.{_≡_, refl, sym, ap, _∙_}
+use mathlib.Core.Path.{_≡_, sym, ap, _∙_}
 use Prim.Native.Nat.{ℕ, zero, suc, _+_, _-_, _≤_, _<_}
-use mathlib.Core.List.{List, [], _∷_, _++_, append-assoc, append-nil}
-use lib.ListN.{length, take, drop, getD, set, replicate, length-append, length-take, length-drop, replicate-append-replicate, take-append-drop}
+use mathlib.Core.List.{List, [], _∷_, _++_, append-assoc}
+use lib.ListN.{length, take, drop, getD, set, replicate, length-append, replicate-append-replicate, take-append-drop}
 use lib.Seq.{drop-cons, set-at, drop-drop, drop-append-add, take-append-seam, length-take-le}
 use native.Mathlib.Numerals.{add-one}
 use native.Mathlib.Omega.{arith}

@@ -8,6 +8,7 @@ use mathlib.Core.Logic.{_↔_}
 use lib.Dec.{ltb}
 use borrow.Author.Tests.{ltb-true, lt-ltb}
 use native.Mathlib.Omega.{arith}
+use Rattle.lists.specs.Both.{both-hold}
 
 -- byte k is in the range
 unfoldable pub InRange : ℕ → ℕ → ℕ → Type 0
@@ -25,12 +26,6 @@ overlaps a n b m = ltb 0 n && (ltb 0 m && (ltb a (b + m) && ltb b (a + n)))
 -- the range passes 2^64: its end lies beyond
 unfoldable pub passesEnd : ℕ → ℕ → Bool
 passesEnd offset length = ltb (2 ^ 64) (offset + length)
-
--- both halves of a test that holds hold
-both-hold : (t u : Bool) → (t && u) ≡ true → (t ≡ true) × (u ≡ true)
-both-hold true u e = (refl, e)
-both-hold false true e = (e, refl)
-both-hold false false e = (e, e)
 
 -- two tests that hold together are the same
 same-tests : (t u : Bool) → (t ≡ true → u ≡ true) → (u ≡ true → t ≡ true) → t ≡ u

@@ -1,8 +1,8 @@
 -- What a LOCKING request does to the list of locks (document 01, "Locks, reads and writes" and "Refusals on the wire").
 -- The list is kept in order of grant. Assumes nothing.
-use Prim.Native.Nat.{ℕ, zero, suc, _+_, _*_}
-use mathlib.Core.Bool.{Bool, true, false, cond, not}
-use mathlib.Core.List.{List, [], _∷_, _++_, map}
+use Prim.Native.Nat.{ℕ, suc, _+_, _*_}
+use mathlib.Core.Bool.{Bool, cond, not}
+use mathlib.Core.List.{List, [], _∷_, _++_}
 use mathlib.Core.Option.{Option, none, some}
 use lib.ListN.{length, take, drop}
 use lib.Dec.{leb, eqb}
@@ -18,7 +18,7 @@ use Rattle.records.specs.declared.Lock.{Lock}
 use Rattle.locks.specs.declared.types.LockRange.{LockRange}
 use Rattle.locks.specs.declared.types.Ask.{Ask}
 use Rattle.locks.specs.declared.types.Purpose.{Purpose}
-use Rattle.locks.specs.declared.types.Purpose.the-variants.{Grant, Read, Write, Release}
+use Rattle.locks.specs.declared.types.Purpose.the-variants.{Grant, Release}
 use Rattle.locks.specs.declared.types.Request.{Request}
 use Rattle.locks.specs.declared.types.Outcome.{Outcome}
 use Rattle.locks.specs.declared.types.Outcome.the-variants.{Done, Malformed, NoSuchLock, PassesEnd, Conflict, NoRecord}

@@ -1,7 +1,6 @@
 -- The records that the tables hold, as lists, and the tables with another list in place of one of them: records given up
 -- become empty, records behind the counts stay as they were (`stored`), and so does every other table.
 -- Assumes nothing.
-use Prim.Native.Nat.{ℕ}
 use mathlib.Core.List.{List}
 use lib.ListN.{length, take}
 use Rattle.lists.specs.Stored.{stored}

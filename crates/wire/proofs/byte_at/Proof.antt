@@ -1,20 +1,17 @@
+-- `wire::byte_at` meets its contract: past the end the list reads as 0.
+-- Assumes nothing.
 use mathlib.Core.Path.{sym}
 use lib.ListN.{List·getD-eq-default}
 use borrow.Author.Needs.{needs}
 use Rattle.wire.proofs.byte_at.Statement.{statement}
 use Rattle.wire.proofs.byte_at.Tie as tie
-use Rattle.wire.proofs.byte_at.Reads as reads
-use Rattle.wire.proofs.byte_at.Lts as lts
 
--- src/lib.rt:11:23
 shared-slice-read-result : tie.Need-shared-slice-read-result
 shared-slice-read-result c = search needs
 
--- src/lib.rt:8:1
 returns : tie.Need-returns
 returns c = search needs
 
--- src/lib.rt:8:1
 returns-2 : tie.Need-returns-2
 returns-2 c = sym (List·getD-eq-default (c .before .args .s .now) 0 (c .if1 .left))
 

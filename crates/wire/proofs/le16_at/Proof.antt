@@ -1,47 +1,36 @@
+-- `wire::le16_at` meets its contract: the two bytes are those of the definition, and past the end both are 0.
+-- Assumes nothing.
 use mathlib.Core.Path.{sym}
 use Rattle.wire.specs.LittleEndian.{le16At, le16-past}
 use borrow.Author.Needs.{needs}
 use Rattle.wire.proofs.le16_at.Statement.{statement}
 use Rattle.wire.proofs.le16_at.Tie as tie
-use Rattle.wire.proofs.le16_at.Reads as reads
-use Rattle.wire.proofs.le16_at.Lts as lts
-use Rattle.wire.proofs.byte_at.Reads as byte-at-reads
-use Rattle.wire.proofs.wide16.Reads as wide16-reads
 
--- src/lib.rt:31:16
 byte-at-requires : tie.Need-byte-at-requires
 byte-at-requires c κs = search needs
 
--- src/lib.rt:31:9
 wide16-requires : tie.Need-wide16-requires
 wide16-requires c κs = search needs
 
--- src/lib.rt:31:58
 add-byte-at : tie.Need-add-byte-at
 add-byte-at c = search needs
 
--- src/lib.rt:31:47
 byte-at-requires-2 : tie.Need-byte-at-requires-2
 byte-at-requires-2 c κs = search needs
 
--- src/lib.rt:31:40
 wide16-requires-2 : tie.Need-wide16-requires-2
 wide16-requires-2 c κs = search needs
 
--- src/lib.rt:31:34
 mul-result : tie.Need-mul-result
 mul-result c = search needs
 
--- src/lib.rt:31:9
 add-result : tie.Need-add-result
 add-result c = search needs
 
--- src/lib.rt:27:1
 returns : tie.Need-returns
 unfolding le16At
 returns c = cc
 
--- src/lib.rt:27:1
 returns-2 : tie.Need-returns-2
 returns-2 c = sym (le16-past (c .before .before .args .s .now) (c .before .before .args .at) (c .if1 .left))
 
