@@ -1,0 +1,67 @@
+-- `soundness::tree::some_tree_is` meets its contract: what the walk has left says the same as the whole.
+-- Assumes nothing.
+use mathlib.Core.Path.{_≡_, sym, _∙_}
+use Prim.Native.Nat.{_≤_, _-_}
+use lib.ListN.{length, take}
+use Rattle.lists.specs.Walk.{any, rest}
+use Rattle.lists.specs.WalkLaws.{any-end, any-yes, any-no}
+use Rattle.lists.specs.Stored.{take-most}
+use Rattle.records.specs.Empty.{noTree}
+use Rattle.soundness.specs.Lookup.{isTree}
+use Rattle.soundness.proofs.tree.some_tree_is.Statement.{statement}
+use Rattle.soundness.proofs.tree.some_tree_is.Tie as tie
+use borrow.Author.Needs.{needs}
+use native.Mathlib.Omega.{arith}
+
+abbrev Inv-loop : tie.InvT-loop
+Inv-loop count tid uid trees n i₀ i = (i ≤ n) × (any (isTree tid uid) (take count trees) ≡ any (isTree tid uid) (rest trees n i))
+
+abbrev μ-loop : tie.MeasureT-loop
+μ-loop count tid uid trees n i₀ i = n - i
+
+at-most-requires : tie.Need-at-most-requires Inv-loop μ-loop
+at-most-requires c κs = search needs
+
+loop-holds : tie.Need-loop-holds Inv-loop μ-loop
+loop-holds c = (omega arith, rw (c .at-most .ensures, take-most (c .before .args .t1) (c .before .args .count) 32 (search needs)))
+
+mul-t : tie.Need-mul-t Inv-loop μ-loop
+mul-t c = let few : (c .before .before .at-most .result) ≤ 32 = omega arith in omega arith
+
+array-copy-out-t : tie.Need-array-copy-out-t Inv-loop μ-loop
+array-copy-out-t c = let few : (c .before .before .at-most .result) ≤ 32 = omega arith in omega arith
+
+tree-is-requires : tie.Need-tree-is-requires Inv-loop μ-loop
+tree-is-requires c κs = search needs
+
+returns : tie.Need-returns Inv-loop μ-loop
+returns c = let long : length (c .before .before .before .before .before .before .args .t1) ≡ 32 = search needs in let few : (c .before .before .before .before .before .at-most .result) ≤ 32 = omega arith in sym (c .before .before .before .before .loop .inv .1 ∙ any-yes (c .before .before .before .before .before .before .args .t1) (c .before .before .before .before .before .at-most .result) (c .before .before .before .before .loop .i) noTree (c .before .before .before .loop-test .taken) (omega arith) (isTree (c .before .before .before .before .before .before .args .tid) (c .before .before .before .before .before .before .args .uid)) (sym (c .before .tree-is .ensures) ∙ c .if1 .taken))
+
+add-i : tie.Need-add-i Inv-loop μ-loop
+add-i c = let few : (c .before .before .before .before .before .at-most .result) ≤ 32 = omega arith in omega arith
+
+loop-less : tie.Need-loop-less Inv-loop μ-loop
+loop-less c = omega arith
+
+loop-again : tie.Need-loop-again Inv-loop μ-loop
+loop-again c = let long : length (c .before .before .before .before .before .before .args .t1) ≡ 32 = search needs in let few : (c .before .before .before .before .before .at-most .result) ≤ 32 = omega arith in (omega arith, c .before .before .before .before .loop .inv .1 ∙ any-no (c .before .before .before .before .before .before .args .t1) (c .before .before .before .before .before .at-most .result) (c .before .before .before .before .loop .i) noTree (c .before .before .before .loop-test .taken) (omega arith) (isTree (c .before .before .before .before .before .before .args .tid) (c .before .before .before .before .before .before .args .uid)) (sym (c .before .tree-is .ensures) ∙ c .if1 .left))
+
+returns-2 : tie.Need-returns-2 Inv-loop μ-loop
+returns-2 c = sym (c .before .loop .inv .1 ∙ any-end (c .before .before .before .args .t1) (c .before .before .at-most .result) (isTree (c .before .before .before .args .tid) (c .before .before .before .args .uid)) (c .before .loop .i) (c .loop-test .left))
+
+pub some-tree-is-spec : {M : Type 1} → statement M
+some-tree-is-spec =
+    tie.close
+    (tie.spec
+    Inv-loop
+    μ-loop
+    at-most-requires
+    loop-holds
+    mul-t
+    array-copy-out-t
+    tree-is-requires
+    returns
+    add-i
+    loop-less
+    loop-again
+    returns-2)

@@ -1,0 +1,5 @@
+pub mod File
+pub mod Lookup
+pub mod Sound
+pub mod LockFits
+pub mod SoundLaws
