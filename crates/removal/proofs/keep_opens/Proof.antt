@@ -1,0 +1,87 @@
+-- `removal::keep_opens` meets its contract: each turn keeps the next record or empties it.
+-- Assumes nothing.
+use Prim.Native.Nat.{_≤_, _<_, _-_}
+use lib.ListN.{length}
+use Rattle.lists.specs.Stored.{Keeping, keeping-none, keeping-most, keeping-no, keeping-yes}
+use mathlib.Core.Path.{_≡_, sym, _∙_}
+use mathlib.Core.Logic.{⊎-elim}
+use Rattle.removal.specs.Removal.{openStays}
+use Rattle.records.specs.Empty.{noOpen}
+use Rattle.removal.proofs.keep_opens.Statement.{statement}
+use Rattle.removal.proofs.keep_opens.Tie as tie
+use borrow.Author.Needs.{needs}
+use native.Mathlib.Omega.{arith}
+
+abbrev Inv-loop : tie.InvT-loop
+Inv-loop n gone tids none list₀ count₀ i₀ list count i = (i ≤ n) × Keeping noOpen (openStays gone tids) list₀ i list count
+
+abbrev μ-loop : tie.MeasureT-loop
+μ-loop n gone tids none list₀ count₀ i₀ list count i = n - i
+
+loop-holds : tie.Need-loop-holds Inv-loop μ-loop
+loop-holds c = (omega arith, keeping-none noOpen (openStays (c .before .args .gone) (c .before .args .tids .now)) (c .before .args .opens))
+
+mul-o : tie.Need-mul-o Inv-loop μ-loop
+mul-o c = omega arith
+
+array-copy-out-o : tie.Need-array-copy-out-o Inv-loop μ-loop
+array-copy-out-o c = omega arith
+
+mul-list : tie.Need-mul-list Inv-loop μ-loop
+mul-list c = omega arith
+
+array-set-from-list : tie.Need-array-set-from-list Inv-loop μ-loop
+array-set-from-list c = omega arith
+
+open-stays-requires : tie.Need-open-stays-requires Inv-loop μ-loop
+open-stays-requires c κs = search needs
+
+mul-list-2 : tie.Need-mul-list-2 Inv-loop μ-loop
+mul-list-2 c = let long : length (c .before .before .before .before .before .before .args .opens) ≡ 64 = search needs in let most = keeping-most noOpen (openStays (c .before .before .before .before .before .before .args .gone) (c .before .before .before .before .before .before .args .tids .now)) (c .before .before .before .before .before .before .args .opens) (c .before .before .before .before .loop .i) (c .before .before .before .before .loop .list) (c .before .before .before .before .loop .count) (c .before .before .before .before .loop .inv .1) (omega arith) in omega arith
+
+array-set-from-list-2 : tie.Need-array-set-from-list-2 Inv-loop μ-loop
+array-set-from-list-2 c = let long : length (c .before .before .before .before .before .before .args .opens) ≡ 64 = search needs in let most = keeping-most noOpen (openStays (c .before .before .before .before .before .before .args .gone) (c .before .before .before .before .before .before .args .tids .now)) (c .before .before .before .before .before .before .args .opens) (c .before .before .before .before .loop .i) (c .before .before .before .before .loop .list) (c .before .before .before .before .loop .count) (c .before .before .before .before .loop .inv .1) (omega arith) in omega arith
+
+add-count : tie.Need-add-count Inv-loop μ-loop
+add-count c = let long : length (c .before .before .before .before .before .before .args .opens) ≡ 64 = search needs in let most = keeping-most noOpen (openStays (c .before .before .before .before .before .before .args .gone) (c .before .before .before .before .before .before .args .tids .now)) (c .before .before .before .before .before .before .args .opens) (c .before .before .before .before .loop .i) (c .before .before .before .before .loop .list) (c .before .before .before .before .loop .count) (c .before .before .before .before .loop .inv .1) (omega arith) in omega arith
+
+add-i : tie.Need-add-i Inv-loop μ-loop
+add-i c = omega arith
+
+loop-less : tie.Need-loop-less Inv-loop μ-loop
+loop-less c = omega arith
+
+loop-again : tie.Need-loop-again Inv-loop μ-loop
+loop-again c =
+    let long : length (c .before .before .before .before .before .before .args .opens) ≡ 64 = search needs in
+    let below : (c .before .before .before .before .loop .i) < length (c .before .before .before .before .before .before .args .opens) = omega arith in (
+      omega arith,
+      ⊎-elim (λ w. rw (w .1, w .2) (keeping-yes noOpen (openStays (c .before .before .before .before .before .before .args .gone) (c .before .before .before .before .before .before .args .tids .now)) (c .before .before .before .before .before .before .args .opens) (c .before .before .before .before .loop .i) (c .before .before .before .before .loop .list) (c .before .before .before .before .loop .count) (c .before .before .before .before .loop .inv .1) noOpen below (sym (c .before .open-stays .ensures) ∙ w .0 .taken)))
+          (λ w. rw (w .1, w .2) (keeping-no noOpen (openStays (c .before .before .before .before .before .before .args .gone) (c .before .before .before .before .before .before .args .tids .now)) (c .before .before .before .before .before .before .args .opens) (c .before .before .before .before .loop .i) (c .before .before .before .before .loop .list) (c .before .before .before .before .loop .count) (c .before .before .before .before .loop .inv .1) noOpen below (sym (c .before .open-stays .ensures) ∙ w .0 .left)))
+          (c .if1 .came),
+    )
+
+returns : tie.Need-returns Inv-loop μ-loop
+returns c =
+    let end : (c .before .loop .i) ≡ c .before .before .before .args .n = omega arith in
+    (rw (← end) ((c .before .loop .inv .1) .holds), rw (← end) ((c .before .loop .inv .1) .counts))
+
+pub keep-opens-spec : {M : Type 1} → statement M
+keep-opens-spec =
+    tie.close
+    (tie.spec
+    Inv-loop
+    μ-loop
+    loop-holds
+    mul-o
+    array-copy-out-o
+    mul-list
+    array-set-from-list
+    open-stays-requires
+    mul-list-2
+    array-set-from-list-2
+    add-count
+    add-i
+    loop-less
+    loop-again
+    returns)
