@@ -1,0 +1,104 @@
+-- The host calls (document 01, "What a call returns"): adding a session, a tree or an open, loading a file, dropping a
+-- connection. Each refusal is tested in document 01's order 2, 4, 7, 6, 8, 9, 5; a refusal changes nothing, and the number
+-- beside it is 0. Assumes nothing.
+use Prim.Native.Nat.{ℕ, _-_, _*_}
+use mathlib.Core.Bool.{Bool, cond, not, _||_}
+use mathlib.Core.List.{List, [], _∷_, _++_, map}
+use lib.ListN.{length, replicate, set}
+use lib.Dec.{leb, ltb, eqb}
+use Rattle.lists.specs.Walk.{any}
+use Rattle.lists.specs.Put.{put}
+use Rattle.records.specs.declared.Session.{Session}
+use Rattle.records.specs.declared.Tree.{Tree}
+use Rattle.records.specs.declared.Open.{Open}
+use Rattle.records.specs.declared.Tables.{Tables}
+use Rattle.records.specs.Held.{sessionsOf, treesOf, opensOf, withSessions, withTrees, withOpens, withFiles}
+use Rattle.numbers.specs.Number.{contains, smallestFree}
+use Rattle.numbers.specs.Column.{uidOf, tidOf, fidOf}
+use Rattle.soundness.specs.Lookup.{isTree}
+use Rattle.soundness.specs.Sound.{sound, holdsOpen}
+use Rattle.removal.specs.Removal.{remove}
+use Rattle.host.specs.declared.answer.Answer.{Answer}
+use Rattle.removal.specs.declared.Gone.the-variants.{Connection}
+
+-- refused with that number: the tables stay
+unfoldable pub refused : ℕ → Tables → Answer
+refused number t = record { number = number; id = 0; tables = t }
+
+-- done, with the new number where one was given out
+unfoldable pub done : ℕ → Tables → Answer
+done id t = record { number = 0; id = id; tables = t }
+
+-- ---- adding a session
+
+unfoldable pub newSession : Tables → ℕ → Session
+newSession t connection = record { uid = smallestFree (map uidOf (sessionsOf t)); connection = connection }
+
+unfoldable pub addSession : Tables → ℕ → Answer
+addSession t connection =
+    cond (not (sound t)) (refused 4 t)
+    (cond (leb 16 (t .nsessions)) (refused 5 t)
+    (done (newSession t connection .uid) (withSessions t (sessionsOf t ++ (newSession t connection ∷ [])))))
+
+-- ---- adding a tree
+
+unfoldable pub newTree : Tables → ℕ → ℕ → Tree
+newTree t uid right = record { tid = smallestFree (map tidOf (treesOf t)); uid = uid; right = right }
+
+unfoldable pub addTree : Tables → ℕ → ℕ → Answer
+addTree t uid right =
+    cond (not (sound t)) (refused 4 t)
+    (cond (ltb 1 right) (refused 7 t)
+    (cond (not (contains uid (map uidOf (sessionsOf t)))) (refused 6 t)
+    (cond (leb 32 (t .ntrees)) (refused 5 t)
+    (done (newTree t uid right .tid) (withTrees t (treesOf t ++ (newTree t uid right ∷ [])))))))
+
+-- ---- adding an open
+
+unfoldable pub newOpen : Tables → ℕ → ℕ → ℕ → ℕ → ℕ → Open
+newOpen t uid tid process file access =
+    record { fid = smallestFree (map fidOf (opensOf t)); uid = uid; tid = tid; process = process; file = file; access = access }
+
+unfoldable pub addOpen : Tables → ℕ → ℕ → ℕ → ℕ → ℕ → Answer
+addOpen t uid tid process file access =
+    cond (not (sound t)) (refused 4 t)
+    (cond (ltb 15 file || ltb 2 access) (refused 7 t)
+    (cond (not (any (isTree tid uid) (treesOf t))) (refused 6 t)
+    (cond (not (any (holdsOpen (newOpen t uid tid process file access)) (treesOf t))) (refused 8 t)
+    (cond (leb 64 (t .nopens)) (refused 5 t)
+    (done (newOpen t uid tid process file access .fid) (withOpens t (opensOf t ++ (newOpen t uid tid process file access ∷ []))))))))
+
+-- ---- loading a file
+
+-- the open is of that file
+unfoldable pub isOf : ℕ → Open → Bool
+isOf file o = eqb (o .file) file
+
+-- the refusal of a load, 0 where there is none
+unfoldable pub loadNumber : Tables → ℕ → ℕ → ℕ → ℕ
+loadNumber t file size memory =
+    cond (not (eqb memory 65536)) 2
+    (cond (not (sound t)) 4
+    (cond (ltb 15 file || ltb 4096 size) 7
+    (cond (any (isOf file) (opensOf t)) 9 0)))
+
+-- "A load sets the size"
+unfoldable pub loaded : Tables → ℕ → ℕ → Tables
+loaded t file size = withFiles t (set (t .files) file (record { size = size }))
+
+unfoldable pub loadFile : Tables → ℕ → List ℕ → List ℕ → Answer
+loadFile t file bytes memory =
+    cond (eqb (loadNumber t file (length bytes) (length memory)) 0) (done 0 (loaded t file (length bytes)))
+    (refused (loadNumber t file (length bytes) (length memory)) t)
+
+-- "and puts zeros after the loaded bytes, up to 4,096"
+unfoldable pub loadMemory : Tables → ℕ → List ℕ → List ℕ → List ℕ
+loadMemory t file bytes memory =
+    cond (eqb (loadNumber t file (length bytes) (length memory)) 0)
+    (put memory (file * 4096) (bytes ++ replicate (4096 - length bytes) 0))
+    memory
+
+-- ---- dropping a connection
+
+unfoldable pub dropConnection : Tables → ℕ → Answer
+dropConnection t connection = cond (not (sound t)) (refused 4 t) (done 0 (remove (Connection connection) t))

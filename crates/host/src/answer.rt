@@ -1,0 +1,51 @@
+// What a host call gives back (document 01, "What a call returns").
+
+use records::Tables;
+ghost use mathlib.Core.Path.{_≡_};
+ghost use Rattle.host.specs.HostCall.{refused, done};
+
+// The rows of the table, by number. Row 1 and the reply room of row 2 are a message's.
+pub const DONE: u8 = 0;
+
+pub const WRONG_ROOM: u8 = 2;
+
+pub const NOT_SOUND: u8 = 4;
+
+pub const FULL: u8 = 5;
+
+pub const NO_SUCH: u8 = 6;
+
+pub const OUT_OF_RANGE: u8 = 7;
+
+pub const EXCEEDS_RIGHT: u8 = 8;
+
+pub const FILE_OPEN: u8 = 9;
+
+// The row, the number given out (0 where none was), and the tables after the call.
+pub struct Answer {
+    pub number: u8,
+    pub id: u16,
+    pub tables: Tables,
+}
+
+// A refusal: the tables as they were.
+pub(crate) fn refuse(t: Tables, number: u8) -> Answer
+    ensures { λ r. ⌜ r ≡ refused number t ⌝ }
+{
+    Answer {
+        number,
+        id: 0,
+        tables: t,
+    }
+}
+
+// A call carried out, with the number it gave out.
+pub(crate) fn finish(t: Tables, id: u16) -> Answer
+    ensures { λ r. ⌜ r ≡ done id t ⌝ }
+{
+    Answer {
+        number: DONE,
+        id,
+        tables: t,
+    }
+}

@@ -1,0 +1,7 @@
+// The host calls (document 01, "What a call returns"): `add::add_session`, `add::add_tree`,
+// `add::add_open`, `load::load_file` and `drop::drop_connection`.
+
+pub mod add;
+pub mod answer;
+pub mod drop;
+pub mod load;
