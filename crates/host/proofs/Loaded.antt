@@ -10,6 +10,7 @@ use lib.Dec.{eqb, ltb}
 use borrow.Author.Tests.{eqb-true, ltb-false, not-false}
 use native.Mathlib.Omega.{arith}
 use Rattle.lists.specs.Put.{put}
+use Rattle.lists.specs.Truth.{neither-holds}
 use Rattle.records.specs.declared.Tables.{Tables}
 use Rattle.soundness.specs.Sound.{sound}
 use Rattle.host.specs.HostCall.{loadNumber}
@@ -42,10 +43,6 @@ cond-zero : (b : Bool) (k x : ℕ) → cond b (suc k) x ≡ 0 → (b ≡ false) 
 cond-zero true k x e = absurd (let z : ⊥ = omega arith in z)
 cond-zero false k x e = (refl, e)
 
-neither : (a b : Bool) → (a || b) ≡ false → (a ≡ false) × (b ≡ false)
-neither true b e = (e, absurd (let z : _≡_ {A = ℕ} 0 1 = cc in let y : ⊥ = omega arith in y))
-neither false b e = (refl, e)
-
 -- what is known of a load that is not refused
 pub record Loadable (file size memory : ℕ) : Type 0 where
   pub whole-memory : memory ≡ 65536
@@ -58,7 +55,7 @@ loadable t file size memory e =
     let a = cond-zero (not (eqb memory 65536)) 1 _ e in
     let b = cond-zero (not (sound t)) 3 _ (a .1) in
     let c = cond-zero (ltb 15 file || ltb 4096 size) 6 _ (b .1) in
-    let n = neither (ltb 15 file) (ltb 4096 size) (c .0) in
+    let n = neither-holds (ltb 15 file) (ltb 4096 size) (c .0) in
     record {
       whole-memory = eqb-true memory 65536 (not-false (eqb memory 65536) (a .0));
       known-file = ltb-false 15 file (n .0);

@@ -2,5 +2,6 @@ pub mod Range
 pub mod Wire
 pub mod Answer
 pub mod Request
+pub mod Status
 pub mod Released
 pub mod Blocked

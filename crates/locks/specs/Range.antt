@@ -1,14 +1,14 @@
 -- Ranges of bytes (document 01, "Locks, reads and writes"): "A range is the bytes from offset to offset + length, the end
 -- left out, in whole numbers. Length 0 covers no byte and overlaps nothing."
 -- Assumes nothing.
-use mathlib.Core.Path.{_≡_, refl, sym}
+use mathlib.Core.Path.{_≡_}
 use Prim.Native.Nat.{ℕ, _+_, _^_, _≤_, _<_, max}
-use mathlib.Core.Bool.{Bool, true, false, _&&_}
+use mathlib.Core.Bool.{Bool, true, _&&_}
 use mathlib.Core.Logic.{_↔_}
 use lib.Dec.{ltb}
 use borrow.Author.Tests.{ltb-true, lt-ltb}
 use native.Mathlib.Omega.{arith}
-use Rattle.lists.specs.Both.{both-hold}
+use Rattle.lists.specs.Truth.{both-hold, same-truth}
 
 -- byte k is in the range
 unfoldable pub InRange : ℕ → ℕ → ℕ → Type 0
@@ -27,17 +27,10 @@ overlaps a n b m = ltb 0 n && (ltb 0 m && (ltb a (b + m) && ltb b (a + n)))
 unfoldable pub passesEnd : ℕ → ℕ → Bool
 passesEnd offset length = ltb (2 ^ 64) (offset + length)
 
--- two tests that hold together are the same
-same-tests : (t u : Bool) → (t ≡ true → u ≡ true) → (u ≡ true → t ≡ true) → t ≡ u
-same-tests true true f g = refl
-same-tests true false f g = sym (f refl)
-same-tests false true f g = g refl
-same-tests false false f g = refl
-
 -- two comparisons that hold together are the same test
 pub same-ltb : (a b x y : ℕ) → (a < b → x < y) → (x < y → a < b) → ltb a b ≡ ltb x y
 same-ltb a b x y f g =
-    same-tests (ltb a b) (ltb x y) (λ e. lt-ltb x y (f (ltb-true a b e))) (λ e. lt-ltb a b (g (ltb-true x y e)))
+    same-truth (ltb a b) (ltb x y) (λ e. lt-ltb x y (f (ltb-true a b e))) (λ e. lt-ltb a b (g (ltb-true x y e)))
 
 -- what the test of an overlap says of the numbers
 overlaps-says : (a n b m : ℕ) → overlaps a n b m ≡ true → (0 < n) × (0 < m) × (a < b + m) × (b < a + n)
@@ -64,6 +57,6 @@ overlap-iff a n b m = (
 -- an overlap goes both ways
 pub overlaps-sym : (a n b m : ℕ) → overlaps a n b m ≡ overlaps b m a n
 overlaps-sym a n b m =
-    same-tests (overlaps a n b m) (overlaps b m a n)
+    same-truth (overlaps a n b m) (overlaps b m a n)
     (λ e. let h = overlaps-says a n b m e in overlaps-holds b m a n (h .1) (h .0) (h .3) (h .2))
     (λ e. let h = overlaps-says b m a n e in overlaps-holds a n b m (h .1) (h .0) (h .3) (h .2))

@@ -9,7 +9,7 @@ use lib.Dec.{leb, eqb}
 use borrow.Author.Tests.{leb-true, ne-eqb}
 use native.Mathlib.Decide.{decLt}
 use native.Mathlib.Omega.{arith}
-use Rattle.lists.specs.Both.{both-hold}
+use Rattle.lists.specs.Truth.{both-hold}
 use Rattle.lists.specs.Walk.{any, all, allTails}
 use Rattle.locks.specs.Range.{passesEnd}
 use Rattle.locks.specs.Answer.{fileIn}

@@ -1,0 +1,172 @@
+-- Host calls leave sound tables, whatever they are given (document 01, "Tables and room": "Every call on sound tables
+-- leaves sound tables"), and arrays of the same room. Assumes nothing.
+use mathlib.Core.Path.{_≡_, refl, _∙_}
+use mathlib.Core.Bool.{true}
+use mathlib.Core.List.{List, [], _∷_, _++_, map}
+use Prim.Native.Nat.{ℕ, _≤_, _<_}
+use lib.ListN.{length, set, length-set}
+use borrow.Author.Tests.{le-leb}
+use Rattle.records.specs.declared.Tables.{Tables}
+use Rattle.records.specs.Held.{sessionsOf, treesOf, opensOf, locksOf, withSessions, withTrees, withOpens, withFiles}
+use Rattle.numbers.specs.Number.{contains}
+use Rattle.numbers.specs.Column.{uidOf}
+use Rattle.soundness.specs.Sound.{sound, fileOk}
+use Rattle.host.specs.HostCall.{refused, done, newSession, addSession, newTree, addTree, newOpen, addOpen, loaded, loadFile, dropConnection}
+use Rattle.host.specs.declared.answer.Answer.{Answer}
+use Rattle.removal.specs.declared.Gone.the-variants.{Connection}
+use Rattle.lists.specs.Members.{all-set}
+use Rattle.lists.specs.RoomLaws.{held-fewer, held-more}
+use Rattle.claims.specs.SoundParts.{Sound, sound-says, sound-lists}
+use Rattle.claims.specs.RuleLaws.{tree-ok, open-ok}
+use Rattle.claims.specs.Shaped.{Shaped, sessions-with, trees-with, opens-with, shaped-sessions, shaped-trees, shaped-opens, shaped-files}
+use Rattle.claims.specs.AddedRecords.{records-session, records-tree, records-open, locks-open}
+use Rattle.claims.specs.RemovalSound.{remove-sound, remove-shaped}
+use Rattle.claims.specs.HostCases.{OpenPassed, addSession-either, addTree-either, addOpen-either, loadFile-either, dropConnection-either}
+
+-- ---- the tables of a call that is done
+
+module _ (t : Tables) (s : Sound t) where
+  session-sound : (c : ℕ) → t .nsessions < 16 → sound (withSessions t (sessionsOf t ++ (newSession t c ∷ []))) ≡ true
+  unfolding withSessions newSession
+  session-sound c h =
+      let r = s .room in
+      sound-lists (withSessions t (sessionsOf t ++ (newSession t c ∷ []))) (sessionsOf t ++ (newSession t c ∷ [])) (treesOf t) (opensOf t) (locksOf t)
+      (sessions-with t (sessionsOf t ++ (newSession t c ∷ []))) refl refl refl
+      (record {
+        sessionRoom = held-more (t .nsessions) (t .sessions) 16 h (newSession t c);
+        treeRoom = r .treeRoom;
+        openRoom = r .openRoom;
+        lockRoom = r .lockRoom;
+      })
+      (s .sizes)
+      (records-session (sessionsOf t) (treesOf t) (opensOf t) (s .records) (newSession t c) refl (held-fewer (t .nsessions) (t .sessions) 16 h))
+      (s .locks)
+
+  tree-sound : (uid right : ℕ) → right ≤ 1 → contains uid (map uidOf (sessionsOf t)) ≡ true → t .ntrees < 32
+      → sound (withTrees t (treesOf t ++ (newTree t uid right ∷ []))) ≡ true
+  unfolding withTrees newTree
+  tree-sound uid right low named h =
+      let r = s .room in
+      sound-lists (withTrees t (treesOf t ++ (newTree t uid right ∷ []))) (sessionsOf t) (treesOf t ++ (newTree t uid right ∷ [])) (opensOf t) (locksOf t)
+      refl (trees-with t (treesOf t ++ (newTree t uid right ∷ []))) refl refl
+      (record {
+        sessionRoom = r .sessionRoom;
+        treeRoom = held-more (t .ntrees) (t .trees) 32 h (newTree t uid right);
+        openRoom = r .openRoom;
+        lockRoom = r .lockRoom;
+      })
+      (s .sizes)
+      (records-tree (sessionsOf t) (treesOf t) (opensOf t) (s .records) (newTree t uid right) refl
+      (tree-ok (map uidOf (sessionsOf t)) (newTree t uid right) (record { right = le-leb right 1 low; session = named }))
+      (held-fewer (t .ntrees) (t .trees) 32 h))
+      (s .locks)
+
+  open-sound : (uid tid process file access : ℕ) → OpenPassed t uid tid process file access
+      → sound (withOpens t (opensOf t ++ (newOpen t uid tid process file access ∷ []))) ≡ true
+  unfolding withOpens newOpen
+  open-sound uid tid process file access p =
+      let r = s .room in
+      sound-lists (withOpens t (opensOf t ++ (newOpen t uid tid process file access ∷ []))) (sessionsOf t) (treesOf t)
+      (opensOf t ++ (newOpen t uid tid process file access ∷ [])) (locksOf t)
+      refl refl (opens-with t (opensOf t ++ (newOpen t uid tid process file access ∷ []))) refl
+      (record {
+        sessionRoom = r .sessionRoom;
+        treeRoom = r .treeRoom;
+        openRoom = held-more (t .nopens) (t .opens) 64 (p .room) (newOpen t uid tid process file access);
+        lockRoom = r .lockRoom;
+      })
+      (s .sizes)
+      (records-open (sessionsOf t) (treesOf t) (opensOf t) (s .records) (newOpen t uid tid process file access) refl
+      (open-ok (treesOf t) (newOpen t uid tid process file access)
+      (record { file = le-leb file 15 (p .file15); access = le-leb access 2 (p .access2); held = p .held }))
+      (held-fewer (t .nopens) (t .opens) 64 (p .room)))
+      (locks-open (opensOf t) (newOpen t uid tid process file access) (locksOf t) (s .locks))
+
+  load-sound : (file size : ℕ) → size ≤ 4096 → sound (loaded t file size) ≡ true
+  unfolding loaded withFiles fileOk
+  load-sound file size h =
+      sound-lists (loaded t file size) (sessionsOf t) (treesOf t) (opensOf t) (locksOf t) refl refl refl refl (s .room)
+      (all-set fileOk (t .files) file (record { size = size }) (s .sizes) (le-leb size 4096 h))
+      (s .records) (s .locks)
+
+-- ---- "Every call on sound tables leaves sound tables"
+
+SoundAfter : Answer → Type 0
+SoundAfter a = sound (a .tables) ≡ true
+
+module _ (t : Tables) (e : sound t ≡ true) where
+  refused-sound : (n : ℕ) → 1 ≤ n → SoundAfter (refused n t)
+  unfolding SoundAfter refused
+  refused-sound n h = e
+
+  -- "Every call on sound tables leaves sound tables": adding a session
+  pub addSession-sound : (connection : ℕ) → sound (addSession t connection .tables) ≡ true
+  unfolding SoundAfter done
+  addSession-sound c = addSession-either t SoundAfter refused-sound c (λ a h. session-sound t (sound-says t e) c h)
+
+  -- "Every call on sound tables leaves sound tables": adding a tree
+  pub addTree-sound : (uid right : ℕ) → sound (addTree t uid right .tables) ≡ true
+  unfolding SoundAfter done
+  addTree-sound uid right = addTree-either t SoundAfter refused-sound uid right (λ a low named h. tree-sound t (sound-says t e) uid right low named h)
+
+  -- "Every call on sound tables leaves sound tables": adding an open
+  pub addOpen-sound : (uid tid process file access : ℕ) → sound (addOpen t uid tid process file access .tables) ≡ true
+  unfolding SoundAfter done
+  addOpen-sound uid tid process file access =
+      addOpen-either t SoundAfter refused-sound uid tid process file access (λ p. open-sound t (sound-says t e) uid tid process file access p)
+
+  -- "Every call on sound tables leaves sound tables": loading a file
+  pub loadFile-sound : (file : ℕ) (bytes memory : List ℕ) → sound (loadFile t file bytes memory .tables) ≡ true
+  unfolding SoundAfter done
+  loadFile-sound file bytes memory =
+      loadFile-either t SoundAfter refused-sound file bytes memory (λ p. load-sound t (sound-says t e) file (length bytes) (p .size4096))
+
+  -- "Every call on sound tables leaves sound tables": dropping a connection
+  pub dropConnection-sound : (connection : ℕ) → sound (dropConnection t connection .tables) ≡ true
+  unfolding SoundAfter done
+  dropConnection-sound c = dropConnection-either t SoundAfter refused-sound c (λ a. remove-sound (Connection c) t e)
+
+-- ---- "Sessions 16 .. trees 32 .. opens 64 .. locks 128 .. Files: 16": the arrays keep their room, of tables not sound too
+
+ShapedAfter : Answer → Type 0
+ShapedAfter a = Shaped (a .tables)
+
+module _ (t : Tables) (s : Shaped t) where
+  refused-shaped : (n : ℕ) → 1 ≤ n → ShapedAfter (refused n t)
+  unfolding ShapedAfter refused
+  refused-shaped n h = s
+
+  -- "Sessions 16 .. trees 32 .. opens 64 .. locks 128 .. Files: 16" after adding a session
+  pub addSession-shaped : (connection : ℕ) → Shaped (addSession t connection .tables)
+  unfolding ShapedAfter done
+  addSession-shaped c =
+      addSession-either t ShapedAfter refused-shaped c
+      (λ a h. shaped-sessions t s (sessionsOf t ++ (newSession t c ∷ [])) (held-more (t .nsessions) (t .sessions) 16 h (newSession t c)))
+
+  -- the same after adding a tree
+  pub addTree-shaped : (uid right : ℕ) → Shaped (addTree t uid right .tables)
+  unfolding ShapedAfter done
+  addTree-shaped uid right =
+      addTree-either t ShapedAfter refused-shaped uid right
+      (λ a low named h. shaped-trees t s (treesOf t ++ (newTree t uid right ∷ [])) (held-more (t .ntrees) (t .trees) 32 h (newTree t uid right)))
+
+  -- the same after adding an open
+  pub addOpen-shaped : (uid tid process file access : ℕ) → Shaped (addOpen t uid tid process file access .tables)
+  unfolding ShapedAfter done
+  addOpen-shaped uid tid process file access =
+      addOpen-either t ShapedAfter refused-shaped uid tid process file access
+      (λ p. shaped-opens t s (opensOf t ++ (newOpen t uid tid process file access ∷ []))
+      (held-more (t .nopens) (t .opens) 64 (p .room) (newOpen t uid tid process file access)))
+
+  -- the same after loading a file
+  pub loadFile-shaped : (file : ℕ) (bytes memory : List ℕ) → Shaped (loadFile t file bytes memory .tables)
+  unfolding ShapedAfter done loaded
+  loadFile-shaped file bytes memory =
+      loadFile-either t ShapedAfter refused-shaped file bytes memory
+      (λ p. shaped-files t s (set (t .files) file (record { size = length bytes }))
+      (length-set (t .files) file (record { size = length bytes }) ∙ s .files16))
+
+  -- the same after dropping a connection
+  pub dropConnection-shaped : (connection : ℕ) → Shaped (dropConnection t connection .tables)
+  unfolding ShapedAfter done
+  dropConnection-shaped c = dropConnection-either t ShapedAfter refused-shaped c (λ a. remove-shaped (Connection c) t s a)
