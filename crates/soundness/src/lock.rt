@@ -7,11 +7,10 @@ use locks::types::Ask;
 use locks::types::Purpose;
 use records::Lock;
 ghost use mathlib.Core.Path.{_≡_};
-ghost use Prim.Native.Nat.{_+_, _≤_, _<_};
-ghost use lib.ListN.{take, getD};
-ghost use Rattle.lists.specs.Walk.{all, rest};
+ghost use Prim.Native.Nat.{_≤_};
+ghost use lib.ListN.{take};
+ghost use Rattle.lists.specs.Walk.{all};
 ghost use Rattle.locks.specs.Answer.{fileIn};
-ghost use Rattle.records.specs.Empty.{noLock};
 ghost use Rattle.soundness.specs.Sound.{agree, agreeAll};
 ghost use Rattle.soundness.specs.LockFits.{lockFits, asked};
 
@@ -61,32 +60,22 @@ fn agreeing(files: &[u8; 65], l: Lock, m: Lock) -> bool
     !answering(files, asked_of(m), l)
 }
 
-// Whether lock `at` may stand with each lock listed after it.
-fn agrees_with_later(files: &[u8; 65], locks: [Lock; 128], count: usize, at: usize) -> bool
-    requires { ⌜ (at < count) × (count ≤ 128) ⌝ }
-    ensures { λ r. ⌜ r ≡ all (agree (fileIn (now (files .entry))) (getD locks at noLock)) (rest locks count (at + 1)) ⌝ }
-{
-    let l = locks[at];
-    let mut i = at + 1;
-    while i < count {
-        let m = locks[i];
-        if !agreeing(files, l, m) {
-            return false;
-        }
-        i += 1;
-    }
-    true
-}
-
-// Whether every two of the first count locks may stand together.
+// Whether every two of the first count locks may stand together. The two loops stand in one function:
+// the list is large, and a call for each lock would copy it each time.
 pub(crate) fn locks_agree(files: &[u8; 65], locks: [Lock; 128], count: usize) -> bool
     requires { ⌜ count ≤ 128 ⌝ }
     ensures { λ r. ⌜ r ≡ agreeAll (fileIn (now (files .entry))) (take count locks) ⌝ }
 {
     let mut i: usize = 0;
-    while i < count {
-        if !agrees_with_later(files, locks, count, i) {
-            return false;
+    'each: while i < count {
+        let l = locks[i];
+        let mut j = i + 1;
+        'later: while j < count {
+            let m = locks[j];
+            if !agreeing(files, l, m) {
+                return false;
+            }
+            j += 1;
         }
         i += 1;
     }

@@ -1,11 +1,12 @@
 -- `soundness::lock::locks_agree` meets its contract: what the walk has left says the same as the whole.
 -- Assumes nothing.
+use mathlib.Core.Bool.{true, false}
 use mathlib.Core.Path.{_≡_, refl, sym, _∙_}
-use Prim.Native.Nat.{_≤_, _-_}
-use lib.ListN.{length, take}
+use Prim.Native.Nat.{_+_, _≤_, _-_}
+use lib.ListN.{length, take, getD}
 use borrow.Author.Tests.{not-true, not-false}
 use Rattle.lists.specs.Walk.{all, rest}
-use Rattle.lists.specs.WalkLaws.{tails-end, tails-yes, tails-no}
+use Rattle.lists.specs.WalkLaws.{all-end, all-yes, all-no, tails-end, tails-yes, tails-no}
 use Rattle.records.specs.Empty.{noLock}
 use Rattle.soundness.specs.Sound.{agree, agreeAll}
 use Rattle.locks.specs.Answer.{fileIn}
@@ -14,46 +15,98 @@ use Rattle.soundness.proofs.lock.locks_agree.Tie as tie
 use borrow.Author.Needs.{needs}
 use native.Mathlib.Omega.{arith}
 
-abbrev Inv-loop : tie.InvT-loop
-Inv-loop files locks count i₀ i = (i ≤ count) × (agreeAll (fileIn files) (take count locks) ≡ agreeAll (fileIn files) (rest locks count i))
+abbrev Inv-later : tie.InvT-later
+Inv-later files count locks i l j₀ j = (j ≤ count) × (all (agree (fileIn files) l) (rest locks count (i + 1)) ≡ all (agree (fileIn files) l) (rest locks count j))
 
-abbrev μ-loop : tie.MeasureT-loop
-μ-loop files locks count i₀ i = count - i
+abbrev μ-later : tie.MeasureT-later
+μ-later files count locks i l j₀ j = count - j
 
-loop-holds : tie.Need-loop-holds Inv-loop μ-loop
-loop-holds c = (omega arith, refl)
+abbrev Inv-each : tie.InvT-each
+Inv-each files count locks i₀ i = (i ≤ count) × (agreeAll (fileIn files) (take count locks) ≡ agreeAll (fileIn files) (rest locks count i))
 
-agrees-with-later-requires : tie.Need-agrees-with-later-requires Inv-loop μ-loop
-agrees-with-later-requires c κs = search needs
+abbrev μ-each : tie.MeasureT-each
+μ-each files count locks i₀ i = count - i
 
-returns : tie.Need-returns Inv-loop μ-loop
+each-holds : tie.Need-each-holds Inv-later μ-later Inv-each μ-each
+each-holds c = (omega arith, refl)
+
+mul-l : tie.Need-mul-l Inv-later μ-later Inv-each μ-each
+mul-l c = omega arith
+
+array-copy-out-l : tie.Need-array-copy-out-l Inv-later μ-later Inv-each μ-each
+array-copy-out-l c = omega arith
+
+add-j : tie.Need-add-j Inv-later μ-later Inv-each μ-each
+add-j c = omega arith
+
+later-holds : tie.Need-later-holds Inv-later μ-later Inv-each μ-each
+later-holds c = (omega arith, refl)
+
+mul-m : tie.Need-mul-m Inv-later μ-later Inv-each μ-each
+mul-m c = omega arith
+
+array-copy-out-m : tie.Need-array-copy-out-m Inv-later μ-later Inv-each μ-each
+array-copy-out-m c = omega arith
+
+agreeing-requires : tie.Need-agreeing-requires Inv-later μ-later Inv-each μ-each
+agreeing-requires c κs = search needs
+
+returns : tie.Need-returns Inv-later μ-later Inv-each μ-each
 unfolding agreeAll
-returns c = let long : length (c .before .before .before .before .args .locks) ≡ 128 = search needs in sym (c .before .before .before .loop .inv .1 ∙ tails-no (c .before .before .before .before .args .locks) (c .before .before .before .before .args .count) (c .before .before .before .loop .i) noLock (c .before .before .loop-test .taken) (omega arith) (λ l later. all (agree (fileIn (c .before .before .before .before .args .files .now)) l) later) (sym (c .before .agrees-with-later .ensures) ∙ not-true (c .before .agrees-with-later .result) (c .if1 .taken)))
+returns c =
+    let long : length (c .before .before .before .before .before .before .before .before .args .t2) ≡ 128 = search needs in
+    let fails : all (agree (fileIn (c .before .before .before .before .before .before .before .before .args .files .now)) (getD (c .before .before .before .before .before .before .before .before .args .t2) (c .before .before .before .before .before .before .before .each .i) noLock)) (rest (c .before .before .before .before .before .before .before .before .args .t2) (c .before .before .before .before .before .before .before .before .args .count) (c .before .before .before .before .before .before .before .each .i + 1)) ≡ false =
+    c .before .before .before .before .later .inv .1 ∙ all-no (c .before .before .before .before .before .before .before .before .args .t2) (c .before .before .before .before .before .before .before .before .args .count) (c .before .before .before .before .later .j) noLock (c .before .before .before .later-test .taken) (omega arith) (agree (fileIn (c .before .before .before .before .before .before .before .before .args .files .now)) (getD (c .before .before .before .before .before .before .before .before .args .t2) (c .before .before .before .before .before .before .before .each .i) noLock)) (sym (c .before .agreeing .ensures) ∙ not-true (c .before .agreeing .result) (c .if1 .taken))
+    in
+    sym (c .before .before .before .before .before .before .before .each .inv .1 ∙ tails-no (c .before .before .before .before .before .before .before .before .args .t2) (c .before .before .before .before .before .before .before .before .args .count) (c .before .before .before .before .before .before .before .each .i) noLock (c .before .before .before .before .before .before .each-test .taken) (omega arith) (λ l later. all (agree (fileIn (c .before .before .before .before .before .before .before .before .args .files .now)) l) later) fails)
 
-add-i : tie.Need-add-i Inv-loop μ-loop
+add-j-2 : tie.Need-add-j-2 Inv-later μ-later Inv-each μ-each
+add-j-2 c = omega arith
+
+later-less : tie.Need-later-less Inv-later μ-later Inv-each μ-each
+later-less c = omega arith
+
+later-again : tie.Need-later-again Inv-later μ-later Inv-each μ-each
+later-again c = let long : length (c .before .before .before .before .before .before .before .before .args .t2) ≡ 128 = search needs in (omega arith, c .before .before .before .before .later .inv .1 ∙ all-yes (c .before .before .before .before .before .before .before .before .args .t2) (c .before .before .before .before .before .before .before .before .args .count) (c .before .before .before .before .later .j) noLock (c .before .before .before .later-test .taken) (omega arith) (agree (fileIn (c .before .before .before .before .before .before .before .before .args .files .now)) (getD (c .before .before .before .before .before .before .before .before .args .t2) (c .before .before .before .before .before .before .before .each .i) noLock)) (sym (c .before .agreeing .ensures) ∙ not-false (c .before .agreeing .result) (c .if1 .left)))
+
+add-i : tie.Need-add-i Inv-later μ-later Inv-each μ-each
 add-i c = omega arith
 
-loop-less : tie.Need-loop-less Inv-loop μ-loop
-loop-less c = omega arith
+each-less : tie.Need-each-less Inv-later μ-later Inv-each μ-each
+each-less c = omega arith
 
-loop-again : tie.Need-loop-again Inv-loop μ-loop
+each-again : tie.Need-each-again Inv-later μ-later Inv-each μ-each
 unfolding agreeAll
-loop-again c = let long : length (c .before .before .before .before .args .locks) ≡ 128 = search needs in (omega arith, c .before .before .before .loop .inv .1 ∙ tails-yes (c .before .before .before .before .args .locks) (c .before .before .before .before .args .count) (c .before .before .before .loop .i) noLock (c .before .before .loop-test .taken) (omega arith) (λ l later. all (agree (fileIn (c .before .before .before .before .args .files .now)) l) later) (sym (c .before .agrees-with-later .ensures) ∙ not-false (c .before .agrees-with-later .result) (c .if1 .left)))
+each-again c =
+    let long : length (c .before .before .before .before .before .args .t2) ≡ 128 = search needs in
+    let yes-all : all (agree (fileIn (c .before .before .before .before .before .args .files .now)) (getD (c .before .before .before .before .before .args .t2) (c .before .before .before .before .each .i) noLock)) (rest (c .before .before .before .before .before .args .t2) (c .before .before .before .before .before .args .count) (c .before .before .before .before .each .i + 1)) ≡ true = c .before .later .inv .1 ∙ all-end (c .before .before .before .before .before .args .t2) (c .before .before .before .before .before .args .count) (agree (fileIn (c .before .before .before .before .before .args .files .now)) (getD (c .before .before .before .before .before .args .t2) (c .before .before .before .before .each .i) noLock)) (c .before .later .j) (c .later-test .left) in
+    (omega arith, c .before .before .before .before .each .inv .1 ∙ tails-yes (c .before .before .before .before .before .args .t2) (c .before .before .before .before .before .args .count) (c .before .before .before .before .each .i) noLock (c .before .before .before .each-test .taken) (omega arith) (λ l later. all (agree (fileIn (c .before .before .before .before .before .args .files .now)) l) later) yes-all)
 
-returns-2 : tie.Need-returns-2 Inv-loop μ-loop
+returns-2 : tie.Need-returns-2 Inv-later μ-later Inv-each μ-each
 unfolding agreeAll
-returns-2 c = sym (c .before .loop .inv .1 ∙ tails-end (c .before .before .args .locks) (c .before .before .args .count) (λ l later. all (agree (fileIn (c .before .before .args .files .now)) l) later) (c .before .loop .i) (c .loop-test .left))
+returns-2 c = sym (c .before .each .inv .1 ∙ tails-end (c .before .before .args .t2) (c .before .before .args .count) (λ l later. all (agree (fileIn (c .before .before .args .files .now)) l) later) (c .before .each .i) (c .each-test .left))
 
 pub locks-agree-spec : {M : Type 1} → statement M
 locks-agree-spec =
     tie.close
     (tie.spec
-    Inv-loop
-    μ-loop
-    loop-holds
-    agrees-with-later-requires
+    Inv-later
+    μ-later
+    Inv-each
+    μ-each
+    each-holds
+    mul-l
+    array-copy-out-l
+    add-j
+    later-holds
+    mul-m
+    array-copy-out-m
+    agreeing-requires
     returns
+    add-j-2
+    later-less
+    later-again
     add-i
-    loop-less
-    loop-again
+    each-less
+    each-again
     returns-2)
