@@ -1,0 +1,96 @@
+-- Where each field of a block stands (document 01, "The grammar of a chain"): WordCount, the words, ByteCount, the bytes.
+-- A block stands at a place counted from the header's start; numbers are little-endian.
+-- Assumes nothing.
+use Prim.Native.Nat.{ℕ, _+_, _*_}
+use mathlib.Core.List.{List}
+use Rattle.wire.specs.LittleEndian.{byteAt, le16At, le32At}
+
+-- the requests served
+abbrev pub CLOSE : ℕ
+CLOSE = 0x04
+
+abbrev pub PROCESS_EXIT : ℕ
+PROCESS_EXIT = 0x11
+
+abbrev pub LOCKING : ℕ
+LOCKING = 0x24
+
+abbrev pub READ : ℕ
+READ = 0x2E
+
+abbrev pub WRITE : ℕ
+WRITE = 0x2F
+
+abbrev pub TREE_DISCONNECT : ℕ
+TREE_DISCONNECT = 0x71
+
+abbrev pub LOGOFF : ℕ
+LOGOFF = 0x74
+
+-- the AndXCommand that ends a chain
+abbrev pub NO_COMMAND : ℕ
+NO_COMMAND = 0xFF
+
+-- the header's command, and the place of the first block
+abbrev pub headerCommand : List ℕ → ℕ
+headerCommand s = byteAt s 4
+
+abbrev pub FIRST : ℕ
+FIRST = 32
+
+-- a block: the number of its words, where its bytes start, how many they are, and where it ends
+abbrev pub wordCount : List ℕ → ℕ → ℕ
+wordCount s at = byteAt s at
+
+abbrev pub byteArea : List ℕ → ℕ → ℕ
+byteArea s at = at + 3 + 2 * wordCount s at
+
+abbrev pub byteCount : List ℕ → ℕ → ℕ
+byteCount s at = le16At s (at + 1 + 2 * wordCount s at)
+
+abbrev pub blockEnd : List ℕ → ℕ → ℕ
+blockEnd s at = byteArea s at + byteCount s at
+
+-- AndX words: AndXCommand (1), reserved (1), AndXOffset (2)
+abbrev pub andxCommand : List ℕ → ℕ → ℕ
+andxCommand s at = byteAt s (at + 1)
+
+abbrev pub andxOffset : List ℕ → ℕ → ℕ
+andxOffset s at = le16At s (at + 3)
+
+-- LOCKING after AndX: FID 2, type 1, oplock 1, timeout 4, unlocks 2, locks 2
+abbrev pub fidAfterAndx : List ℕ → ℕ → ℕ
+fidAfterAndx s at = le16At s (at + 5)
+
+abbrev pub lockType : List ℕ → ℕ → ℕ
+lockType s at = byteAt s (at + 7)
+
+abbrev pub unlockCount : List ℕ → ℕ → ℕ
+unlockCount s at = le16At s (at + 13)
+
+abbrev pub lockCount : List ℕ → ℕ → ℕ
+lockCount s at = le16At s (at + 15)
+
+-- READ after AndX: FID 2, offset 4, max 2, min 2, timeout 4, remaining 2, offset high 4 if 12 words.
+-- WRITE after AndX: FID 2, offset 4, timeout 4, mode 2, remaining 2, reserved 2, length 2, data offset 2, offset high 4 if 14.
+abbrev pub offsetLow : List ℕ → ℕ → ℕ
+offsetLow s at = le32At s (at + 7)
+
+abbrev pub readMax : List ℕ → ℕ → ℕ
+readMax s at = le16At s (at + 11)
+
+abbrev pub readOffsetHigh : List ℕ → ℕ → ℕ
+readOffsetHigh s at = le32At s (at + 21)
+
+abbrev pub dataLength : List ℕ → ℕ → ℕ
+dataLength s at = le16At s (at + 21)
+
+abbrev pub dataOffset : List ℕ → ℕ → ℕ
+dataOffset s at = le16At s (at + 23)
+
+abbrev pub writeOffsetHigh : List ℕ → ℕ → ℕ
+writeOffsetHigh s at = le32At s (at + 25)
+
+-- CLOSE: FID 2, time 4
+abbrev pub closeFid : List ℕ → ℕ → ℕ
+closeFid s at = le16At s (at + 1)

@@ -1,0 +1,7 @@
+pub mod Layout
+pub mod Grammar
+pub mod Parse
+pub mod Chain
+pub mod Judged
+pub mod ParseLaws
+pub mod ChainLaws

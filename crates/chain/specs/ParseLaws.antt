@@ -1,0 +1,147 @@
+-- Laws of the reader of one block: a block that it yields stands inside the message, and its follower not before its end.
+-- Assumes nothing.
+use mathlib.Core.Path.{_≡_, refl, sym, _∙_}
+use Prim.Native.Nat.{ℕ, _+_, _*_, _≤_, _<_}
+use native.Mathlib.Omega.{arith}
+use mathlib.Core.Bool.{Bool, true, false, cond, _&&_, _||_, and-false}
+use mathlib.Core.List.{List}
+use lib.ListN.{length}
+use lib.Dec.{leb, eqb}
+use borrow.Author.Tests.{leb-true, eqb-true, lt-leb}
+use Rattle.lists.specs.Truth.{both-hold}
+use Rattle.locks.specs.Wire.{rangeSize}
+use Rattle.chain.specs.Layout.{CLOSE, PROCESS_EXIT, LOCKING, READ, WRITE, TREE_DISCONNECT, LOGOFF, NO_COMMAND, wordCount, byteCount, blockEnd, andxCommand, andxOffset, lockType, unlockCount, lockCount, closeFid}
+use Rattle.chain.specs.Parse.{shaped, bare, isLarge, lockingFits, readFits, dataInside, writeFits, mayFollow, linkFits, linkAt, answer, parseLocking, parseRead, parseWrite, parseClose, parseLogoff, parseEmpty, parse}
+use Rattle.chain.specs.declared.block.Body.{Body}
+use Rattle.chain.specs.declared.block.Body.the-variants.{Close, Logoff, TreeDisconnect, ProcessExit}
+use Rattle.chain.specs.declared.block.Next.{Next}
+use Rattle.chain.specs.declared.block.Next.the-variants.{End, Follow}
+use Rattle.chain.specs.declared.block.Block.{Block}
+use Rattle.chain.specs.declared.block.Parsed.{Parsed}
+use Rattle.chain.specs.declared.block.Parsed.the-variants.{Whole, Malformed}
+
+-- what follows from each of two tests follows where one of them holds
+pub one-holds : {P : Type 0} (t u : Bool) → (t || u) ≡ true → (t ≡ true → P) → (u ≡ true → P) → P
+one-holds true u e f g = f refl
+one-holds false u e f g = g e
+
+module _ (s : List ℕ) (at : ℕ) where
+  -- past the end stands no block
+  pub shaped-past : (words : ℕ) → length s ≤ at → shaped s at words ≡ false
+  unfolding shaped
+  shaped-past words h =
+      let past : length s < blockEnd s at = omega arith in
+      rw (lt-leb (blockEnd s at) (length s) past, and-false)
+
+  pub shaped-words : (words : ℕ) → shaped s at words ≡ true → wordCount s at ≡ words
+  unfolding shaped
+  shaped-words words e = eqb-true (wordCount s at) words (both-hold (eqb (wordCount s at) words) (leb (blockEnd s at) (length s)) e .0)
+
+  -- a block that fits ends inside the message
+  pub shaped-inside : (words : ℕ) → shaped s at words ≡ true → blockEnd s at ≤ length s
+  unfolding shaped
+  shaped-inside words e = leb-true (blockEnd s at) (length s) (both-hold (eqb (wordCount s at) words) (leb (blockEnd s at) (length s)) e .1)
+
+  pub bare-inside : (words : ℕ) → bare s at words ≡ true → blockEnd s at ≤ length s
+  unfolding bare
+  bare-inside words e = shaped-inside words (both-hold (shaped s at words) (eqb (byteCount s at) 0) e .0)
+
+  pub locking-inside : lockingFits s at ≡ true → blockEnd s at ≤ length s
+  unfolding lockingFits
+  locking-inside e =
+      shaped-inside 8
+      (both-hold (shaped s at 8) (eqb (byteCount s at) ((unlockCount s at + lockCount s at) * rangeSize (isLarge (lockType s at)))) e .0)
+
+  pub read-inside : readFits s at ≡ true → blockEnd s at ≤ length s
+  unfolding readFits
+  read-inside e = one-holds (bare s at 10) (bare s at 12) e (bare-inside 10) (bare-inside 12)
+
+  pub write-inside : writeFits s at ≡ true → blockEnd s at ≤ length s
+  unfolding writeFits
+  write-inside e =
+      one-holds (shaped s at 12) (shaped s at 14) (both-hold (shaped s at 12 || shaped s at 14) (dataInside s at) e .0) (shaped-inside 12) (shaped-inside 14)
+
+-- a follower that the AndX words name stands not before the block's end
+link-case : (stop may : Bool) (end command at c a : ℕ) → (stop || (may && leb end at)) ≡ true → cond stop End (Follow command at) ≡ Follow c a → end ≤ a
+link-case true may end command at c a e f = let never : _≡_ {A = ℕ} 0 1 = cc in omega arith
+link-case false may end command at c a e f =
+    let same : at ≡ a = cc in
+    let below : end ≤ at = leb-true end at (both-hold may (leb end at) e .1) in
+    omega arith
+
+pub link-ahead : (s : List ℕ) (command at c a : ℕ) → linkFits s command at ≡ true → linkAt s at ≡ Follow c a → blockEnd s at ≤ a
+unfolding linkFits linkAt
+link-ahead s command at c a e f =
+    link-case (eqb (andxCommand s at) NO_COMMAND) (mayFollow command (andxCommand s at)) (blockEnd s at) (andxCommand s at) (andxOffset s at) c a e f
+
+-- The block that the reader yields at a place: it ends inside the message, and what follows it does not start before its end.
+pub record Placed (s : List ℕ) (at : ℕ) (b : Block) : Type 0 where
+  pub inside : blockEnd s at ≤ length s
+  pub ahead : (c a : ℕ) → b .next ≡ Follow c a → blockEnd s at ≤ a
+
+-- a block is yielded only where it fits, with the follower given
+answered : (s : List ℕ) (command at : ℕ) (fits : Bool) (body : Body) (next : Next) (b : Block) → answer s command at fits body next ≡ Whole b
+    → (fits ≡ true) × (b .next ≡ next)
+unfolding answer
+answered s command at true body next b e = (refl, cc)
+answered s command at false body next b e = let never : _≡_ {A = ℕ} 0 1 = cc in absurd (omega arith)
+
+module _ (s : List ℕ) (command at : ℕ) (fits : Bool) (body : Body) (b : Block) (inside : fits ≡ true → blockEnd s at ≤ length s) where
+  -- a block with AndX words, both of them fitting
+  placed-link : answer s command at (fits && linkFits s command at) body (linkAt s at) ≡ Whole b → Placed s at b
+  placed-link e =
+      let told = answered s command at (fits && linkFits s command at) body (linkAt s at) b e in
+      let both = both-hold fits (linkFits s command at) (told .0) in
+      record { inside = inside (both .0); ahead = λ c a f. link-ahead s command at c a (both .1) (sym (told .1) ∙ f) }
+
+  -- one that nothing follows
+  placed-end : answer s command at fits body End ≡ Whole b → Placed s at b
+  placed-end e =
+      let told = answered s command at fits body End b e in
+      record { inside = inside (told .0); ahead = λ c a f. let never : _≡_ {A = ℕ} 0 1 = cc (told .1) in absurd (omega arith) }
+
+-- one of two readings
+chosen : {P : Type 0} (t : Bool) (p q : Parsed) (b : Block) → (p ≡ Whole b → P) → (q ≡ Whole b → P) → cond t p q ≡ Whole b → P
+chosen true p q b f g e = f e
+chosen false p q b f g e = g e
+
+module _ (s : List ℕ) (at : ℕ) (b : Block) where
+  placed-locking : parseLocking s at ≡ Whole b → Placed s at b
+  unfolding parseLocking
+  placed-locking e = placed-link s LOCKING at (lockingFits s at) _ b (locking-inside s at) e
+
+  placed-read : parseRead s at ≡ Whole b → Placed s at b
+  unfolding parseRead
+  placed-read e = placed-link s READ at (readFits s at) _ b (read-inside s at) e
+
+  placed-write : parseWrite s at ≡ Whole b → Placed s at b
+  unfolding parseWrite
+  placed-write e = placed-link s WRITE at (writeFits s at) _ b (write-inside s at) e
+
+  placed-close : parseClose s at ≡ Whole b → Placed s at b
+  unfolding parseClose
+  placed-close e = placed-end s CLOSE at (bare s at 3) (Close (closeFid s at)) b (bare-inside s at 3) e
+
+  placed-logoff : parseLogoff s at ≡ Whole b → Placed s at b
+  unfolding parseLogoff
+  placed-logoff e = placed-link s LOGOFF at (bare s at 2) Logoff b (bare-inside s at 2) e
+
+  placed-empty : (command : ℕ) (body : Body) → parseEmpty s command at body ≡ Whole b → Placed s at b
+  unfolding parseEmpty
+  placed-empty command body e = placed-end s command at (bare s at 0) body b (bare-inside s at 0) e
+
+  unserved : Malformed ≡ Whole b → Placed s at b
+  unserved e = let never : _≡_ {A = ℕ} 0 1 = cc in absurd (omega arith)
+
+  -- whatever its command
+  pub placed : (command : ℕ) → parse s command at ≡ Whole b → Placed s at b
+  unfolding parse
+  placed command e =
+      chosen (eqb command LOCKING) (parseLocking s at) _ b placed-locking
+      (chosen (eqb command READ) (parseRead s at) _ b placed-read
+      (chosen (eqb command WRITE) (parseWrite s at) _ b placed-write
+      (chosen (eqb command CLOSE) (parseClose s at) _ b placed-close
+      (chosen (eqb command LOGOFF) (parseLogoff s at) _ b placed-logoff
+      (chosen (eqb command TREE_DISCONNECT) (parseEmpty s TREE_DISCONNECT at TreeDisconnect) _ b (placed-empty TREE_DISCONNECT TreeDisconnect)
+      (chosen (eqb command PROCESS_EXIT) (parseEmpty s PROCESS_EXIT at ProcessExit) Malformed b (placed-empty PROCESS_EXIT ProcessExit) unserved))))))
+      e

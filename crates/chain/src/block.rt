@@ -1,0 +1,57 @@
+// A block of a chain, taken apart.
+
+// What a LOCKING block asks: its FID, its lock type, and how many ranges to unlock and to lock.
+pub struct LockingFields {
+    pub fid: u16,
+    pub kind: u8,
+    pub unlocks: u16,
+    pub locks: u16,
+}
+
+// What a READ block asks.
+pub struct ReadFields {
+    pub fid: u16,
+    pub offset: u64,
+    pub max: u16,
+}
+
+// What a WRITE block asks: `count` bytes of the message, from place `from` on, go to the offset.
+pub struct WriteFields {
+    pub fid: u16,
+    pub offset: u64,
+    pub count: u16,
+    pub from: usize,
+}
+
+// A block by its command.
+pub enum Body {
+    Locking(LockingFields),
+    Read(ReadFields),
+    Write(WriteFields),
+    Close(u16),
+    Logoff,
+    TreeDisconnect,
+    ProcessExit,
+}
+
+// What follows a block: nothing, or a block with that command at that place.
+pub enum Next {
+    End,
+    Follow(u8, usize),
+}
+
+// A block: its command, its place from the header's start, its length, its fields and what follows.
+pub struct Block {
+    pub command: u8,
+    pub at: usize,
+    pub length: usize,
+    pub body: Body,
+    pub next: Next,
+}
+
+// The answer for one block: "A block's reading either yields the block or ends the chain's reading at
+// once with 2/1."
+pub enum Parsed {
+    Whole(Block),
+    Malformed,
+}

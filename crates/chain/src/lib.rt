@@ -1,0 +1,8 @@
+// The chain of a message: its blocks one by one (`parse::parse_block`) and as a whole
+// (`reader::read_chain`), by document 01, "The grammar of a chain".
+
+pub mod block;
+pub mod command;
+pub mod parse;
+pub mod reader;
+pub mod shape;

@@ -1,0 +1,73 @@
+// The shape of a block: WordCount, the words, ByteCount, the bytes, all inside the message.
+
+use crate::block::Next;
+use crate::command::NO_COMMAND;
+use crate::command::may_follow;
+ghost use mathlib.Core.Path.{_≡_};
+ghost use Prim.Native.Nat.{_<_};
+ghost use lib.ListN.{length};
+ghost use Rattle.chain.specs.Layout.{blockEnd};
+ghost use Rattle.chain.specs.Parse.{shaped, bare, linkFits, linkAt};
+
+// Where the block at a place ends.
+pub(crate) fn block_end(s: &[u8], at: usize) -> usize
+    requires { ⌜ at < length (now s) ⌝ }
+    ensures { λ r. ⌜ r ≡ blockEnd (now (s .entry)) at ⌝ }
+{
+    let words = wire::byte_at(s, at) as usize;
+    let bytes = wire::le16_at(s, at + 1 + 2 * words) as usize;
+    at + 3 + 2 * words + bytes
+}
+
+// Whether a block of that many words stands at a place, inside the message.
+pub(crate) fn has_shape(s: &[u8], at: usize, words: u8) -> bool
+    ensures { λ r. ⌜ r ≡ shaped (now (s .entry)) at words ⌝ }
+{
+    if s.len() <= at {
+        return false;
+    }
+    if wire::byte_at(s, at) != words {
+        return false;
+    }
+    block_end(s, at) <= s.len()
+}
+
+// The same, and the block has no bytes.
+pub(crate) fn is_bare(s: &[u8], at: usize, words: u8) -> bool
+    ensures { λ r. ⌜ r ≡ bare (now (s .entry)) at words ⌝ }
+{
+    if !has_shape(s, at, words) {
+        return false;
+    }
+    let count = at + 1 + 2 * (words as usize);
+    wire::le16_at(s, count) == 0
+}
+
+// Whether the AndX words end the chain or name a follower at or behind the block's end.
+pub(crate) fn link_fits(s: &[u8], command: u8, at: usize) -> bool
+    requires { ⌜ at < length (now s) ⌝ }
+    ensures { λ r. ⌜ r ≡ linkFits (now (s .entry)) command at ⌝ }
+{
+    let next = wire::byte_at(s, at + 1);
+    if next == NO_COMMAND {
+        return true;
+    }
+    if !may_follow(command, next) {
+        return false;
+    }
+    let place = wire::le16_at(s, at + 3) as usize;
+    block_end(s, at) <= place
+}
+
+// What the AndX words name.
+pub(crate) fn link_at(s: &[u8], at: usize) -> Next
+    requires { ⌜ at < length (now s) ⌝ }
+    ensures { λ r. ⌜ r ≡ linkAt (now (s .entry)) at ⌝ }
+{
+    let next = wire::byte_at(s, at + 1);
+    if next == NO_COMMAND {
+        return Next::End;
+    }
+    let place = wire::le16_at(s, at + 3) as usize;
+    Next::Follow(next, place)
+}
