@@ -1,0 +1,166 @@
+-- The reader's tests of a block are the rows of the table.
+-- Assumes nothing.
+use mathlib.Core.Path.{_≡_}
+use mathlib.Core.Logic.{_↔_}
+use Prim.Native.Nat.{ℕ, _+_, _*_, _/_, _%_}
+use native.Mathlib.Omega.{arith}
+use mathlib.Core.Bool.{Bool, true, false, cond, _||_}
+use mathlib.Core.List.{List}
+use lib.ListN.{length}
+use lib.Dec.{leb, eqb}
+use borrow.Author.Tests.{eqb-true, eqb-false, leb-true, eq-eqb, le-leb, ne-eqb}
+use Rattle.lists.specs.Truth.{both-hold}
+use Rattle.locks.specs.Wire.{rangeSize}
+use Rattle.chain.specs.Layout.{CLOSE, LOCKING, READ, WRITE, LOGOFF, wordCount, byteArea, byteCount, blockEnd, lockType, unlockCount, lockCount, dataLength, dataOffset}
+use Rattle.chain.specs.Grammar.{Shape, Bare, Ranges, Data, IsBlock, locking-10, locking-20, read-10, read-12, write-12, write-14, close, logoff, tree-disconnect, process-exit, NamedAndx, locking-andx, read-andx, write-andx, logoff-andx, Plain, close-plain, tree-disconnect-plain, process-exit-plain}
+use Rattle.chain.specs.Parse.{shaped, bare, isLarge, lockingFits, readFits, dataInside, writeFits}
+use Rattle.readings.specs.Cases.{test-cases, either-cases, both-true, either-left, either-right}
+
+-- the requests served: those named ANDX and the others
+pub data Served : ℕ → Type 0 where
+  plain : {command : ℕ} → Plain command → Served command
+  andx : {command : ℕ} → NamedAndx command → Served command
+
+-- the test of a block by its command; that of the AndX words stands apart
+unfoldable pub fits : List ℕ → ℕ → ℕ → Bool
+fits s command at =
+    cond (eqb command LOCKING) (lockingFits s at)
+    (cond (eqb command READ) (readFits s at)
+    (cond (eqb command WRITE) (writeFits s at)
+    (cond (eqb command CLOSE) (bare s at 3)
+    (cond (eqb command LOGOFF) (bare s at 2)
+    (bare s at 0)))))
+
+module _ (s : List ℕ) (at : ℕ) where
+  -- "A block is WordCount, the words, ByteCount, the bytes, all inside the message"
+  pub shaped-sound : (words : ℕ) → shaped s at words ≡ true → Shape s at words
+  unfolding shaped
+  shaped-sound words e =
+      let h = both-hold (eqb (wordCount s at) words) (leb (blockEnd s at) (length s)) e in
+      record { counted = eqb-true (wordCount s at) words (h .0); inside = leb-true (blockEnd s at) (length s) (h .1) }
+
+  pub shaped-complete : (words : ℕ) → Shape s at words → shaped s at words ≡ true
+  unfolding shaped
+  shaped-complete words h =
+      both-true (eqb (wordCount s at) words) (leb (blockEnd s at) (length s)) (eq-eqb (wordCount s at) words (h .counted))
+      (le-leb (blockEnd s at) (length s) (h .inside))
+
+  -- the rows with 0 bytes, over their word count
+  pub bare-sound : (words : ℕ) → bare s at words ≡ true → Bare s at words
+  unfolding bare
+  bare-sound words e =
+      let h = both-hold (shaped s at words) (eqb (byteCount s at) 0) e in
+      record { shape = shaped-sound words (h .0); empty = eqb-true (byteCount s at) 0 (h .1) }
+
+  pub bare-complete : (words : ℕ) → Bare s at words → bare s at words ≡ true
+  unfolding bare
+  bare-complete words h =
+      both-true (shaped s at words) (eqb (byteCount s at) 0) (shaped-complete words (h .shape)) (eq-eqb (byteCount s at) 0 (h .empty))
+
+  -- "(unlocks + locks) × 10, or × 20 with type bit 0x10"
+  ranges-sound : (large : Bool) → shaped s at 8 ≡ true
+      → eqb (byteCount s at) ((unlockCount s at + lockCount s at) * rangeSize large) ≡ true → Ranges s at (rangeSize large)
+  ranges-sound large p q =
+      record {
+        shape = shaped-sound 8 p;
+        announced = eqb-true (byteCount s at) ((unlockCount s at + lockCount s at) * rangeSize large) q;
+      }
+
+  ranges-complete : (large : Bool) → isLarge (lockType s at) ≡ large → Ranges s at (rangeSize large) → lockingFits s at ≡ true
+  unfolding lockingFits
+  ranges-complete large p h =
+      rw p
+      (both-true (shaped s at 8) (eqb (byteCount s at) ((unlockCount s at + lockCount s at) * rangeSize large)) (shaped-complete 8 (h .shape))
+      (eq-eqb (byteCount s at) ((unlockCount s at + lockCount s at) * rangeSize large) (h .announced)))
+
+  -- a lock type without bit 0x10
+  small-bit : isLarge (lockType s at) ≡ false → lockType s at / 16 % 2 ≡ 0
+  unfolding isLarge
+  small-bit e =
+      let other : lockType s at / 16 % 2 ≡ 1 → ⊥ = eqb-false (lockType s at / 16 % 2) 1 e in
+      omega (arith, other)
+
+  pub locking-sound : lockingFits s at ≡ true → IsBlock s at LOCKING
+  unfolding lockingFits isLarge rangeSize
+  locking-sound e =
+      let h = both-hold (shaped s at 8) (eqb (byteCount s at) ((unlockCount s at + lockCount s at) * rangeSize (isLarge (lockType s at)))) e in
+      test-cases (isLarge (lockType s at))
+      (λ p. locking-20 (eqb-true (lockType s at / 16 % 2) 1 p) (ranges-sound true (h .0) (rw p at (h .1))))
+      (λ p. locking-10 (small-bit p) (ranges-sound false (h .0) (rw p at (h .1))))
+
+  -- READ: 10 or 12 words
+  pub read-sound : readFits s at ≡ true → IsBlock s at READ
+  unfolding readFits
+  read-sound e = either-cases (bare s at 10) (bare s at 12) e (λ p. read-10 (bare-sound 10 p)) (λ p. read-12 (bare-sound 12 p))
+
+  -- "DataOffset is not before the byte area and DataOffset + DataLength not past its end"
+  data-sound : (words : ℕ) → shaped s at words ≡ true → dataInside s at ≡ true → Data s at words
+  unfolding dataInside
+  data-sound words p q =
+      let h = both-hold (leb (byteArea s at) (dataOffset s at)) (leb (dataOffset s at + dataLength s at) (blockEnd s at)) q in
+      record {
+        shape = shaped-sound words p;
+        starts = leb-true (byteArea s at) (dataOffset s at) (h .0);
+        ends = leb-true (dataOffset s at + dataLength s at) (blockEnd s at) (h .1);
+      }
+
+  data-inside : {words : ℕ} → Data s at words → dataInside s at ≡ true
+  unfolding dataInside
+  data-inside h =
+      both-true (leb (byteArea s at) (dataOffset s at)) (leb (dataOffset s at + dataLength s at) (blockEnd s at))
+      (le-leb (byteArea s at) (dataOffset s at) (h .starts)) (le-leb (dataOffset s at + dataLength s at) (blockEnd s at) (h .ends))
+
+  -- WRITE: 12 or 14 words
+  pub write-sound : writeFits s at ≡ true → IsBlock s at WRITE
+  unfolding writeFits
+  write-sound e =
+      let h = both-hold (shaped s at 12 || shaped s at 14) (dataInside s at) e in
+      either-cases (shaped s at 12) (shaped s at 14) (h .0) (λ p. write-12 (data-sound 12 p (h .1))) (λ p. write-14 (data-sound 14 p (h .1)))
+
+  -- the test of a request served finds a block of the table
+  pub fits-sound : {command : ℕ} → Served command → fits s command at ≡ true → IsBlock s at command
+  unfolding fits
+  fits-sound (plain close-plain) e = close (bare-sound 3 e)
+  fits-sound (plain tree-disconnect-plain) e = tree-disconnect (bare-sound 0 e)
+  fits-sound (plain process-exit-plain) e = process-exit (bare-sound 0 e)
+  fits-sound (andx locking-andx) e = locking-sound e
+  fits-sound (andx read-andx) e = read-sound e
+  fits-sound (andx write-andx) e = write-sound e
+  fits-sound (andx logoff-andx) e = logoff (bare-sound 2 e)
+
+  -- and every block of the table passes it
+  pub fits-complete : {command : ℕ} → IsBlock s at command → fits s command at ≡ true
+  unfolding fits lockingFits isLarge readFits writeFits rangeSize
+  fits-complete (locking-10 p h) = ranges-complete false (ne-eqb (lockType s at / 16 % 2) 1 (omega arith)) h
+  fits-complete (locking-20 p h) = ranges-complete true (eq-eqb (lockType s at / 16 % 2) 1 p) h
+  fits-complete (read-10 h) = either-left (bare s at 10) (bare s at 12) (bare-complete 10 h)
+  fits-complete (read-12 h) = either-right (bare s at 10) (bare s at 12) (bare-complete 12 h)
+  fits-complete (write-12 h) =
+      both-true (shaped s at 12 || shaped s at 14) (dataInside s at)
+      (either-left (shaped s at 12) (shaped s at 14) (shaped-complete 12 (h .shape))) (data-inside h)
+  fits-complete (write-14 h) =
+      both-true (shaped s at 12 || shaped s at 14) (dataInside s at)
+      (either-right (shaped s at 12) (shaped s at 14) (shaped-complete 14 (h .shape))) (data-inside h)
+  fits-complete (close h) = bare-complete 3 h
+  fits-complete (logoff h) = bare-complete 2 h
+  fits-complete (tree-disconnect h) = bare-complete 0 h
+  fits-complete (process-exit h) = bare-complete 0 h
+
+  -- so each test is its rows of the table, no more and no less
+  pub bare-exact : (words : ℕ) → (bare s at words ≡ true) ↔ Bare s at words
+  bare-exact words = (bare-sound words, bare-complete words)
+
+  pub locking-exact : (lockingFits s at ≡ true) ↔ IsBlock s at LOCKING
+  unfolding fits
+  locking-exact = (locking-sound, fits-complete)
+
+  pub read-exact : (readFits s at ≡ true) ↔ IsBlock s at READ
+  unfolding fits
+  read-exact = (read-sound, fits-complete)
+
+  pub write-exact : (writeFits s at ≡ true) ↔ IsBlock s at WRITE
+  unfolding fits
+  write-exact = (write-sound, fits-complete)
+
+  pub fits-exact : {command : ℕ} → Served command → (fits s command at ≡ true) ↔ IsBlock s at command
+  fits-exact served = (fits-sound served, fits-complete)

@@ -1,0 +1,12 @@
+pub mod Cases
+pub mod Follows
+pub mod BlockTests
+pub mod BlockParse
+pub mod ReaderSound
+pub mod ReaderComplete
+pub mod OneReading
+pub mod Moved
+pub mod FreeBytes
+pub mod MovedBytes
+pub mod Alone
+pub mod Chained

@@ -1,0 +1,267 @@
+-- A block that stands at another place, perhaps in another message, is read the same.
+-- Its AndX words may differ, and a WRITE block's DataOffset moves with it.
+-- Assumes nothing.
+use mathlib.Core.Path.{_≡_, refl, _∙_}
+use Prim.Native.Nat.{ℕ, _+_, _-_, _*_, _≤_, _<_}
+use native.Mathlib.Nat.{add-zero}
+use native.Mathlib.Omega.{arith}
+use mathlib.Core.Bool.{Bool, true, false}
+use mathlib.Core.List.{List}
+use lib.ListN.{length}
+use lib.Dec.{eqb}
+use borrow.Author.Tests.{eqb-true}
+use Rattle.wire.specs.LittleEndian.{byteAt, le16At, le32At}
+use Rattle.chain.specs.Layout.{CLOSE, LOCKING, READ, WRITE, wordCount, byteArea, byteCount, blockEnd, fidAfterAndx, lockType, unlockCount, lockCount, offsetLow, readMax, readOffsetHigh, dataLength, dataOffset, writeOffsetHigh, closeFid}
+use Rattle.chain.specs.Grammar.{Shape, Bare, Ranges, Data, IsBlock, locking-10, locking-20, read-10, read-12, write-12, write-14, close, logoff, tree-disconnect, process-exit, Plain, close-plain, tree-disconnect-plain, process-exit-plain}
+use Rattle.chain.specs.Parse.{wideOffset}
+use Rattle.chain.specs.declared.block.Body.{Body}
+use Rattle.chain.specs.declared.block.Body.the-variants.{Locking, Read, Write, Close, Logoff, TreeDisconnect, ProcessExit}
+use Rattle.readings.specs.BlockParse.{bodyAt}
+
+-- the length of the block at a place
+abbrev pub blockSize : List ℕ → ℕ → ℕ
+blockSize s at = blockEnd s at - at
+
+-- The bytes of a block that stay as they are, counted from its start: all of a request not named ANDX; of the others all but
+-- the four AndX words' bytes, 1 to 4, and of a WRITE block all but these and its DataOffset's bytes, 23 and 24.
+pub data Kept (command : ℕ) : ℕ → Type 0 where
+  kept-plain : {k : ℕ} → Plain command → Kept command k
+  kept-count : Kept command 0
+  kept-front : {k : ℕ} → 5 ≤ k → k < 23 → Kept command k
+  kept-behind : {k : ℕ} → 25 ≤ k → Kept command k
+  kept-not-write : {k : ℕ} → (command ≡ WRITE → ⊥) → 5 ≤ k → Kept command k
+
+-- "and a WRITE_ANDX's DataOffset less by what the block moved": the block at `at` in s stands at `to` in t
+pub record Moved (s : List ℕ) (at : ℕ) (t : List ℕ) (to : ℕ) (command : ℕ) : Type 0 where
+  pub kept : (k : ℕ) → k < blockSize s at → Kept command k → byteAt t (to + k) ≡ byteAt s (at + k)
+  pub inside : to + blockSize s at ≤ length t
+  pub data-moved : command ≡ WRITE → dataOffset t to + at ≡ dataOffset s at + to
+
+-- the fields of a block that moved: only the place of a WRITE block's data moves with it
+unfoldable pub movedBody : ℕ → ℕ → Body → Body
+movedBody at to (Locking f) = Locking f
+movedBody at to (Read f) = Read f
+movedBody at to (Write f) = Write (record { fid = f .fid; offset = f .offset; count = f .count; from = f .from + to - at })
+movedBody at to (Close fid) = Close fid
+movedBody at to Logoff = Logoff
+movedBody at to TreeDisconnect = TreeDisconnect
+movedBody at to ProcessExit = ProcessExit
+
+-- an offset of 32 or 64 bits: the upper half counts only where the block has it
+wide-same : (low low′ high high′ : ℕ) (wide : Bool) → low ≡ low′ → (wide ≡ true → high ≡ high′) → wideOffset low high wide ≡ wideOffset low′ high′ wide
+unfolding wideOffset
+wide-same low low′ high high′ true e f = rw (e, f refl)
+wide-same low low′ high high′ false e f = e
+
+-- the bytes behind the words stay as they are
+pub bytes-kept : {s : List ℕ} {at command : ℕ} → IsBlock s at command → (k : ℕ) → 1 + 2 * wordCount s at ≤ k → Kept command k
+bytes-kept (locking-10 p h) k e = kept-not-write {k = k} (omega arith) (omega arith)
+bytes-kept (locking-20 p h) k e = kept-not-write {k = k} (omega arith) (omega arith)
+bytes-kept (read-10 h) k e = kept-not-write {k = k} (omega arith) (omega arith)
+bytes-kept (read-12 h) k e = kept-not-write {k = k} (omega arith) (omega arith)
+bytes-kept (write-12 h) k e = kept-behind {k = k} (omega arith)
+bytes-kept (write-14 h) k e = kept-behind {k = k} (omega arith)
+bytes-kept (close h) k e = kept-plain close-plain
+bytes-kept (logoff h) k e = kept-not-write {k = k} (omega arith) (omega arith)
+bytes-kept (tree-disconnect h) k e = kept-plain tree-disconnect-plain
+bytes-kept (process-exit h) k e = kept-plain process-exit-plain
+
+module _ {s : List ℕ} {at : ℕ} {t : List ℕ} {to : ℕ} {command : ℕ} (m : Moved s at t to command) where
+  -- two bytes that are kept
+  kept-16 : (k : ℕ) → k + 1 < blockSize s at → Kept command k → Kept command (k + 1) → le16At t (to + k) ≡ le16At s (at + k)
+  unfolding le16At
+  kept-16 k h p q =
+      let a : byteAt t (to + k) ≡ byteAt s (at + k) = m .kept k (omega arith) p in
+      let b : byteAt t (to + (k + 1)) ≡ byteAt s (at + (k + 1)) = m .kept (k + 1) h q in
+      let e : to + k + 1 ≡ to + (k + 1) = omega arith in
+      let f : at + k + 1 ≡ at + (k + 1) = omega arith in
+      rw (e, f, a, b)
+
+  -- four bytes that are kept
+  kept-32 : (k : ℕ) → k + 3 < blockSize s at → ((i : ℕ) → k ≤ i → i < k + 4 → Kept command i) → le32At t (to + k) ≡ le32At s (at + k)
+  unfolding le32At
+  kept-32 k h p =
+      let a : le16At t (to + k) ≡ le16At s (at + k) = kept-16 k (omega arith) (p k (omega arith) (omega arith)) (p (k + 1) (omega arith) (omega arith)) in
+      let b : le16At t (to + (k + 2)) ≡ le16At s (at + (k + 2)) =
+      kept-16 (k + 2) (omega arith) (p (k + 2) (omega arith) (omega arith)) (p (k + 2 + 1) (omega arith) (omega arith)) in
+      let e : to + k + 2 ≡ to + (k + 2) = omega arith in
+      let f : at + k + 2 ≡ at + (k + 2) = omega arith in
+      rw (e, f, a, b)
+
+  -- a number of two bytes, and one of four, behind the AndX words and before the DataOffset
+  front-16 : (k : ℕ) → 5 ≤ k → k + 1 < 23 → k + 1 < blockSize s at → le16At t (to + k) ≡ le16At s (at + k)
+  front-16 k a b h = kept-16 k h (kept-front (omega arith) (omega arith)) (kept-front (omega arith) (omega arith))
+
+  front-32 : (k : ℕ) → 5 ≤ k → k + 3 < 23 → k + 3 < blockSize s at → le32At t (to + k) ≡ le32At s (at + k)
+  front-32 k a b h = kept-32 k h (λ i p q. kept-front (omega arith) (omega arith))
+
+  -- the number of words
+  pub moved-words : wordCount t to ≡ wordCount s at
+  moved-words =
+      let z : byteAt t (to + 0) ≡ byteAt s (at + 0) = m .kept 0 (omega arith) kept-count in
+      rw (add-zero to, add-zero at) at z
+
+  -- the fields of the words, where there are so many words
+  pub moved-fid : 2 ≤ wordCount s at → fidAfterAndx t to ≡ fidAfterAndx s at
+  moved-fid h = front-16 5 (omega arith) (omega arith) (omega arith)
+
+  pub moved-kind : 3 ≤ wordCount s at → lockType t to ≡ lockType s at
+  moved-kind h = m .kept 7 (omega arith) (kept-front (omega arith) (omega arith))
+
+  pub moved-unlocks : 6 ≤ wordCount s at → unlockCount t to ≡ unlockCount s at
+  moved-unlocks h = front-16 13 (omega arith) (omega arith) (omega arith)
+
+  pub moved-locks : 7 ≤ wordCount s at → lockCount t to ≡ lockCount s at
+  moved-locks h = front-16 15 (omega arith) (omega arith) (omega arith)
+
+  pub moved-low : 4 ≤ wordCount s at → offsetLow t to ≡ offsetLow s at
+  moved-low h = front-32 7 (omega arith) (omega arith) (omega arith)
+
+  pub moved-max : 5 ≤ wordCount s at → readMax t to ≡ readMax s at
+  moved-max h = front-16 11 (omega arith) (omega arith) (omega arith)
+
+  pub moved-length : 10 ≤ wordCount s at → dataLength t to ≡ dataLength s at
+  moved-length h = front-16 21 (omega arith) (omega arith) (omega arith)
+
+  pub moved-close-fid : Plain command → closeFid t to ≡ closeFid s at
+  moved-close-fid p = kept-16 1 (omega arith) (kept-plain p) (kept-plain p)
+
+  -- the whole offset of a READ block
+  pub moved-read-offset : (command ≡ WRITE → ⊥) → 4 ≤ wordCount s at
+      → wideOffset (offsetLow t to) (readOffsetHigh t to) (eqb (wordCount t to) 12)
+      ≡ wideOffset (offsetLow s at) (readOffsetHigh s at) (eqb (wordCount s at) 12)
+  moved-read-offset n h =
+      rw moved-words
+      (wide-same (offsetLow t to) (offsetLow s at) (readOffsetHigh t to) (readOffsetHigh s at) (eqb (wordCount s at) 12) (moved-low h)
+      (λ e. let w : wordCount s at ≡ 12 = eqb-true (wordCount s at) 12 e in kept-32 21 (omega arith) (λ i p q. kept-not-write {k = i} n (omega arith))))
+
+  -- the whole offset of a WRITE block
+  pub moved-write-offset : 4 ≤ wordCount s at
+      → wideOffset (offsetLow t to) (writeOffsetHigh t to) (eqb (wordCount t to) 14)
+      ≡ wideOffset (offsetLow s at) (writeOffsetHigh s at) (eqb (wordCount s at) 14)
+  moved-write-offset h =
+      rw moved-words
+      (wide-same (offsetLow t to) (offsetLow s at) (writeOffsetHigh t to) (writeOffsetHigh s at) (eqb (wordCount s at) 14) (moved-low h)
+      (λ e. let w : wordCount s at ≡ 14 = eqb-true (wordCount s at) 14 e in kept-32 25 (omega arith) (λ i p q. kept-behind {k = i} (omega arith))))
+
+  module _ (h : IsBlock s at command) where
+    -- the number of bytes
+    pub moved-count : byteCount t to ≡ byteCount s at
+    moved-count =
+        let e : to + 1 + 2 * wordCount s at ≡ to + (1 + 2 * wordCount s at) = omega arith in
+        let f : at + 1 + 2 * wordCount s at ≡ at + (1 + 2 * wordCount s at) = omega arith in
+        let g : le16At t (to + (1 + 2 * wordCount s at)) ≡ le16At s (at + (1 + 2 * wordCount s at)) =
+        kept-16 (1 + 2 * wordCount s at) (omega arith) (bytes-kept h (1 + 2 * wordCount s at) (omega arith))
+        (bytes-kept h (1 + 2 * wordCount s at + 1) (omega arith)) in
+        rw (moved-words, e, g, f)
+
+    -- where its bytes start
+    pub moved-area : byteArea t to + at ≡ byteArea s at + to
+    moved-area = let e = moved-words in omega arith
+
+    -- where the block ends
+    pub moved-end : blockEnd t to ≡ to + blockSize s at
+    moved-end = let e = moved-words in let f = moved-count in omega arith
+
+    -- the same length
+    pub moved-size : blockSize t to ≡ blockSize s at
+    moved-size = let e = moved-end in omega arith
+
+    -- its bytes, one by one
+    pub moved-bytes : (k : ℕ) → k < byteCount s at → byteAt t (byteArea t to + k) ≡ byteAt s (byteArea s at + k)
+    moved-bytes k l =
+        let e : to + 3 + 2 * wordCount s at + k ≡ to + (3 + 2 * wordCount s at + k) = omega arith in
+        let f : at + 3 + 2 * wordCount s at + k ≡ at + (3 + 2 * wordCount s at + k) = omega arith in
+        let g : byteAt t (to + (3 + 2 * wordCount s at + k)) ≡ byteAt s (at + (3 + 2 * wordCount s at + k)) =
+        m .kept (3 + 2 * wordCount s at + k) (omega arith) (bytes-kept h (3 + 2 * wordCount s at + k) (omega arith)) in
+        rw (moved-words, e, g, f)
+
+    -- the same shape, inside the other message
+    moved-shape : {words : ℕ} → Shape s at words → Shape t to words
+    moved-shape shape =
+        let e = moved-end in
+        let i = m .inside in
+        record { counted = moved-words ∙ shape .counted; inside = omega arith }
+
+    moved-bare : {words : ℕ} → Bare s at words → Bare t to words
+    moved-bare b = record { shape = moved-shape (b .shape); empty = moved-count ∙ b .empty }
+
+    -- the same ranges
+    moved-ranges : {size : ℕ} → Ranges s at size → Ranges t to size
+    moved-ranges {size} r =
+        let w : wordCount s at ≡ 8 = r .shape .counted in
+        let u : unlockCount t to ≡ unlockCount s at = moved-unlocks (omega arith) in
+        let l : lockCount t to ≡ lockCount s at = moved-locks (omega arith) in
+        record { shape = moved-shape (r .shape); announced = moved-count ∙ rw (u, l) (r .announced) }
+
+    -- the data inside the bytes again
+    moved-data : {words : ℕ} → command ≡ WRITE → 10 ≤ words → Data s at words → Data t to words
+    moved-data c w d =
+        let n : 10 ≤ wordCount s at = rw (d .shape .counted) w in
+        let l : dataLength t to ≡ dataLength s at = moved-length n in
+        let o : dataOffset t to + at ≡ dataOffset s at + to = m .data-moved c in
+        let a : byteArea t to + at ≡ byteArea s at + to = moved-area in
+        let e : blockEnd t to ≡ to + blockSize s at = moved-end in
+        let b : byteArea s at ≤ dataOffset s at = d .starts in
+        let f : dataOffset s at + dataLength s at ≤ blockEnd s at = d .ends in
+        record { shape = moved-shape (d .shape); starts = omega arith; ends = omega arith }
+
+-- "each block in turn makes a message ..., then the block at 32": a block that moved is a block by the same row of the table
+pub moved-block : {s : List ℕ} {at : ℕ} {t : List ℕ} {to command : ℕ} → IsBlock s at command → Moved s at t to command → IsBlock t to command
+moved-block {s} {at} (locking-10 p h) m =
+    let w : 3 ≤ wordCount s at = omega arith in
+    locking-10 (rw (moved-kind m w) p) (moved-ranges m (locking-10 p h) h)
+moved-block {s} {at} (locking-20 p h) m =
+    let w : 3 ≤ wordCount s at = omega arith in
+    locking-20 (rw (moved-kind m w) p) (moved-ranges m (locking-20 p h) h)
+moved-block (read-10 h) m = read-10 (moved-bare m (read-10 h) h)
+moved-block (read-12 h) m = read-12 (moved-bare m (read-12 h) h)
+moved-block (write-12 h) m = write-12 (moved-data m (write-12 h) refl (omega arith) h)
+moved-block (write-14 h) m = write-14 (moved-data m (write-14 h) refl (omega arith) h)
+moved-block (close h) m = close (moved-bare m (close h) h)
+moved-block (logoff h) m = logoff (moved-bare m (logoff h) h)
+moved-block (tree-disconnect h) m = tree-disconnect (moved-bare m (tree-disconnect h) h)
+moved-block (process-exit h) m = process-exit (moved-bare m (process-exit h) h)
+
+-- a LOCKING block's fields
+moved-locking-body : {s : List ℕ} {at : ℕ} {t : List ℕ} {to : ℕ} → wordCount s at ≡ 8 → Moved s at t to LOCKING
+    → bodyAt t LOCKING to ≡ movedBody at to (bodyAt s LOCKING at)
+unfolding bodyAt movedBody
+moved-locking-body w m =
+    rw (moved-fid m (omega arith), moved-kind m (omega arith), moved-unlocks m (omega arith), moved-locks m (omega arith))
+
+-- a READ block's
+moved-read-body : {s : List ℕ} {at : ℕ} {t : List ℕ} {to : ℕ} → 10 ≤ wordCount s at → Moved s at t to READ
+    → bodyAt t READ to ≡ movedBody at to (bodyAt s READ at)
+unfolding bodyAt movedBody
+moved-read-body w m = rw (moved-fid m (omega arith), moved-read-offset m (omega arith) (omega arith), moved-max m (omega arith))
+
+-- a WRITE block's, with the data's place moved
+moved-write-body : {s : List ℕ} {at : ℕ} {t : List ℕ} {to words : ℕ} → 12 ≤ wordCount s at → Data s at words → Moved s at t to WRITE
+    → bodyAt t WRITE to ≡ movedBody at to (bodyAt s WRITE at)
+unfolding bodyAt movedBody
+moved-write-body {s} {at} {t} {to} w d m =
+    let o : dataOffset t to + at ≡ dataOffset s at + to = m .data-moved refl in
+    let b : byteArea s at ≤ dataOffset s at = d .starts in
+    let e : dataOffset t to ≡ dataOffset s at + to - at = omega arith in
+    rw (moved-fid m (omega arith), moved-write-offset m (omega arith), moved-length m (omega arith), e)
+
+-- a CLOSE block's
+moved-close-body : {s : List ℕ} {at : ℕ} {t : List ℕ} {to : ℕ} → Moved s at t to CLOSE → bodyAt t CLOSE to ≡ movedBody at to (bodyAt s CLOSE at)
+unfolding bodyAt movedBody
+moved-close-body m = rw (moved-close-fid m close-plain)
+
+-- the fields that the reader yields are the same, and those of a WRITE block with the data's place moved
+pub moved-body : {s : List ℕ} {at : ℕ} {t : List ℕ} {to command : ℕ} → IsBlock s at command → Moved s at t to command
+    → bodyAt t command to ≡ movedBody at to (bodyAt s command at)
+unfolding bodyAt movedBody
+moved-body (locking-10 p h) m = moved-locking-body (h .shape .counted) m
+moved-body (locking-20 p h) m = moved-locking-body (h .shape .counted) m
+moved-body (read-10 h) m = moved-read-body (omega arith) m
+moved-body (read-12 h) m = moved-read-body (omega arith) m
+moved-body (write-12 h) m = moved-write-body (omega arith) h m
+moved-body (write-14 h) m = moved-write-body (omega arith) h m
+moved-body (close h) m = moved-close-body m
+moved-body (logoff h) m = refl
+moved-body (tree-disconnect h) m = refl
+moved-body (process-exit h) m = refl

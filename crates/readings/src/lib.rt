@@ -1,0 +1,1 @@
+// Theorems on the grammar and the reader; no code.
