@@ -1,4 +1,5 @@
 pub mod Layout
+pub mod Header
 pub mod Grammar
 pub mod Parse
 pub mod Chain
