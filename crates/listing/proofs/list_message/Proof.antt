@@ -1,0 +1,80 @@
+-- `listing::list_message` meets its contract: one text for each of the three answers.
+-- Assumes nothing.
+use Rattle.listing.proofs.Lines.{listing-dropped, listing-none, sentence-read, listing-lines}
+use Rattle.listing.specs.Text.{droppedLine, notChain}
+use mathlib.Core.Path.{sym, _∙_}
+use native.Mathlib.Omega.{arith}
+use borrow.Author.Needs.{needs}
+use Rattle.listing.proofs.list_message.Statement.{statement}
+use Rattle.listing.proofs.list_message.Tie as tie
+
+is-dropped-requires : tie.Need-is-dropped-requires
+is-dropped-requires c κs = search needs
+
+slice-aggregate-put-text : tie.Need-slice-aggregate-put-text
+slice-aggregate-put-text c = search needs
+
+put-text-requires : tie.Need-put-text-requires
+put-text-requires c κs = search needs
+
+same-length : tie.Need-same-length
+same-length c = search needs
+
+returns : tie.Need-returns
+unfolding droppedLine
+returns c = rw (listing-dropped (c .before .before .before .before .before .before .before .before .before .args .s .now) (sym (c .before .before .before .before .before .before .is-dropped .ensures) ∙ c .before .before .before .before .before .if1 .taken)) (c .before .before .put-text .ensures)
+
+byte-at-requires : tie.Need-byte-at-requires
+byte-at-requires c κs = search needs
+
+read-chain-requires : tie.Need-read-chain-requires
+read-chain-requires c κs = search needs
+
+enum-told : tie.Need-enum-told
+enum-told c = search needs
+
+enum-told-2 : tie.Need-enum-told-2
+enum-told-2 c = search needs
+
+slice-aggregate-put-text-2 : tie.Need-slice-aggregate-put-text-2
+slice-aggregate-put-text-2 c = search needs
+
+put-text-requires-2 : tie.Need-put-text-requires-2
+put-text-requires-2 c κs = search needs
+
+same-length-2 : tie.Need-same-length-2
+same-length-2 c = search needs
+
+returns-2 : tie.Need-returns-2
+unfolding notChain
+returns-2 c = rw (listing-none (c .before .before .before .before .before .before .before .before .before .before .before .before .before .args .s .now) (c .before .before .before .before .before .before .before .before .byte-at .result) (c .before .before .before .before .before .before .before .before .byte-at .ensures) (sym (c .before .before .before .before .before .before .before .before .before .before .is-dropped .ensures) ∙ c .before .before .before .before .before .before .before .before .before .if1 .left) (sym (c .before .before .before .before .before .enum-told2 .given .1) ∙ c .before .before .before .before .before .before .before .read-chain .ensures)) (c .before .before .put-text2 .ensures)
+
+put-blocks-requires : tie.Need-put-blocks-requires
+put-blocks-requires c κs = (omega arith, sentence-read (c .before .before .before .before .before .before .before .before .before .args .s .now) (c .before .before .before .before .byte-at .result) (c .before .before .before .before .byte-at .ensures) _ (sym (c .before .enum-told .given .1) ∙ c .before .before .before .read-chain .ensures))
+
+same-length-3 : tie.Need-same-length-3
+same-length-3 c = search needs
+
+returns-3 : tie.Need-returns-3
+returns-3 c = rw (listing-lines (c .before .before .before .before .before .before .before .before .before .before .before .before .args .s .now) (c .before .before .before .before .before .before .before .byte-at .result) (c .before .before .before .before .before .before .before .byte-at .ensures) _ (sym (c .before .before .before .before .enum-told .given .1) ∙ c .before .before .before .before .before .before .read-chain .ensures) (sym (c .before .before .before .before .before .before .before .before .before .is-dropped .ensures) ∙ c .before .before .before .before .before .before .before .before .if1 .left)) (c .before .before .put-blocks .ensures)
+
+pub list-message-spec : {M : Type 1} → statement M
+list-message-spec =
+    tie.close
+    (tie.spec
+    is-dropped-requires
+    slice-aggregate-put-text
+    put-text-requires
+    same-length
+    returns
+    byte-at-requires
+    read-chain-requires
+    enum-told
+    enum-told-2
+    slice-aggregate-put-text-2
+    put-text-requires-2
+    same-length-2
+    returns-2
+    put-blocks-requires
+    same-length-3
+    returns-3)

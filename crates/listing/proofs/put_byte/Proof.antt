@@ -1,0 +1,25 @@
+-- `listing::put_byte` meets its contract: the byte is written where the buffer has its place, and else nothing is.
+-- Assumes nothing.
+use Rattle.listing.proofs.Overlaid.{written-byte, written-none}
+use native.Mathlib.Omega.{arith}
+use borrow.Author.Needs.{needs}
+use Rattle.listing.proofs.put_byte.Statement.{statement}
+use Rattle.listing.proofs.put_byte.Tie as tie
+
+slice-write-out : tie.Need-slice-write-out
+slice-write-out c = search needs
+
+add-result : tie.Need-add-result
+add-result c = search needs
+
+same-length : tie.Need-same-length
+same-length c = search needs
+
+returns : tie.Need-returns
+returns c = written-byte (c .before .args .out .now) (c .before .args .at) (c .before .args .b) (omega arith)
+
+returns-2 : tie.Need-returns-2
+returns-2 c = written-none (c .before .args .out .now) (c .before .args .at) (c .before .args .b) (omega arith)
+
+pub put-byte-spec : {M : Type 1} → statement M
+put-byte-spec = tie.close (tie.spec slice-write-out add-result same-length returns returns-2)

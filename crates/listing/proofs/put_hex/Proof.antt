@@ -1,0 +1,37 @@
+-- `listing::put_hex` meets its contract: one digit behind the other.
+-- Assumes nothing.
+use Rattle.listing.proofs.Overlaid.{written-then}
+use Rattle.listing.specs.Text.{hexByte}
+use borrow.Author.Needs.{needs}
+use Rattle.listing.proofs.put_hex.Statement.{statement}
+use Rattle.listing.proofs.put_hex.Tie as tie
+
+hex-digit-requires : tie.Need-hex-digit-requires
+hex-digit-requires c κs = search needs
+
+put-byte-requires : tie.Need-put-byte-requires
+put-byte-requires c κs = search needs
+
+hex-digit-requires-2 : tie.Need-hex-digit-requires-2
+hex-digit-requires-2 c κs = search needs
+
+put-byte-requires-2 : tie.Need-put-byte-requires-2
+put-byte-requires-2 c κs = search needs
+
+same-length : tie.Need-same-length
+same-length c = search needs
+
+returns : tie.Need-returns
+unfolding hexByte
+returns c = rw (← (c .before .before .before .before .before .before .before .before .hex-digit .ensures), ← (c .before .before .before .hex-digit2 .ensures)) (written-then (c .before .before .before .before .before .before .before .put-byte .ensures) (c .before .before .put-byte2 .ensures))
+
+pub put-hex-spec : {M : Type 1} → statement M
+put-hex-spec =
+    tie.close
+    (tie.spec
+    hex-digit-requires
+    put-byte-requires
+    hex-digit-requires-2
+    put-byte-requires-2
+    same-length
+    returns)

@@ -1,0 +1,114 @@
+// The chain lister's text, written into a lent buffer: `list_message` (document 01, "A listing, whole").
+
+use chain::block::Block;
+use chain::block::Next;
+use chain::block::Parsed;
+use chain::header::is_dropped;
+use chain::parse::parse_block;
+use chain::reader::Chain;
+use chain::reader::read_chain;
+ghost use mathlib.Core.Path.{_≡_};
+ghost use mathlib.Core.List.{_∷_, []};
+ghost use Prim.Native.Nat.{_≤_};
+ghost use Rattle.chain.specs.Chain.{blocksFrom};
+ghost use Rattle.listing.specs.Text.{decimal, hexDigit, hexByte, line, listing};
+ghost use Rattle.listing.specs.Chained.{Sentence, linesOf};
+ghost use Rattle.listing.specs.Over.{Written};
+
+// A byte at a place, where the buffer has it; the next place.
+fn put_byte(out: &mut [u8], at: usize, b: u8) -> usize
+    ensures { λ r. ⌜ Written (now (out .entry)) at (b ∷ []) (now (out .exit)) r ⌝ }
+{
+    if at < out.len() {
+        out[at] = b;
+        return at + 1;
+    }
+    at
+}
+
+// A text from a place on; the next place.
+fn put_text(out: &mut [u8], at: usize, text: &[u8]) -> usize
+    ensures { λ r. ⌜ Written (now (out .entry)) at (now (text .entry)) (now (out .exit)) r ⌝ }
+{
+    let mut to = at;
+    let mut i: usize = 0;
+    while i < text.len() {
+        to = put_byte(out, to, text[i]);
+        i += 1;
+    }
+    to
+}
+
+// A number in decimal: its last digit behind those before it.
+fn put_decimal(out: &mut [u8], at: usize, n: usize) -> usize
+    ensures { λ r. ⌜ Written (now (out .entry)) at (decimal n) (now (out .exit)) r ⌝ }
+{
+    if n < 10 {
+        return put_byte(out, at, 48 + (n % 10) as u8);
+    }
+    let to = put_decimal(out, at, n / 10);
+    put_byte(out, to, 48 + (n % 10) as u8)
+}
+
+// A digit in hex.
+fn hex_digit(d: u8) -> u8
+    requires { ⌜ d ≤ 15 ⌝ }
+    ensures { λ r. ⌜ r ≡ hexDigit d ⌝ }
+{
+    if d < 10 { 48 + d } else { 55 + d }
+}
+
+// A byte as two digits in hex.
+fn put_hex(out: &mut [u8], at: usize, b: u8) -> usize
+    ensures { λ r. ⌜ Written (now (out .entry)) at (hexByte b) (now (out .exit)) r ⌝ }
+{
+    let to = put_byte(out, at, hex_digit(b / 16));
+    put_byte(out, to, hex_digit(b % 16))
+}
+
+// The line of a block that stands k-th.
+fn put_line(out: &mut [u8], at: usize, k: usize, b: Block) -> usize
+    ensures { λ r. ⌜ Written (now (out .entry)) at (line k b) (now (out .exit)) r ⌝ }
+{
+    let a1 = put_decimal(out, at, k);
+    let a2 = put_byte(out, a1, 32);
+    let a3 = put_hex(out, a2, b.command);
+    let a4 = put_byte(out, a3, 32);
+    let a5 = put_decimal(out, a4, b.at);
+    let a6 = put_byte(out, a5, 32);
+    let a7 = put_decimal(out, a6, b.length);
+    put_byte(out, a7, 10)
+}
+
+// The lines of a chain's blocks from the k-th on, which begins with that command at that place, then
+// `end`. A block takes three bytes at least, so k stays below the place.
+fn put_blocks(s: &[u8], out: &mut [u8], at: usize, k: usize, command: u8, place: usize) -> usize
+    requires { ⌜ k ≤ place ⌝ }
+    requires { ⌜ Sentence (now s) command place ⌝ }
+    ensures { λ r. ⌜ Written (now (out .entry)) at (linesOf k (blocksFrom (now (s .entry)) command place)) (now (out .exit)) r ⌝ }
+{
+    let Parsed::Whole(b) = parse_block(s, command, place) else {
+        return at;
+    };
+    let to = put_line(out, at, k, b);
+    let next = b.next;
+    let Next::Follow(then, then_place) = next else {
+        return put_text(out, to, b"end\n");
+    };
+    put_blocks(s, out, to, k + 1, then, then_place)
+}
+
+// What the lister prints for a message, as far as the buffer has room; how many bytes that is.
+pub fn list_message(s: &[u8], out: &mut [u8]) -> usize
+    ensures { λ r. ⌜ Written (now (out .entry)) 0 (listing (now (s .entry))) (now (out .exit)) r ⌝ }
+{
+    if is_dropped(s) {
+        return put_text(out, 0, b"dropped\n");
+    }
+    let command = wire::byte_at(s, 4);
+    let chain = read_chain(s, command, 32);
+    let Chain::Sentence(_) = chain else {
+        return put_text(out, 0, b"not a chain\n");
+    };
+    put_blocks(s, out, 0, 1, command, 32)
+}
