@@ -1,0 +1,15 @@
+-- The header's numbers (document 01, "Header"): little-endian, "TID 24, PIDLow 26, UID 28, MID 30". "The process number is
+-- PIDLow." Assumes nothing.
+use Prim.Native.Nat.{ℕ}
+use mathlib.Core.List.{List}
+use Rattle.wire.specs.LittleEndian.{le16At}
+
+-- who sends a message: its connection, and the session, tree and process that the header names
+pub record Caller : Type 0 where
+  pub connection : ℕ
+  pub uid : ℕ
+  pub tid : ℕ
+  pub process : ℕ
+
+unfoldable pub callerOf : ℕ → List ℕ → Caller
+callerOf connection s = record { connection = connection; uid = le16At s 28; tid = le16At s 24; process = le16At s 26 }

@@ -1,0 +1,175 @@
+-- What one command does (document 01, "Refusals on the wire" for the order, "Locks, reads and writes" for the rest). It takes
+-- the caller's numbers, the command's fields and its bytes, never its place, and gives a refusal or the new state with what
+-- its reply block says. Assumes nothing.
+use Prim.Native.Nat.{ℕ, _+_, _/_, _%_}
+use mathlib.Core.Bool.{Bool, true, false, cond, not, _&&_, _||_}
+use mathlib.Core.List.{List, []}
+use lib.ListN.{length, take, drop, getD}
+use lib.Dec.{ltb, eqb}
+use Rattle.lists.specs.Walk.{any, found}
+use Rattle.lists.specs.declared.Found.{Found}
+use Rattle.lists.specs.declared.Found.the-variants.{At, Nothing}
+use Rattle.records.specs.declared.Session.{Session}
+use Rattle.records.specs.declared.Open.{Open}
+use Rattle.records.specs.declared.Lock.{Lock}
+use Rattle.records.specs.declared.Tables.{Tables}
+use Rattle.records.specs.Empty.{noOpen}
+use Rattle.records.specs.Held.{sessionsOf, treesOf, opensOf, locksOf}
+use Rattle.locks.specs.Answer.{answers}
+use Rattle.locks.specs.Request.{locking}
+use Rattle.locks.specs.declared.types.Ask.{Ask}
+use Rattle.locks.specs.declared.types.Request.{Request}
+use Rattle.locks.specs.declared.types.Locking.{Locking}
+use Rattle.locks.specs.declared.types.Outcome.{Outcome}
+use Rattle.locks.specs.declared.types.Outcome.the-variants.{Done, Malformed as BadRanges, NoSuchLock as NoLock, PassesEnd as PastEnd, Conflict as InWay, NoRecord as NoRoom}
+use Rattle.locks.specs.declared.types.Purpose.{Purpose}
+use Rattle.locks.specs.declared.types.Purpose.the-variants.{Read as Reading, Write as Writing}
+use Rattle.soundness.specs.File.{fileOf}
+use Rattle.soundness.specs.Lookup.{isTree}
+use Rattle.removal.specs.Removal.{remove}
+use Rattle.removal.specs.declared.Gone.{Gone}
+use Rattle.removal.specs.declared.Gone.the-variants.{Session as UserGone, Tree as TreeGone, Open as OpenGone, Process as ProcessGone}
+use Rattle.chain.specs.declared.block.LockingFields.{LockingFields}
+use Rattle.chain.specs.declared.block.ReadFields.{ReadFields}
+use Rattle.chain.specs.declared.block.WriteFields.{WriteFields}
+use Rattle.chain.specs.declared.block.Body.{Body}
+use Rattle.chain.specs.declared.block.Body.the-variants.{Locking as LockingBody, Read as ReadBody, Write as WriteBody, Close, Logoff, TreeDisconnect, ProcessExit}
+use Rattle.message.specs.Caller.{Caller}
+use Rattle.message.specs.Contents.{readBytes, written, resized}
+use Rattle.message.specs.declared.refusal.Refusal.{Refusal}
+use Rattle.message.specs.declared.refusal.Refusal.the-variants.{NotSentence, NoSession, NoTree, NoOpen, NoAccess, LockType, NoSuchLock, PassesEnd, Conflict, NoRecord, NoSpace}
+
+-- what a command's reply block says
+pub data Said : Type 0 where
+  locked : Said
+  loggedOff : Said
+  read : List ℕ → Said
+  wrote : ℕ → Said
+  plain : Said
+
+-- a command refused, or done: the tables and the file memory it leaves, and what it says
+pub data Given : Type 0 where
+  refused : Refusal → Given
+  done : Tables → List ℕ → Said → Given
+
+-- ---- who may ask
+
+-- "no session of that UID on this connection"
+unfoldable pub isSession : Caller → Session → Bool
+isSession c s = eqb (s .uid) (c .uid) && eqb (s .connection) (c .connection)
+
+unfoldable pub withSession : Caller → Tables → Given → Given
+withSession c t next = cond (any (isSession c) (sessionsOf t)) next (refused NoSession)
+
+-- "no tree of that TID and UID"
+unfoldable pub withTree : Caller → Tables → Given → Given
+withTree c t next = withSession c t (cond (any (isTree (c .tid) (c .uid)) (treesOf t)) next (refused NoTree))
+
+-- "no open of that FID, UID and TID"
+unfoldable pub isOpen : Caller → ℕ → Open → Bool
+isOpen c fid o = eqb (o .fid) fid && (eqb (o .uid) (c .uid) && eqb (o .tid) (c .tid))
+
+unfoldable pub openAt : Found → List Open → (Open → Given) → Given
+openAt (At k) opens next = next (getD opens k noOpen)
+openAt Nothing opens next = refused NoOpen
+
+unfoldable pub withOpen : Caller → Tables → ℕ → (Open → Given) → Given
+withOpen c t fid next = withTree c t (openAt (found (isOpen c fid) (opensOf t)) (opensOf t) next)
+
+-- ---- LOCKING
+
+-- "lock type bit other than 0x01 and 0x10"
+unfoldable pub servedType : ℕ → Bool
+servedType kind = eqb kind 0 || (eqb kind 1 || (eqb kind 16 || eqb kind 17))
+
+-- "Type bit 0x01 means shared"
+unfoldable pub requestOf : LockingFields → Request
+requestOf f =
+    record {
+      fid = f .fid;
+      shared = eqb (f .kind % 2) 1;
+      large = eqb (f .kind / 16 % 2) 1;
+      unlocks = f .unlocks;
+      locks = f .locks;
+    }
+
+unfoldable pub withLockList : Tables → List Lock → ℕ → Tables
+withLockList t locks count =
+    record {
+      sessions = t .sessions;
+      nsessions = t .nsessions;
+      trees = t .trees;
+      ntrees = t .ntrees;
+      opens = t .opens;
+      nopens = t .nopens;
+      locks = locks;
+      nlocks = count;
+      files = t .files;
+    }
+
+unfoldable pub lockingEnd : Outcome → Tables → List ℕ → Locking → Given
+lockingEnd Done t memory l = done (withLockList t (l .locks) (l .count)) memory locked
+lockingEnd BadRanges t memory l = refused NotSentence
+lockingEnd NoLock t memory l = refused NoSuchLock
+lockingEnd PastEnd t memory l = refused PassesEnd
+lockingEnd (InWay place) t memory l = refused (Conflict place)
+lockingEnd NoRoom t memory l = refused NoRecord
+
+unfoldable pub lockingAfter : Tables → List ℕ → Locking → Given
+lockingAfter t memory l = lockingEnd (l .outcome) t memory l
+
+unfoldable pub doLocking : Caller → Tables → List ℕ → LockingFields → List ℕ → Given
+doLocking c t memory f area =
+    withOpen c t (f .fid)
+    (λ o.
+    cond (servedType (f .kind))
+    (lockingAfter t memory (locking (fileOf (opensOf t)) (t .locks) (t .nlocks) (requestOf f) area))
+    (refused LockType))
+
+-- ---- reading and writing
+
+-- the header's process asks for the range, through the FID
+unfoldable pub askOf : Caller → ℕ → ℕ → ℕ → Purpose → Ask
+askOf c fid offset count purpose = record { fid = fid; process = c .process; offset = offset; length = count; purpose = purpose }
+
+unfoldable pub unlessBarred : Found → Given → Given
+unlessBarred (At place) next = refused (Conflict place)
+unlessBarred Nothing next = next
+
+unfoldable pub barring : Tables → Ask → Found
+barring t q = found (answers (fileOf (opensOf t)) q) (locksOf t)
+
+-- "1/5 is a read on access 1"
+unfoldable pub doRead : Caller → Tables → List ℕ → ReadFields → Given
+doRead c t memory f =
+    withOpen c t (f .fid)
+    (λ o.
+    cond (eqb (o .access) 1) (refused NoAccess)
+    (unlessBarred (barring t (askOf c (f .fid) (f .offset) (f .max) Reading))
+    (done t memory (read (readBytes t memory (o .file) (f .offset) (f .max))))))
+
+-- "or a write on access 0"; "write would end past 4,096"; "Length 0 writes nothing, changes no size and is done at any offset"
+unfoldable pub endsPast : ℕ → ℕ → Bool
+endsPast offset count = not (eqb count 0) && ltb 4096 (offset + count)
+
+unfoldable pub doWrite : Caller → Tables → List ℕ → WriteFields → List ℕ → Given
+doWrite c t memory f bytes =
+    withOpen c t (f .fid)
+    (λ o.
+    cond (eqb (o .access) 0) (refused NoAccess)
+    (unlessBarred (barring t (askOf c (f .fid) (f .offset) (f .count) Writing))
+    (cond (endsPast (f .offset) (f .count)) (refused NoSpace)
+    (done (resized t (o .file) (f .offset) (f .count)) (written t memory (o .file) (f .offset) bytes) (wrote (f .count))))))
+
+-- ---- all seven
+
+-- "LOGOFF and PROCESS_EXIT stop after 2/91, TREE_DISCONNECT after 2/5, CLOSE after 1/6." `area` is the block's byte area,
+-- `bytes` a write's data.
+unfoldable pub perform : Caller → Tables → List ℕ → Body → List ℕ → List ℕ → Given
+perform c t memory (LockingBody f) area bytes = doLocking c t memory f area
+perform c t memory (ReadBody f) area bytes = doRead c t memory f
+perform c t memory (WriteBody f) area bytes = doWrite c t memory f bytes
+perform c t memory (Close fid) area bytes = withOpen c t fid (λ o. done (remove (OpenGone fid) t) memory plain)
+perform c t memory Logoff area bytes = withSession c t (done (remove (UserGone (c .uid)) t) memory loggedOff)
+perform c t memory TreeDisconnect area bytes = withTree c t (done (remove (TreeGone (c .tid)) t) memory plain)
+perform c t memory ProcessExit area bytes = withSession c t (done (remove (ProcessGone (c .uid) (c .process)) t) memory plain)

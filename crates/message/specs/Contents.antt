@@ -1,0 +1,35 @@
+-- The bytes of a file: "Files: 16, numbered from 0, 4,096 bytes each, in file memory of 65,536 bytes; each has a size"
+-- (document 01, "Tables and room"), what a read yields and what a write leaves ("Locks, reads and writes"). Assumes nothing.
+use Prim.Native.Nat.{ℕ, max, _+_, _-_, _*_}
+use mathlib.Core.Bool.{cond}
+use mathlib.Core.List.{List}
+use lib.ListN.{length, take, drop, getD, set, replicate}
+use lib.Dec.{eqb}
+use Rattle.lists.specs.Put.{put}
+use Rattle.records.specs.declared.File.{File}
+use Rattle.records.specs.declared.Tables.{Tables}
+use Rattle.records.specs.Empty.{noFile}
+use Rattle.records.specs.Held.{withFiles}
+
+unfoldable pub sizeOf : Tables → ℕ → ℕ
+sizeOf t file = getD (t .files) file noFile .size
+
+-- the bytes of a file below its size
+unfoldable pub contents : Tables → List ℕ → ℕ → List ℕ
+contents t memory file = take (sizeOf t file) (drop (file * 4096) memory)
+
+-- "It yields the file's bytes in the range below its size."
+unfoldable pub readBytes : Tables → List ℕ → ℕ → ℕ → ℕ → List ℕ
+readBytes t memory file offset most = take most (drop offset (contents t memory file))
+
+-- "Bytes between the old size and the write become 0"; the bytes written; bytes past the write's end stay. "Length 0 writes
+-- nothing, changes no size".
+unfoldable pub written : Tables → List ℕ → ℕ → ℕ → List ℕ → List ℕ
+written t memory file offset bytes =
+    cond (eqb (length bytes) 0) memory
+    (put (put memory (file * 4096 + sizeOf t file) (replicate (offset - sizeOf t file) 0)) (file * 4096 + offset) bytes)
+
+-- "and a size below the write's end becomes that end"
+unfoldable pub resized : Tables → ℕ → ℕ → ℕ → Tables
+resized t file offset count =
+    cond (eqb count 0) t (withFiles t (set (t .files) file (record { size = max (sizeOf t file) (offset + count) })))

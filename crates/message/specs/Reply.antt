@@ -1,0 +1,55 @@
+-- The bytes of a reply (document 01, "Header" and "Reply blocks"). Assumes nothing.
+use Prim.Native.Nat.{ℕ, _+_, _*_, _/_, _%_}
+use mathlib.Core.Bool.{cond}
+use mathlib.Core.List.{List, [], _∷_, _++_}
+use lib.ListN.{length, take, drop, replicate}
+use Rattle.wire.specs.LittleEndian.{byteAt, le16At}
+use Rattle.locks.specs.Status.{Status}
+use Rattle.message.specs.Command.{Said, locked, loggedOff, read, wrote, plain}
+
+-- a number in two bytes, the lower first
+unfoldable pub two : ℕ → List ℕ
+two n = n % 256 ∷ n / 256 % 256 ∷ []
+
+-- "A reply copies Command, PIDHigh, TID, PIDLow, UID and MID; Flags is 0x80 plus the request's 0x08; Flags2 keeps only
+-- 0x0001; the rest is 0 but for Status." "SMBSTATUS is class, 0, code."
+unfoldable pub replyHeader : List ℕ → Status → List ℕ
+replyHeader s status =
+    (0xFF ∷ 0x53 ∷ 0x4D ∷ 0x42 ∷ byteAt s 4 ∷ status .class ∷ 0 ∷ [])
+    ++ (two (status .code)
+    ++ (((128 + byteAt s 9 / 8 % 2 * 8) ∷ byteAt s 10 % 2 ∷ 0 ∷ byteAt s 12 ∷ byteAt s 13 ∷ [])
+    ++ (replicate 10 0 ++ take 8 (drop 24 s))))
+
+-- what the AndX words name: the next block written, by its command and its place, or none
+pub data Link : Type 0 where
+  none : Link
+  next : ℕ → ℕ → Link
+
+-- "with none it is FF 00 00 00"
+unfoldable pub linkWords : Link → List ℕ
+linkWords none = 0xFF ∷ 0 ∷ 0 ∷ 0 ∷ []
+linkWords (next command place) = command ∷ 0 ∷ two place
+
+-- "LOCKING and LOGOFF: 2 words. READ: 12 words: AndX, 0xFFFF, 0, 0, length, data offset, ten zero bytes; the bytes are the
+-- data. WRITE: 6 words: AndX, count, 0xFFFF, four zero bytes. Others: 0 words." The block stands at `place`; a READ's data
+-- stand behind its 27 bytes before them.
+unfoldable pub replyBlock : Said → ℕ → Link → List ℕ
+replyBlock locked place link = 2 ∷ (linkWords link ++ (0 ∷ 0 ∷ []))
+replyBlock loggedOff place link = 2 ∷ (linkWords link ++ (0 ∷ 0 ∷ []))
+replyBlock (read bytes) place link =
+    12 ∷ (linkWords link
+    ++ (two 0xFFFF ++ (two 0 ++ (two 0 ++ (two (length bytes) ++ (two (place + 27) ++ (replicate 10 0 ++ (two (length bytes) ++ bytes))))))))
+replyBlock (wrote count) place link = 6 ∷ (linkWords link ++ (two count ++ (two 0xFFFF ++ (replicate 4 0 ++ (0 ∷ 0 ∷ [])))))
+replyBlock plain place link = 0 ∷ 0 ∷ 0 ∷ []
+
+-- "A refused command or message gives WordCount 0 and ByteCount 0"
+unfoldable pub refusedBlock : List ℕ
+refusedBlock = 0 ∷ 0 ∷ 0 ∷ []
+
+-- how long a reply block is, whatever it names and wherever it stands
+unfoldable pub replySize : Said → ℕ
+replySize locked = 7
+replySize loggedOff = 7
+replySize (read bytes) = 27 + length bytes
+replySize (wrote count) = 15
+replySize plain = 3
