@@ -10,3 +10,4 @@ pub mod FreeBytes
 pub mod MovedBytes
 pub mod Alone
 pub mod Chained
+pub mod ListingFits
