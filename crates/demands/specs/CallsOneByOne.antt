@@ -1,0 +1,211 @@
+-- Demand 3's single claim, said of the calls themselves (document 01, "Sent one to a message" and "Compared"): the chain's call gives the number,
+-- tables, file memory and reply that the calls of its blocks' own messages give. Assumes nothing.
+use mathlib.Core.Path.{_≡_, refl, _∙_, ap}
+use Prim.Native.Nat.{ℕ, _/_, _%_, _≤_, _<_}
+use native.Mathlib.Omega.{arith}
+use mathlib.Core.Bool.{Bool, true, false, cond, _&&_}
+use mathlib.Core.List.{List, [], _∷_, _++_}
+use mathlib.Core.Option.{Option, none, some}
+use lib.ListN.{length, take, set}
+use lib.Seq.{take-append-seam}
+use lib.Dec.{eqb}
+use borrow.Author.Tests.{eqb-true, eq-eqb}
+use Rattle.lists.specs.Put.{put}
+use Rattle.lists.specs.Truth.{both-hold, hold-both, same-truth}
+use Rattle.wire.specs.LittleEndian.{byteAt}
+use Rattle.records.specs.declared.Tables.{Tables}
+use Rattle.locks.specs.Status.{Status, status}
+use Rattle.chain.specs.Layout.{headerCommand, FIRST}
+use Rattle.chain.specs.Chain.{blocks}
+use Rattle.chain.specs.declared.block.Block.{Block}
+use Rattle.message.specs.Caller.{Caller, callerOf}
+use Rattle.message.specs.Refusal.{statusOf}
+use Rattle.message.specs.Command.{Given, refused, done, perform}
+use Rattle.message.specs.Reply.{two, replyHeader}
+use Rattle.message.specs.Message.{areaOf, dataOf, Ran, after, afterGiven, run, served, onlyStatus, runChain, answered, replyOf, Taken, replied, take-message}
+use Rattle.message.specs.declared.refusal.Refusal.{Refusal}
+use Rattle.message.specs.declared.refusal.Refusal.the-variants.{NotServed, NotSentence, NoSession, NoTree, NoOpen, NoAccess, LockType, NoSuchLock, PassesEnd, Conflict, NoRecord, NoSpace}
+use Rattle.demands.specs.GivenCases.{cond-case}
+use Rattle.demands.specs.Alone.{alone}
+use Rattle.demands.specs.OneByOne.{Sent, succeeded, replyThen, sendOn, sendAll, joined, compared, one-by-one}
+use Rattle.demands.specs.OneByOneReply.{lastReply, comparedReply, one-by-one-reply}
+use Rattle.demands.specs.Sound.{Good}
+use Rattle.demands.specs.Taken.{Fit, fit-answered, not-long, AllFit, none-left, next-fits, all-fit}
+
+-- what the calls give: the last one's number, tables and file memory, and the replies in turn
+pub record Calls : Type 0 where
+  pub number : ℕ
+  pub tables : Tables
+  pub memory : List ℕ
+  pub replies : List (List ℕ)
+
+-- the reply that a call wrote, of its stated length
+unfoldable pub replyIn : Taken → List ℕ
+replyIn r = take (r .length) (r .room)
+
+-- "refused (Status not 0)": Status is bytes 5 to 8
+unfoldable pub statusZero : List ℕ → Bool
+statusZero reply = eqb (byteAt reply 5) 0 && (eqb (byteAt reply 6) 0 && (eqb (byteAt reply 7) 0 && eqb (byteAt reply 8) 0))
+
+unfoldable pub lastCall : Taken → Calls
+lastCall r = record { number = r .number; tables = r .tables; memory = r .memory; replies = replyIn r ∷ [] }
+
+unfoldable pub callThen : List ℕ → Calls → Calls
+callThen reply calls = record { number = calls .number; tables = calls .tables; memory = calls .memory; replies = reply ∷ calls .replies }
+
+-- "It stops after the first one refused (Status not 0) or the last block."
+unfoldable pub callOn : Taken → List Block → (Tables → List ℕ → Calls) → Calls
+callOn r [] rest = lastCall r
+callOn r (b ∷ bs) rest = cond (statusZero (replyIn r)) (callThen (replyIn r) (rest (r .tables) (r .memory))) (lastCall r)
+
+-- "each block in turn makes a message", taken by the definition: "The first gets the sound tables and files that the chain got, each next those the last one left"
+unfoldable pub callAll : ℕ → List ℕ → List ℕ → List Block → Tables → List ℕ → Calls
+callAll connection s room [] t memory = record { number = 0; tables = t; memory = memory; replies = [] }
+callAll connection s room (b ∷ bs) t memory =
+    callOn (take-message connection (alone s b) t memory room) bs (λ t′ m. callAll connection s room bs t′ m)
+
+-- "the last reply's header with the chain's Command, then a block for each message sent"
+unfoldable pub chainReply : List ℕ → List (List ℕ) → List ℕ
+chainReply s replies = set (take 32 (lastReply replies)) 4 (headerCommand s) ++ joined FIRST replies
+
+-- "Compared: the chain's number, tables and file memory, every byte, are the last message's", and the reply is written into the chain's room
+unfoldable pub comparedCall : List ℕ → List ℕ → Calls → Taken
+comparedCall s room calls =
+    record {
+      number = calls .number;
+      length = length (chainReply s (calls .replies));
+      tables = calls .tables;
+      memory = calls .memory;
+      room = put room 0 (chainReply s (calls .replies));
+    }
+
+-- ---- a reply and its status
+
+-- codes fit in two bytes
+code-small : (why : Refusal) → statusOf why .code < 65536
+unfolding statusOf status
+code-small NotServed = omega arith
+code-small NotSentence = omega arith
+code-small NoSession = omega arith
+code-small NoTree = omega arith
+code-small NoOpen = omega arith
+code-small NoAccess = omega arith
+code-small LockType = omega arith
+code-small NoSuchLock = omega arith
+code-small PassesEnd = omega arith
+code-small (Conflict place) = omega arith
+code-small NoRecord = omega arith
+code-small NoSpace = omega arith
+
+after-small : (g : Given) (bs : List Block) (place : ℕ) (t : Tables) (memory : List ℕ) (rest : ℕ → Tables → List ℕ → Ran)
+    → ((p : ℕ) (u : Tables) (m : List ℕ) → rest p u m .status .code < 65536) → afterGiven g bs place t memory rest .status .code < 65536
+unfolding afterGiven after
+after-small (refused why) bs place t memory rest f = code-small why
+after-small (done u m said) bs place t memory rest f = f _ u m
+
+run-small : (c : Caller) (s : List ℕ) (bs : List Block) (place : ℕ) (t : Tables) (memory : List ℕ) → run c s bs place t memory .status .code < 65536
+unfolding run status
+run-small c s [] place t memory = omega arith
+run-small c s (b ∷ bs) place t memory =
+    after-small (perform c t memory (b .body) (areaOf s b) (dataOf s b)) bs place t memory _ (λ p u m. run-small c s bs p u m)
+
+chain-small : (c : Caller) (s : List ℕ) (o : Option (List Block)) (t : Tables) (memory : List ℕ) → runChain c s o t memory .status .code < 65536
+unfolding runChain onlyStatus
+chain-small c s none t memory = code-small NotSentence
+chain-small c s (some bs) t memory = run-small c s bs FIRST t memory
+
+pub answered-small : (connection : ℕ) (s : List ℕ) (t : Tables) (memory : List ℕ) → answered connection s t memory .status .code < 65536
+unfolding answered onlyStatus
+answered-small connection s t memory =
+    cond-case (λ (r : Ran). r .status .code < 65536) (served (headerCommand s)) (runChain (callerOf connection s) s (blocks s) t memory)
+    (onlyStatus (statusOf NotServed) t memory) (λ _. chain-small (callerOf connection s) s (blocks s) t memory) (λ _. code-small NotServed)
+
+-- a code's two bytes are 0 exactly if it is
+zero-code : (class code : ℕ) → code < 65536
+    → (eqb class 0 && (eqb 0 0 && (eqb (code % 256) 0 && eqb (code / 256 % 256) 0))) ≡ (eqb class 0 && eqb code 0)
+zero-code class code h =
+    same-truth (eqb class 0 && (eqb 0 0 && (eqb (code % 256) 0 && eqb (code / 256 % 256) 0))) (eqb class 0 && eqb code 0)
+    (λ e. let a = both-hold (eqb class 0) (eqb 0 0 && (eqb (code % 256) 0 && eqb (code / 256 % 256) 0)) e in
+    let b = both-hold (eqb 0 0) (eqb (code % 256) 0 && eqb (code / 256 % 256) 0) (a .1) in
+    let d = both-hold (eqb (code % 256) 0) (eqb (code / 256 % 256) 0) (b .1) in
+    let low : code % 256 ≡ 0 = eqb-true (code % 256) 0 (d .0) in
+    let high : code / 256 % 256 ≡ 0 = eqb-true (code / 256 % 256) 0 (d .1) in
+    hold-both (eqb class 0) (eqb code 0) (a .0) (eq-eqb code 0 (omega arith)))
+    (λ e. let a = both-hold (eqb class 0) (eqb code 0) e in
+    let z : code ≡ 0 = eqb-true code 0 (a .1) in
+    hold-both (eqb class 0) (eqb 0 0 && (eqb (code % 256) 0 && eqb (code / 256 % 256) 0)) (a .0)
+    (hold-both (eqb 0 0) (eqb (code % 256) 0 && eqb (code / 256 % 256) 0) refl
+    (hold-both (eqb (code % 256) 0) (eqb (code / 256 % 256) 0) (eq-eqb (code % 256) 0 (omega arith)) (eq-eqb (code / 256 % 256) 0 (omega arith)))))
+
+-- "Status stands in the header"
+status-read : (message : List ℕ) (r : Ran) → r .status .code < 65536 → statusZero (replyOf message r) ≡ succeeded (r .status)
+unfolding statusZero replyOf replyHeader two succeeded
+status-read message r h = zero-code (r .status .class) (r .status .code) h
+
+-- the reply stands in the room
+reply-read : (message room : List ℕ) (r : Ran) → replyIn (replied message room r) ≡ replyOf message r
+unfolding replyIn replied put
+reply-read message room r = take-append-seam (replyOf message r) _
+
+-- ---- the calls are the messages sent
+
+unfoldable callsOf : Sent → Calls
+callsOf sent = record { number = 0; tables = sent .tables; memory = sent .memory; replies = sent .replies }
+
+last-sent : (b : Bool) (reply : List ℕ) (u : Tables) (m : List ℕ) (why : Status)
+    → _≡_ {A = Calls} (record { number = 0; tables = u; memory = m; replies = reply ∷ [] })
+    (callsOf (cond b (replyThen reply (record { status = status 0 0; tables = u; memory = m; replies = [] })) (record { status = why; tables = u; memory = m; replies = reply ∷ [] })))
+unfolding callsOf replyThen
+last-sent true reply u m why = refl
+last-sent false reply u m why = refl
+
+more-sent : (b : Bool) (reply : List ℕ) (calls : Calls) (sent : Sent) (u : Tables) (m : List ℕ) (why : Status) → calls ≡ callsOf sent
+    → cond b (callThen reply calls) (record { number = 0; tables = u; memory = m; replies = reply ∷ [] })
+    ≡ callsOf (cond b (replyThen reply sent) (record { status = why; tables = u; memory = m; replies = reply ∷ [] }))
+unfolding callsOf replyThen callThen
+more-sent true reply calls sent u m why e = rw e
+more-sent false reply calls sent u m why e = refl
+
+-- with no block, none is sent
+nothing-called : (t : Tables) (memory : List ℕ)
+    → _≡_ {A = Calls} (record { number = 0; tables = t; memory = memory; replies = [] }) (callsOf (record { status = status 0 0; tables = t; memory = memory; replies = [] }))
+unfolding callsOf
+nothing-called t memory = refl
+
+-- one call, and the rest
+step : (connection : ℕ) (s room : List ℕ) (b : Block) (bs : List Block) (t : Tables) (memory : List ℕ)
+    → callAll connection s room bs (answered connection (alone s b) t memory .tables) (answered connection (alone s b) t memory .memory)
+    ≡ callsOf (sendAll connection s bs (answered connection (alone s b) t memory .tables) (answered connection (alone s b) t memory .memory))
+    → callOn (replied (alone s b) room (answered connection (alone s b) t memory)) bs (λ u m. callAll connection s room bs u m)
+    ≡ callsOf (sendOn (alone s b) (answered connection (alone s b) t memory) (λ u m. sendAll connection s bs u m))
+unfolding callOn lastCall sendOn sendAll replied
+step connection s room b [] t memory e =
+    rw (reply-read (alone s b) room (answered connection (alone s b) t memory))
+    (last-sent (succeeded (answered connection (alone s b) t memory .status)) (replyOf (alone s b) (answered connection (alone s b) t memory)) _ _ _)
+step connection s room b (d ∷ bs) t memory e =
+    rw (
+      reply-read (alone s b) room (answered connection (alone s b) t memory),
+      status-read (alone s b) (answered connection (alone s b) t memory) (answered-small connection (alone s b) t memory),
+    )
+    (more-sent (succeeded (answered connection (alone s b) t memory .status)) (replyOf (alone s b) (answered connection (alone s b) t memory)) _ _ _ _ _ e)
+
+-- all of them
+calls-sent : (connection : ℕ) (s room : List ℕ) → 12292 ≤ length room → {bs : List Block} {t : Tables} {memory : List ℕ} → AllFit connection s bs t memory
+    → callAll connection s room bs t memory ≡ callsOf (sendAll connection s bs t memory)
+unfolding callAll sendAll
+calls-sent connection s room enough {t = t} {memory = memory} none-left = nothing-called t memory
+calls-sent connection s room enough {t = t} {memory = memory} (next-fits {b} {bs} fit more) =
+    ap (λ (r : Taken). callOn r bs (λ u m. callAll connection s room bs u m)) (fit-answered connection (alone s b) t memory room (fit room enough))
+    ∙ step connection s room b bs t memory (calls-sent connection s room enough more)
+
+-- "This is a single claim about the whole list of blocks": of a sentence fit to be answered, the call gives what the calls of its blocks give, each sent
+-- in a message of its own with reply room 12,292
+pub calls-one-by-one : (connection : ℕ) (s : List ℕ) (bs : List Block) → blocks s ≡ some bs → (t : Tables) (memory room small : List ℕ) → Good t → Fit s t memory room
+    → length small ≡ 12292 → take-message connection s t memory room ≡ comparedCall s room (callAll connection s small bs t memory)
+unfolding comparedCall replied callsOf chainReply comparedReply compared
+calls-one-by-one connection s bs e t memory room small g fit n =
+    let c : callAll connection s small bs t memory ≡ callsOf (sendAll connection s bs t memory) =
+    calls-sent connection s small (omega arith) (all-fit connection s bs e (fit .not-dropped) t memory g (fit .memory-whole)) in
+    let h : length s ≤ 8192 = not-long s (fit .not-dropped) in
+    fit-answered connection s t memory room fit
+    ∙ rw (one-by-one-reply connection s bs e h t memory, one-by-one connection s bs e h t memory, c)

@@ -1,0 +1,110 @@
+-- "Free bytes" (document 01): a message gives what its header and the blocks of its reading say, whatever stands between and after.
+-- Assumes nothing.
+use mathlib.Core.Path.{_≡_, refl, sym, _∙_, ap}
+use Prim.Native.Nat.{ℕ, _+_, _<_}
+use native.Mathlib.Omega.{arith}
+use mathlib.Core.List.{List, [], map, List·Memᴰ·head as first, List·Memᴰ·tail as later}
+use mathlib.Core.Option.{some}
+use lib.ListN.{length, take, drop, length-take, length-drop}
+use lib.Seq.{getD-take, getD-drop, ext-getD}
+use Rattle.wire.specs.LittleEndian.{byteAt, le16At}
+use Rattle.records.specs.declared.Tables.{Tables}
+use Rattle.locks.specs.Status.{Status}
+use Rattle.chain.specs.Layout.{headerCommand, FIRST}
+use Rattle.chain.specs.Grammar.{IsBlock, Span, spanAt, Reading}
+use Rattle.chain.specs.Chain.{blocks}
+use Rattle.chain.specs.declared.block.Block.{Block}
+use Rattle.chain.specs.declared.block.Next.{Next}
+use Rattle.readings.specs.BlockParse.{bodyAt, blockAt}
+use Rattle.readings.specs.ReaderSound.{spanOf}
+use Rattle.readings.specs.ReaderComplete.{reader-complete-from}
+use Rattle.readings.specs.FreeBytes.{Stands, unmoved, AllStand, free-blocks}
+use Rattle.readings.specs.Chained.{Chained, chained-end, chained-more, read-chained}
+use Rattle.message.specs.Caller.{Caller, callerOf}
+use Rattle.message.specs.Command.{Given, refused, done, perform}
+use Rattle.message.specs.Reply.{replyHeader}
+use Rattle.message.specs.Message.{areaOf, dataOf, Ran, after, afterGiven, run, runChain, answered, replyOf}
+use Rattle.demands.specs.PerformMoved.{perform-bytes}
+
+-- ---- equal headers
+
+module _ (s t : List ℕ) (header : take 32 t ≡ take 32 s) where
+  pub header-byte : (k : ℕ) → k < 32 → byteAt t k ≡ byteAt s k
+  header-byte k h = sym (getD-take 32 t k 0 h) ∙ ap (λ (l : List ℕ). byteAt l k) header ∙ getD-take 32 s k 0 h
+
+  header-number : (k : ℕ) → k + 1 < 32 → le16At t k ≡ le16At s k
+  unfolding le16At
+  header-number k h =
+      let a : byteAt t k ≡ byteAt s k = header-byte k (omega arith) in
+      let b : byteAt t (k + 1) ≡ byteAt s (k + 1) = header-byte (k + 1) h in
+      rw (a, b)
+
+  -- the same caller
+  pub header-caller : (connection : ℕ) → callerOf connection t ≡ callerOf connection s
+  unfolding callerOf
+  header-caller connection = rw (header-number 28 (omega arith), header-number 24 (omega arith), header-number 26 (omega arith))
+
+  -- its last eight bytes
+  header-last : take 8 (drop 24 t) ≡ take 8 (drop 24 s)
+  header-last =
+      let e = ap length header in
+      let f : length (take 32 t) ≡ length (take 32 s) = e in
+      let n : length (take 8 (drop 24 t)) ≡ length (take 8 (drop 24 s)) =
+      rw (length-take, length-take, length-drop, length-drop) (omega (arith, length-take 32 t, length-take 32 s)) in
+      ext-getD 0 (take 8 (drop 24 t)) (take 8 (drop 24 s)) n
+      (λ k h. let l : k < 8 = omega (arith, length-take 8 (drop 24 t)) in
+      getD-take 8 (drop 24 t) k 0 l ∙ getD-drop 24 t k 0 ∙ header-byte (24 + k) (omega arith) ∙ sym (getD-take 8 (drop 24 s) k 0 l ∙ getD-drop 24 s k 0))
+
+  -- the same header of the reply
+  pub header-reply : (why : Status) → replyHeader t why ≡ replyHeader s why
+  unfolding replyHeader
+  header-reply why =
+      rw (header-byte 4 (omega arith), header-byte 9 (omega arith), header-byte 10 (omega arith), header-byte 12 (omega arith), header-byte 13 (omega arith), header-last)
+
+-- ---- equal blocks
+
+-- a block that stands unchanged does the same
+stands-same : {s t : List ℕ} {command at : ℕ} (c : Caller) (u : Tables) (memory : List ℕ) (next : Next) → IsBlock s at command → Stands s t (spanAt s command at)
+    → perform c u memory (bodyAt s command at) (areaOf t (blockAt s command at next)) (dataOf t (blockAt s command at next))
+    ≡ perform c u memory (bodyAt s command at) (areaOf s (blockAt s command at next)) (dataOf s (blockAt s command at next))
+unfolding areaOf dataOf blockAt
+stands-same c u memory next h stands = perform-bytes c u memory h (unmoved h stands)
+
+-- what follows is the same: so is the whole
+after-same : (g : Given) (bs : List Block) (place : ℕ) (t : Tables) (memory : List ℕ) (f h : ℕ → Tables → List ℕ → Ran)
+    → ((p : ℕ) (u : Tables) (m : List ℕ) → f p u m ≡ h p u m) → afterGiven g bs place t memory f ≡ afterGiven g bs place t memory h
+unfolding afterGiven
+after-same (refused why) bs place t memory f h e = refl
+after-same (done u m said) bs place t memory f h e = ap (after _) (e _ u m)
+
+-- the blocks of a reading that stand unchanged do the same
+run-same : {s : List ℕ} (t : List ℕ) {command at : ℕ} {bs : List Block} (c : Caller) → Chained s command at bs → AllStand s t (map spanOf bs)
+    → (place : ℕ) (u : Tables) (memory : List ℕ) → run c t bs place u memory ≡ run c s bs place u memory
+unfolding run blockAt spanOf spanAt
+run-same {s} t c (chained-end {command} {at} h l) stands place u memory =
+    ap (λ (g : Given). afterGiven g [] place u memory (λ p v m. run c s [] p v m)) (stands-same c u memory _ h (stands _ (first refl)))
+run-same {s} t c (chained-more {command} {at} {rest = rest} h l r) stands place u memory =
+    ap (λ (g : Given). afterGiven g rest place u memory (λ p v m. run c t rest p v m)) (stands-same c u memory _ h (stands _ (first refl)))
+    ∙ after-same _ rest place u memory (λ p v m. run c t rest p v m) (λ p v m. run c s rest p v m) (λ p v m. run-same t c r (λ x i. stands x (later i)) p v m)
+
+module _ (s t : List ℕ) (header : take 32 t ≡ take 32 s) {spans : List Span} (r : Reading s spans) (stands : AllStand s t spans) where
+  -- the whole chain
+  chain-same : (c : Caller) (u : Tables) (memory : List ℕ) → runChain c t (blocks t) u memory ≡ runChain c s (blocks s) u memory
+  unfolding runChain blocks
+  chain-same c u memory =
+      let a = reader-complete-from r in
+      let e : blocks s ≡ some (a .bs) = a .answer in
+      let f : blocks t ≡ blocks s = free-blocks t (header-byte s t header 4 (omega arith)) r stands in
+      let g : AllStand s t (map spanOf (a .bs)) = rw (a .same) stands in
+      rw (f, e) (run-same t c (read-chained s (headerCommand s) FIRST (a .bs) e) g FIRST u memory)
+
+  -- "number, reply, tables, files and whatever else the call gives are equal": what the message leaves
+  pub free-answered : (connection : ℕ) (u : Tables) (memory : List ℕ) → answered connection t u memory ≡ answered connection s u memory
+  unfolding answered
+  free-answered connection u memory =
+      rw (header-byte s t header 4 (omega arith), header-caller s t header connection, chain-same (callerOf connection s) u memory)
+
+  -- and the reply
+  pub free-reply : (connection : ℕ) (u : Tables) (memory : List ℕ) → replyOf t (answered connection t u memory) ≡ replyOf s (answered connection s u memory)
+  unfolding replyOf
+  free-reply connection u memory = rw (free-answered connection u memory, header-reply s t header (answered connection s u memory .status))

@@ -1,0 +1,84 @@
+-- How to go on from what a command gives, case by case: a claim that holds of each refusal and of what each command leaves
+-- holds of what the command gives. Assumes nothing.
+use mathlib.Core.Path.{_≡_, refl}
+use Prim.Native.Nat.{ℕ, _≤_}
+use mathlib.Core.Bool.{Bool, true, false, cond}
+use mathlib.Core.List.{List}
+use mathlib.Core.Option.{Option, none, some}
+use lib.ListN.{length, getD}
+use lib.Dec.{leb}
+use borrow.Author.Tests.{leb-true}
+use Rattle.lists.specs.Walk.{any, found}
+use Rattle.lists.specs.declared.Found.{Found}
+use Rattle.lists.specs.declared.Found.the-variants.{At, Nothing}
+use Rattle.records.specs.declared.Open.{Open}
+use Rattle.records.specs.declared.Lock.{Lock}
+use Rattle.records.specs.declared.Tables.{Tables}
+use Rattle.records.specs.Empty.{noOpen}
+use Rattle.records.specs.Held.{sessionsOf, treesOf, opensOf}
+use Rattle.locks.specs.Request.{releaseAll, Grants, granted, blocked, grantAll, Result, done as doneWith, refused as refusedBy, afterGrants, rangePasses, afterReleases, request}
+use Rattle.locks.specs.declared.types.LockRange.{LockRange}
+use Rattle.locks.specs.declared.types.Outcome.the-variants.{NoSuchLock as NoLock, PassesEnd as PastEnd, Conflict as InWay, NoRecord as NoRoom}
+use Rattle.soundness.specs.Lookup.{isTree}
+use Rattle.message.specs.Caller.{Caller}
+use Rattle.message.specs.Command.{Given, refused, isSession, withSession, withTree, isOpen, openAt, withOpen, unlessBarred}
+use Rattle.message.specs.declared.refusal.Refusal.the-variants.{NoSession, NoTree, NoOpen, Conflict}
+
+-- of a choice
+pub cond-case : {A : Type 0} (P : A → Type 0) (t : Bool) (x y : A) → (t ≡ true → P x) → (t ≡ false → P y) → P (cond t x y)
+cond-case P true x y f g = f refl
+cond-case P false x y f g = g refl
+
+-- of a LOCKING request's result
+module _ (Q : Result → Type 0) (no-lock : Q (refusedBy NoLock)) (past : Q (refusedBy PastEnd)) (in-way : (k : ℕ) → Q (refusedBy (InWay k))) (no-room : Q (refusedBy NoRoom)) where
+  grants-case : (g : Grants) → ((list : List Lock) → g ≡ granted list → length list ≤ 128 → Q (doneWith list)) → Q (afterGrants g)
+  unfolding afterGrants
+  grants-case (granted list) f =
+      cond-case Q (leb (length list) 128) (doneWith list) (refusedBy NoRoom) (λ e. f list refl (leb-true (length list) 128 e)) (λ _. no-room)
+  grants-case (blocked k) f = in-way k
+
+  module _ (file : ℕ → ℕ) (fid : ℕ) (shared : Bool) (locks : List LockRange) where
+    releases-case : (o : Option (List Lock))
+        → ((left list : List Lock) → o ≡ some left → any rangePasses locks ≡ false → grantAll file fid shared locks left ≡ granted list → length list ≤ 128 → Q (doneWith list))
+        → Q (afterReleases file fid shared locks o)
+    unfolding afterReleases
+    releases-case none f = no-lock
+    releases-case (some left) f =
+        cond-case Q (any rangePasses locks) (refusedBy PastEnd) (afterGrants (grantAll file fid shared locks left)) (λ _. past)
+        (λ e. grants-case (grantAll file fid shared locks left) (λ list g h. f left list refl e g h))
+
+    pub request-case : (unlocks : List LockRange) (held : List Lock)
+        → ((left list : List Lock) → releaseAll file fid unlocks held ≡ some left → any rangePasses locks ≡ false → grantAll file fid shared locks left ≡ granted list → length list ≤ 128 → Q (doneWith list))
+        → Q (request file fid shared unlocks locks held)
+    unfolding request
+    request-case unlocks held f = releases-case (releaseAll file fid unlocks held) f
+
+-- of the questions who may ask
+module _ (P : Given → Type 0) where
+  pub session-case : (c : Caller) (t : Tables) (next : Given) → P (refused NoSession) → (any (isSession c) (sessionsOf t) ≡ true → P next) → P (withSession c t next)
+  unfolding withSession
+  session-case c t next bad good = cond-case P (any (isSession c) (sessionsOf t)) next (refused NoSession) good (λ _. bad)
+
+  pub tree-case : (c : Caller) (t : Tables) (next : Given) → P (refused NoSession) → P (refused NoTree) → P next → P (withTree c t next)
+  unfolding withTree
+  tree-case c t next no-session bad good =
+      session-case c t (cond (any (isTree (c .tid) (c .uid)) (treesOf t)) next (refused NoTree)) no-session
+      (λ _. cond-case P (any (isTree (c .tid) (c .uid)) (treesOf t)) next (refused NoTree) (λ _. good) (λ _. bad))
+
+  open-at-case : (f : Found) (opens : List Open) (next : Open → Given) → P (refused NoOpen) → ((k : ℕ) → f ≡ At k → P (next (getD opens k noOpen)))
+      → P (openAt f opens next)
+  unfolding openAt
+  open-at-case (At k) opens next bad good = good k refl
+  open-at-case Nothing opens next bad good = bad
+
+  pub open-case : (c : Caller) (t : Tables) (fid : ℕ) (next : Open → Given) → P (refused NoSession) → P (refused NoTree) → P (refused NoOpen)
+      → ((k : ℕ) → found (isOpen c fid) (opensOf t) ≡ At k → P (next (getD (opensOf t) k noOpen))) → P (withOpen c t fid next)
+  unfolding withOpen
+  open-case c t fid next no-session no-tree bad good =
+      tree-case c t (openAt (found (isOpen c fid) (opensOf t)) (opensOf t) next) no-session no-tree
+      (open-at-case (found (isOpen c fid) (opensOf t)) (opensOf t) next bad good)
+
+  pub barred-case : (f : Found) (next : Given) → ((k : ℕ) → P (refused (Conflict k))) → (f ≡ Nothing → P next) → P (unlessBarred f next)
+  unfolding unlessBarred
+  barred-case (At k) next bad good = bad k
+  barred-case Nothing next bad good = good refl

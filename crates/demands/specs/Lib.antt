@@ -1,0 +1,16 @@
+pub mod GivenCases
+pub mod Malformed
+pub mod PerformMoved
+pub mod FreeBytesMessage
+pub mod ReplySize
+pub mod Alone
+pub mod OneByOne
+pub mod OneByOneReply
+pub mod FoundFacts
+pub mod LockingSound
+pub mod Sound
+pub mod ReplyRoom
+pub mod LoneLock
+pub mod MemorySize
+pub mod Taken
+pub mod CallsOneByOne

@@ -1,0 +1,249 @@
+-- When a lone lock, a read or a write is refused for a lock (document 01, "Locks, reads and writes"), in plain propositions. Assumes nothing.
+use mathlib.Core.Path.{_≡_, refl, sym, _∙_, ap}
+use mathlib.Core.Logic.{_↔_}
+use Prim.Native.Nat.{ℕ, _*_, _/_, _%_}
+use native.Mathlib.Omega.{arith}
+use mathlib.Core.Bool.{Bool, true, false, cond, not, _&&_}
+use mathlib.Core.List.{List, [], _∷_, _++_, List·Memᴰ as In}
+use lib.ListN.{length, getD}
+use lib.Dec.{leb, eqb}
+use borrow.Author.Tests.{eqb-true, eq-eqb}
+use Rattle.lists.specs.Walk.{any, found}
+use Rattle.lists.specs.Truth.{both-hold, hold-both, fails, not-decided-twice, not-holds}
+use Rattle.lists.specs.declared.Found.{Found}
+use Rattle.lists.specs.declared.Found.the-variants.{At, Nothing}
+use Rattle.records.specs.declared.Open.{Open}
+use Rattle.records.specs.declared.Lock.{Lock}
+use Rattle.records.specs.declared.Tables.{Tables}
+use Rattle.records.specs.Empty.{noOpen, noLock}
+use Rattle.records.specs.Held.{sessionsOf, treesOf, opensOf, locksOf}
+use Rattle.locks.specs.Range.{Overlap, overlaps, overlap-iff}
+use Rattle.locks.specs.Wire.{rangeSize, rangeAt, rangesAt}
+use Rattle.locks.specs.Answer.{owns, bars, inWay, answersFor, answers}
+use Rattle.locks.specs.Request.{askOf as askFor, lockOf, releaseAll, granted, afterWalk, grantAll, afterGrants, rangePasses, afterReleases, request, settle, locking, Result, done as doneWith, refused as refusedBy}
+use Rattle.locks.specs.declared.types.Ask.{Ask}
+use Rattle.locks.specs.declared.types.LockRange.{LockRange}
+use Rattle.locks.specs.declared.types.Outcome.the-variants.{NoRecord as NoRoom}
+use Rattle.locks.specs.declared.types.Purpose.the-variants.{Grant, Read as Reading, Write as Writing}
+use Rattle.soundness.specs.File.{fileOf}
+use Rattle.soundness.specs.Sound.{sound}
+use Rattle.soundness.specs.Lookup.{isTree}
+use Rattle.claims.specs.SoundParts.{sound-says}
+use Rattle.claims.specs.SoundPlain.{fileOf-one, sound-plain}
+use Rattle.chain.specs.declared.block.LockingFields.{LockingFields}
+use Rattle.chain.specs.declared.block.ReadFields.{ReadFields}
+use Rattle.chain.specs.declared.block.WriteFields.{WriteFields}
+use Rattle.message.specs.Caller.{Caller}
+use Rattle.message.specs.Contents.{resized, written}
+use Rattle.message.specs.Command.{Given, Said, wrote, refused, done, isSession, withSession, withTree, isOpen, openAt, withOpen, servedType, requestOf, lockingEnd, lockingAfter, doLocking, askOf, unlessBarred, barring, doRead, endsPast, doWrite}
+use Rattle.message.specs.declared.refusal.Refusal.the-variants.{Conflict, NoSpace}
+use Rattle.demands.specs.GivenCases.{cond-case}
+use Rattle.demands.specs.FoundFacts.{found-hit, found-miss}
+use Rattle.demands.specs.Sound.{open-hit, open-fid}
+
+-- the command's refusal is 1/33
+abbrev pub Conflicts : Given → Type 0
+Conflicts g = (k : ℕ) × (g ≡ refused (Conflict k))
+
+-- the caller has a session, a tree and the open that stands k-th
+pub record May (c : Caller) (t : Tables) (fid k : ℕ) : Type 0 where
+  pub session : any (isSession c) (sessionsOf t) ≡ true
+  pub tree : any (isTree (c .tid) (c .uid)) (treesOf t) ≡ true
+  pub named : found (isOpen c fid) (opensOf t) ≡ At k
+
+-- the lock is of the file that the open names: through an open of the lock's FID
+abbrev pub OfFile : Tables → Open → Lock → Type 0
+OfFile t o l = (p : Open) × In p (opensOf t) × (p .fid ≡ l .fid) × (p .file ≡ o .file)
+
+-- "An owner is a FID with a process."
+abbrev pub Owner : ℕ → ℕ → Lock → Type 0
+Owner fid process l = (l .fid ≡ fid) × (l .process ≡ process)
+
+-- a listed lock of that file that overlaps the range and clashes with what is asked
+pub record InWay (t : Tables) (o : Open) (offset size : ℕ) (Clash : Lock → Type 0) : Type 0 where
+  pub lock : Lock
+  pub listed : In lock (locksOf t)
+  pub of-file : OfFile t o lock
+  pub overlap : Overlap (lock .offset) (lock .length) offset size
+  pub clash : Clash lock
+
+-- ---- a walk that finds one
+
+some-at : {A : Type 0} (p : A → Bool) (xs : List A) (f : Found) → found p xs ≡ f → {x : A} → In x xs → p x ≡ true → (k : ℕ) × (f ≡ At k)
+some-at p xs (At k) e m h = (k, refl)
+some-at p xs Nothing e {x} m h = absurd (not-decided-twice (p x) h (found-miss p m e))
+
+-- ---- what a lock in the way is
+
+-- the tests of the three purposes
+grant-bars : (shared : Bool) (l : Lock) → (not (l .shared && shared) ≡ true) ↔ ((l .shared ≡ true) × (shared ≡ true) → ⊥)
+grant-bars shared l = (
+  λ e b. let z : not (true && true) ≡ true = rw (b .0, b .1) at e in let n : _≡_ {A = ℕ} 0 1 = cc in omega arith,
+  λ n. not-holds (l .shared && shared) (fails (l .shared && shared) (λ e. n (both-hold (l .shared) shared e))),
+)
+
+not-true : (t : Bool) → not t ≡ true → t ≡ false
+not-true true e = let z : _≡_ {A = ℕ} 0 1 = cc in absurd (omega arith)
+not-true false e = refl
+
+owns-exact : (q : Ask) (l : Lock) → (owns q l ≡ true) ↔ Owner (q .fid) (q .process) l
+unfolding owns
+owns-exact q l = (
+  λ e. let b = both-hold (eqb (l .fid) (q .fid)) (eqb (l .process) (q .process)) e in (eqb-true (l .fid) (q .fid) (b .0), eqb-true (l .process) (q .process) (b .1)),
+  λ o. hold-both (eqb (l .fid) (q .fid)) (eqb (l .process) (q .process)) (eq-eqb (l .fid) (q .fid) (o .0)) (eq-eqb (l .process) (q .process) (o .1)),
+)
+
+read-bars : (q : Ask) (l : Lock) → ((not (l .shared) && not (owns q l)) ≡ true) ↔ ((l .shared ≡ false) × (Owner (q .fid) (q .process) l → ⊥))
+read-bars q l = (
+  λ e. let b = both-hold (not (l .shared)) (not (owns q l)) e in
+      (not-true (l .shared) (b .0), λ o. not-decided-twice (owns q l) (owns-exact q l .1 o) (not-true (owns q l) (b .1))),
+  λ h. hold-both (not (l .shared)) (not (owns q l)) (not-holds (l .shared) (h .0))
+      (not-holds (owns q l) (fails (owns q l) (λ e. h .1 (owns-exact q l .0 e)))),
+)
+
+write-bars : (q : Ask) (l : Lock) → (not (not (l .shared) && owns q l) ≡ true) ↔ ((l .shared ≡ false) × Owner (q .fid) (q .process) l → ⊥)
+write-bars q l = (
+  λ e h. not-decided-twice (not (l .shared) && owns q l)
+      (hold-both (not (l .shared)) (owns q l) (not-holds (l .shared) (h .0)) (owns-exact q l .1 (h .1)))
+      (not-true (not (l .shared) && owns q l) e),
+  λ n. not-holds (not (l .shared) && owns q l) (fails (not (l .shared) && owns q l)
+      (λ e. let b = both-hold (not (l .shared)) (owns q l) e in n (not-true (l .shared) (b .0), owns-exact q l .0 (b .1)))),
+)
+
+module _ (c : Caller) (t : Tables) (fid k : ℕ) (may : May c t fid k) where
+  -- the open that is asked through
+  abbrev pub asked : Open
+  asked = getD (opensOf t) k noOpen
+
+  -- the caller's questions are passed
+  with-open : (next : Open → Given) → withOpen c t fid next ≡ next asked
+  unfolding withOpen withTree withSession openAt
+  with-open next = rw (may .session, may .tree, may .named)
+
+  module _ (ok : sound t ≡ true) where
+    file-asked : fileOf (opensOf t) fid ≡ asked .file
+    file-asked =
+        ap (fileOf (opensOf t)) (sym (open-fid c t fid k (may .named)))
+        ∙ fileOf-one 64 (opensOf t) (sound-says t ok .records .fids) (open-hit c t fid k (may .named) .listed)
+
+    file-exact : (l : Lock) → In l (locksOf t) → (fileOf (opensOf t) (l .fid) ≡ fileOf (opensOf t) fid) ↔ OfFile t asked l
+    file-exact l m = (
+      λ e. let p = sound-plain t .0 ok .lock-open l m in
+          (p .0, p .1, p .2, sym (fileOf-one 64 (opensOf t) (sound-says t ok .records .fids) (p .1)) ∙ ap (fileOf (opensOf t)) (p .2) ∙ e ∙ file-asked),
+      λ p. ap (fileOf (opensOf t)) (sym (p .2)) ∙ fileOf-one 64 (opensOf t) (sound-says t ok .records .fids) (p .1) ∙ p .3 ∙ sym file-asked,
+    )
+
+    -- some listed lock answers the question exactly if one is in the way
+    module _ (q : Ask) (of : q .fid ≡ fid) (Clash : Lock → Type 0) (exact : (l : Lock) → (bars (q .purpose) q l ≡ true) ↔ Clash l)
+        (asks : (l : Lock) → answers (fileOf (opensOf t)) q l ≡ inWay (fileOf (opensOf t)) q l) where
+      hit-way : (j : ℕ) → found (answers (fileOf (opensOf t)) q) (locksOf t) ≡ At j → (d : Lock) → InWay t asked (q .offset) (q .length) Clash
+      unfolding inWay
+      hit-way j e d =
+          let h = found-hit (answers (fileOf (opensOf t)) q) (locksOf t) j d e in
+          let w = both-hold (overlaps (getD (locksOf t) j d .offset) (getD (locksOf t) j d .length) (q .offset) (q .length)) _ (sym (asks (getD (locksOf t) j d)) ∙ h .passes) in
+          let v = both-hold (bars (q .purpose) q (getD (locksOf t) j d)) _ (w .1) in
+          record {
+            lock = getD (locksOf t) j d;
+            listed = h .listed;
+            of-file = file-exact (getD (locksOf t) j d) (h .listed) .0
+                (eqb-true (fileOf (opensOf t) (getD (locksOf t) j d .fid)) (fileOf (opensOf t) (q .fid)) (v .1) ∙ ap (fileOf (opensOf t)) of);
+            overlap = overlap-iff (getD (locksOf t) j d .offset) (getD (locksOf t) j d .length) (q .offset) (q .length) .0 (w .0);
+            clash = exact (getD (locksOf t) j d) .0 (v .0);
+          }
+
+      way-hit : InWay t asked (q .offset) (q .length) Clash → (j : ℕ) × (found (answers (fileOf (opensOf t)) q) (locksOf t) ≡ At j)
+      unfolding inWay
+      way-hit w =
+          some-at (answers (fileOf (opensOf t)) q) (locksOf t) (found (answers (fileOf (opensOf t)) q) (locksOf t)) refl (w .listed)
+          (asks (w .lock)
+          ∙ hold-both (overlaps (w .lock .offset) (w .lock .length) (q .offset) (q .length)) (bars (q .purpose) q (w .lock) && eqb (fileOf (opensOf t) (w .lock .fid)) (fileOf (opensOf t) (q .fid)))
+          (overlap-iff (w .lock .offset) (w .lock .length) (q .offset) (q .length) .1 (w .overlap))
+          (hold-both (bars (q .purpose) q (w .lock)) (eqb (fileOf (opensOf t) (w .lock .fid)) (fileOf (opensOf t) (q .fid))) (exact (w .lock) .1 (w .clash))
+          (eq-eqb (fileOf (opensOf t) (w .lock .fid)) (fileOf (opensOf t) (q .fid)) (file-exact (w .lock) (w .listed) .1 (w .of-file) ∙ ap (fileOf (opensOf t)) (sym of)))))
+
+-- ---- reading and writing
+
+unless-exact : (f : Found) (next : Given) → (Conflicts next → ⊥) → Conflicts (unlessBarred f next) ↔ ((k : ℕ) × (f ≡ At k))
+unfolding unlessBarred
+unless-exact (At k) next n = (λ h. (k, refl), λ h. (k, refl))
+unless-exact Nothing next n = (λ h. absurd (n h), λ h. let f = h .1 in let z : _≡_ {A = ℕ} 0 1 = cc in absurd (omega arith))
+
+done-not : (u : Tables) (m : List ℕ) (said : Said) → Conflicts (done u m said) → ⊥
+done-not u m said h = let e = h .1 in let z : _≡_ {A = ℕ} 0 1 = cc in omega arith
+
+space-not : Conflicts (refused NoSpace) → ⊥
+space-not h = let e = h .1 in let z : _≡_ {A = ℕ} 0 1 = cc in omega arith
+
+module _ (c : Caller) (t : Tables) (memory : List ℕ) (k : ℕ) (ok : sound t ≡ true) where
+  -- "A read is refused 1/33 exactly if an exclusive lock of another owner overlaps offset and max."
+  pub read-conflict : (f : ReadFields) (may : May c t (f .fid) k) → eqb (asked c t (f .fid) k may .access) 1 ≡ false
+      → Conflicts (doRead c t memory f)
+      ↔ InWay t (asked c t (f .fid) k may) (f .offset) (f .max) (λ l. (l .shared ≡ false) × (Owner (f .fid) (c .process) l → ⊥))
+  unfolding doRead barring askOf answers answersFor bars
+  read-conflict f may access =
+      rw (with-open c t (f .fid) k may, access) (
+        λ h. let e = unless-exact _ _ (done-not _ _ _) .0 h in
+            hit-way c t (f .fid) k may ok (askOf c (f .fid) (f .offset) (f .max) Reading) refl _ (read-bars (askOf c (f .fid) (f .offset) (f .max) Reading)) (λ l. refl) (e .0) (e .1) noLock,
+        λ w. unless-exact _ _ (done-not _ _ _) .1
+            (way-hit c t (f .fid) k may ok (askOf c (f .fid) (f .offset) (f .max) Reading) refl _ (read-bars (askOf c (f .fid) (f .offset) (f .max) Reading)) (λ l. refl) w),
+      )
+
+  -- "A write is refused 1/33 exactly if any lock overlaps it save the writer's own exclusive ones."
+  pub write-conflict : (f : WriteFields) (bytes : List ℕ) (may : May c t (f .fid) k) → eqb (asked c t (f .fid) k may .access) 0 ≡ false
+      → Conflicts (doWrite c t memory f bytes)
+      ↔ InWay t (asked c t (f .fid) k may) (f .offset) (f .count) (λ l. (l .shared ≡ false) × Owner (f .fid) (c .process) l → ⊥)
+  unfolding doWrite barring askOf answers answersFor bars
+  write-conflict f bytes may access =
+      let n : Conflicts (cond (endsPast (f .offset) (f .count)) (refused NoSpace)
+      (done (resized t (asked c t (f .fid) k may .file) (f .offset) (f .count)) (written t memory (asked c t (f .fid) k may .file) (f .offset) bytes) (wrote (f .count)))) → ⊥ =
+      cond-case (λ (g : Given). Conflicts g → ⊥) (endsPast (f .offset) (f .count)) (refused NoSpace) _ (λ _. space-not) (λ _. done-not _ _ _) in
+      rw (with-open c t (f .fid) k may, access) (
+        λ h. let e = unless-exact _ _ n .0 h in
+            hit-way c t (f .fid) k may ok (askOf c (f .fid) (f .offset) (f .count) Writing) refl _ (write-bars (askOf c (f .fid) (f .offset) (f .count) Writing)) (λ l. refl) (e .0) (e .1) noLock,
+        λ w. unless-exact _ _ n .1
+            (way-hit c t (f .fid) k may ok (askOf c (f .fid) (f .offset) (f .count) Writing) refl _ (write-bars (askOf c (f .fid) (f .offset) (f .count) Writing)) (λ l. refl) w),
+      )
+
+-- ---- a lone lock
+
+-- what a lone range's walk found decides
+lone-exact : (t : Tables) (memory : List ℕ) (f : Found) (list : List Lock)
+    → Conflicts (lockingAfter t memory (settle (t .locks) (t .nlocks) (afterGrants (afterWalk f (granted list))))) ↔ ((k : ℕ) × (f ≡ At k))
+unfolding afterGrants afterWalk settle lockingAfter lockingEnd
+lone-exact t memory (At k) list = (λ h. (k, refl), λ h. (k, refl))
+lone-exact t memory Nothing list = (
+  λ h. absurd (cond-case (λ (r : Result). Conflicts (lockingAfter t memory (settle (t .locks) (t .nlocks) r)) → ⊥) (leb (length list) 128) (doneWith list) (refusedBy NoRoom)
+      (λ _. done-not _ _ _) (λ _ h. let e = h .1 in let z : _≡_ {A = ℕ} 0 1 = cc in omega arith) h),
+  λ h. let f = h .1 in let z : _≡_ {A = ℕ} 0 1 = cc in absurd (omega arith),
+)
+
+-- the range of a request with one range, and whether it is to be shared: "Type bit 0x01 means shared"
+abbrev pub loneRange : LockingFields → List ℕ → LockRange
+loneRange f area = rangeAt (eqb (f .kind / 16 % 2) 1) area 0
+
+abbrev pub loneShared : LockingFields → Bool
+loneShared f = eqb (f .kind % 2) 1
+
+module _ (c : Caller) (t : Tables) (memory : List ℕ) (k : ℕ) (ok : sound t ≡ true) (f : LockingFields) (area : List ℕ) (may : May c t (f .fid) k) where
+  -- a request with no unlocks and one range within 2^64 is the walk of that range
+  lone-is : f .unlocks ≡ 0 → f .locks ≡ 1 → servedType (f .kind) ≡ true → length area ≡ 1 * rangeSize (eqb (f .kind / 16 % 2) 1) → rangePasses (loneRange f area) ≡ false
+      → doLocking c t memory f area
+      ≡ lockingAfter t memory (settle (t .locks) (t .nlocks) (afterGrants (afterWalk (found (answers (fileOf (opensOf t)) (askFor (f .fid) (Grant (loneShared f)) (loneRange f area))) (locksOf t))
+      (granted (locksOf t ++ (lockOf (f .fid) (loneShared f) (loneRange f area) ∷ []))))))
+  unfolding doLocking requestOf locking request releaseAll afterReleases grantAll rangesAt any
+  lone-is u l s n low =
+      let e : eqb (length area) (1 * rangeSize (eqb (f .kind / 16 % 2) 1)) ≡ true = eq-eqb (length area) (1 * rangeSize (eqb (f .kind / 16 % 2) 1)) n in
+      rw (with-open c t (f .fid) k may, s, u, l, e, low)
+
+  -- "Then locks in order, each against the list as it stands, the asker's own locks included": a lone lock is refused 1/33 exactly if a listed lock
+  -- of that file overlaps it and the two are not both shared
+  pub lock-conflict : f .unlocks ≡ 0 → f .locks ≡ 1 → servedType (f .kind) ≡ true → length area ≡ 1 * rangeSize (eqb (f .kind / 16 % 2) 1) → rangePasses (loneRange f area) ≡ false
+      → Conflicts (doLocking c t memory f area)
+      ↔ InWay t (asked c t (f .fid) k may) (loneRange f area .offset) (loneRange f area .length) (λ l. (l .shared ≡ true) × (loneShared f ≡ true) → ⊥)
+  unfolding askFor answers answersFor bars
+  lock-conflict u l s n low =
+      rw (lone-is u l s n low) (
+        λ h. let e = lone-exact t memory _ _ .0 h in
+            hit-way c t (f .fid) k may ok (askFor (f .fid) (Grant (loneShared f)) (loneRange f area)) refl _ (grant-bars (loneShared f)) (λ m. refl) (e .0) (e .1) noLock,
+        λ w. lone-exact t memory _ _ .1 (way-hit c t (f .fid) k may ok (askFor (f .fid) (Grant (loneShared f)) (loneRange f area)) refl _ (grant-bars (loneShared f)) (λ m. refl) w),
+      )

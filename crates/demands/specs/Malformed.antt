@@ -1,0 +1,193 @@
+-- Which messages are answered as malformed: exactly those that are no sentence.
+-- Assumes nothing.
+use mathlib.Core.Path.{_≡_, refl, _∙_, ap}
+use mathlib.Core.Logic.{_↔_}
+use Prim.Native.Nat.{ℕ, _+_, _*_, _/_, _%_, _≤_}
+use native.Mathlib.Omega.{arith}
+use mathlib.Core.Bool.{true, false}
+use mathlib.Core.List.{List}
+use mathlib.Core.Option.{Option, none, some}
+use lib.ListN.{length, take, drop, getD, length-drop}
+use lib.Seq.{length-take-le}
+use lib.Dec.{eqb}
+use borrow.Author.Tests.{eq-eqb, ne-eqb}
+use Rattle.records.specs.declared.Tables.{Tables}
+use Rattle.records.specs.Empty.{noOpen}
+use Rattle.records.specs.Held.{opensOf}
+use Rattle.locks.specs.Status.{Status, status}
+use Rattle.locks.specs.Wire.{rangeSize, rangesAt}
+use Rattle.locks.specs.Request.{Result, settle, locking}
+use Rattle.locks.specs.declared.types.Request.{Request}
+use Rattle.soundness.specs.File.{fileOf}
+use Rattle.chain.specs.Layout.{headerCommand, FIRST, byteArea, byteCount, blockEnd, lockType}
+use Rattle.chain.specs.Grammar.{IsBlock, locking-10, locking-20, read-10, read-12, write-12, write-14, close, logoff, tree-disconnect, process-exit, Sentence}
+use Rattle.chain.specs.Chain.{blocks}
+use Rattle.chain.specs.declared.block.LockingFields.{LockingFields}
+use Rattle.chain.specs.declared.block.ReadFields.{ReadFields}
+use Rattle.chain.specs.declared.block.WriteFields.{WriteFields}
+use Rattle.chain.specs.declared.block.Block.{Block}
+use Rattle.chain.specs.declared.block.Next.{Next}
+use Rattle.readings.specs.BlockParse.{bodyAt, blockAt, block-inside}
+use Rattle.readings.specs.Chained.{Chained, chained-end, chained-more, read-chained}
+use Rattle.readings.specs.ReaderComplete.{no-sentence}
+use Rattle.message.specs.Caller.{Caller, callerOf}
+use Rattle.message.specs.Refusal.{statusOf}
+use Rattle.message.specs.Command.{Given, Said, refused, done, servedType, requestOf, lockingEnd, lockingAfter, doLocking, doRead, doWrite, endsPast, perform}
+use Rattle.message.specs.Message.{areaOf, Ran, after, afterGiven, run, served, onlyStatus, runChain, answered}
+use Rattle.message.specs.declared.refusal.Refusal.{Refusal}
+use Rattle.message.specs.declared.refusal.Refusal.the-variants.{NoSession, NoTree, NoOpen, NoAccess, LockType, NoSuchLock, PassesEnd, Conflict, NoRecord, NoSpace}
+use Rattle.demands.specs.GivenCases.{cond-case, request-case, session-case, tree-case, open-case, barred-case}
+
+-- a command is done, or refused with another status than 2/1
+pub data Other : Given → Type 0 where
+  other-refusal : {why : Refusal} → (statusOf why ≡ status 2 1 → ⊥) → Other (refused why)
+  no-refusal : {t : Tables} {memory : List ℕ} {said : Said} → Other (done t memory said)
+
+-- the refusals that a command can end with
+other-session : Other (refused NoSession)
+unfolding statusOf status
+other-session = other-refusal (λ e. let n : _≡_ {A = ℕ} 91 1 = ap (λ (x : Status). x .code) e in omega arith)
+
+other-tree : Other (refused NoTree)
+unfolding statusOf status
+other-tree = other-refusal (λ e. let n : _≡_ {A = ℕ} 5 1 = ap (λ (x : Status). x .code) e in omega arith)
+
+other-open : Other (refused NoOpen)
+unfolding statusOf status
+other-open = other-refusal (λ e. let n : _≡_ {A = ℕ} 6 1 = ap (λ (x : Status). x .code) e in omega arith)
+
+other-access : Other (refused NoAccess)
+unfolding statusOf status
+other-access = other-refusal (λ e. let n : _≡_ {A = ℕ} 5 1 = ap (λ (x : Status). x .code) e in omega arith)
+
+other-type : Other (refused LockType)
+unfolding statusOf status
+other-type = other-refusal (λ e. let n : _≡_ {A = ℕ} 65535 1 = ap (λ (x : Status). x .code) e in omega arith)
+
+other-lock : Other (refused NoSuchLock)
+unfolding statusOf status
+other-lock = other-refusal (λ e. let n : _≡_ {A = ℕ} 158 1 = ap (λ (x : Status). x .code) e in omega arith)
+
+other-past : Other (refused PassesEnd)
+unfolding statusOf status
+other-past = other-refusal (λ e. let n : _≡_ {A = ℕ} 87 1 = ap (λ (x : Status). x .code) e in omega arith)
+
+other-conflict : (k : ℕ) → Other (refused (Conflict k))
+unfolding statusOf status
+other-conflict k = other-refusal (λ e. let n : _≡_ {A = ℕ} 33 1 = ap (λ (x : Status). x .code) e in omega arith)
+
+other-record : Other (refused NoRecord)
+unfolding statusOf status
+other-record = other-refusal (λ e. let n : _≡_ {A = ℕ} 8 1 = ap (λ (x : Status). x .code) e in omega arith)
+
+other-space : Other (refused NoSpace)
+unfolding statusOf status
+other-space = other-refusal (λ e. let n : _≡_ {A = ℕ} 39 1 = ap (λ (x : Status). x .code) e in omega arith)
+
+-- a LOCKING request whose area has just the announced ranges is not malformed
+locking-other : (t : Tables) (memory : List ℕ) (file : ℕ → ℕ) (q : Request) (area : List ℕ) → length area ≡ (q .unlocks + q .locks) * rangeSize (q .large)
+    → Other (lockingAfter t memory (locking file (t .locks) (t .nlocks) q area))
+unfolding locking settle lockingAfter lockingEnd
+locking-other t memory file q area e =
+    rw (eq-eqb (length area) ((q .unlocks + q .locks) * rangeSize (q .large)) e)
+    (request-case (λ (r : Result). Other (lockingAfter t memory (settle (t .locks) (t .nlocks) r))) other-lock other-past other-conflict other-record file
+    (q .fid) (q .shared) (rangesAt (q .large) area (q .unlocks) (q .locks)) (rangesAt (q .large) area 0 (q .unlocks)) (take (t .nlocks) (t .locks))
+    (λ left list _ _ _ _. no-refusal))
+
+module _ (c : Caller) (t : Tables) (memory : List ℕ) where
+  do-locking-other : (f : LockingFields) (area : List ℕ) → length area ≡ (f .unlocks + f .locks) * rangeSize (eqb (f .kind / 16 % 2) 1)
+      → Other (doLocking c t memory f area)
+  unfolding doLocking requestOf
+  do-locking-other f area e =
+      open-case Other c t (f .fid) _ other-session other-tree other-open
+      (λ k _. cond-case Other (servedType (f .kind)) _ (refused LockType) (λ _. locking-other t memory (fileOf (opensOf t)) (requestOf f) area e) (λ _. other-type))
+
+  do-read-other : (f : ReadFields) → Other (doRead c t memory f)
+  unfolding doRead
+  do-read-other f =
+      open-case Other c t (f .fid) _ other-session other-tree other-open
+      (λ k _. cond-case Other (eqb (getD (opensOf t) k noOpen .access) 1) (refused NoAccess) _ (λ _. other-access) (λ _. barred-case Other _ _ other-conflict (λ _. no-refusal)))
+
+  do-write-other : (f : WriteFields) (bytes : List ℕ) → Other (doWrite c t memory f bytes)
+  unfolding doWrite
+  do-write-other f bytes =
+      open-case Other c t (f .fid) _ other-session other-tree other-open
+      (λ k _. cond-case Other (eqb (getD (opensOf t) k noOpen .access) 0) (refused NoAccess) _ (λ _. other-access)
+      (λ _. barred-case Other _ _ other-conflict (λ _. cond-case Other (endsPast (f .offset) (f .count)) (refused NoSpace) _ (λ _. other-space) (λ _. no-refusal))))
+
+-- "The byte area of a block is handed on as a part of the message": it has just the announced length
+pub length-area : {s : List ℕ} {at command : ℕ} → IsBlock s at command → (next : Next) → length (areaOf s (blockAt s command at next)) ≡ byteCount s at
+unfolding areaOf blockAt
+length-area {s} {at} h next =
+    let i : blockEnd s at ≤ length s = block-inside h in
+    length-take-le (byteCount s at) (drop (byteArea s at) s) (rw (length-drop (byteArea s at) s) (omega arith))
+
+-- a block of a reading is never malformed by itself
+block-other : {s : List ℕ} {at command : ℕ} (c : Caller) (t : Tables) (memory : List ℕ) → IsBlock s at command → (area bytes : List ℕ) → length area ≡ byteCount s at
+    → Other (perform c t memory (bodyAt s command at) area bytes)
+unfolding perform bodyAt rangeSize
+block-other {s} {at} c t memory (locking-10 p h) area bytes e =
+    do-locking-other c t memory _ area (rw (ne-eqb (lockType s at / 16 % 2) 1 (omega arith)) (e ∙ h .announced))
+block-other {s} {at} c t memory (locking-20 p h) area bytes e =
+    do-locking-other c t memory _ area (rw (eq-eqb (lockType s at / 16 % 2) 1 p) (e ∙ h .announced))
+block-other c t memory (read-10 h) area bytes e = do-read-other c t memory _
+block-other c t memory (read-12 h) area bytes e = do-read-other c t memory _
+block-other c t memory (write-12 h) area bytes e = do-write-other c t memory _ bytes
+block-other c t memory (write-14 h) area bytes e = do-write-other c t memory _ bytes
+block-other c t memory (close h) area bytes e = open-case Other c t _ _ other-session other-tree other-open (λ k _. no-refusal)
+block-other c t memory (logoff h) area bytes e = session-case Other c t _ other-session (λ _. no-refusal)
+block-other c t memory (tree-disconnect h) area bytes e = tree-case Other c t _ other-session other-tree no-refusal
+block-other c t memory (process-exit h) area bytes e = session-case Other c t _ other-session (λ _. no-refusal)
+
+-- a status other than 2/1, before a chain whose status is another too
+after-other : {g : Given} → Other g → (bs : List Block) (place : ℕ) (t : Tables) (memory : List ℕ) (rest : ℕ → Tables → List ℕ → Ran)
+    → ((p : ℕ) (t′ : Tables) (m : List ℕ) → rest p t′ m .status ≡ status 2 1 → ⊥) → afterGiven g bs place t memory rest .status ≡ status 2 1 → ⊥
+unfolding afterGiven after
+after-other (other-refusal n) bs place t memory rest f = n
+after-other no-refusal bs place t memory rest f = f _ _ _
+
+done-other : status 0 0 ≡ status 2 1 → ⊥
+unfolding status
+done-other e = let n : _≡_ {A = ℕ} 0 1 = ap (λ (x : Status). x .code) e in omega arith
+
+-- the blocks of a reading never end with 2/1
+pub run-other : {s : List ℕ} {command at : ℕ} {bs : List Block} (c : Caller) → Chained s command at bs → (place : ℕ) (t : Tables) (memory : List ℕ)
+    → run c s bs place t memory .status ≡ status 2 1 → ⊥
+unfolding run blockAt
+run-other {s} c (chained-end {command} {at} h l) place t memory =
+    after-other (block-other c t memory h _ _ (length-area h _)) _ place t memory _ (λ _ _ _. done-other)
+run-other {s} c (chained-more {command} {at} h l r) place t memory =
+    after-other (block-other c t memory h _ _ (length-area h _)) _ place t memory _ (λ p u m. run-other c r p u m)
+
+module _ (c : Caller) (s : List ℕ) (t : Tables) (memory : List ℕ) where
+  -- of what the reader answers, only that there is no reading ends with 2/1
+  chain-malformed : (o : Option (List Block)) → blocks s ≡ o → runChain c s o t memory .status ≡ status 2 1 → o ≡ none
+  unfolding runChain blocks
+  chain-malformed none e f = refl
+  chain-malformed (some bs) e f = absurd (run-other c (read-chained s (headerCommand s) FIRST bs e) FIRST t memory f)
+
+  chain-unread : blocks s ≡ none → runChain c s (blocks s) t memory .status ≡ status 2 1
+  unfolding runChain onlyStatus statusOf
+  chain-unread e = rw e
+
+-- "Answered as malformed: 0, Status 2/1" and "2/1 not a sentence": a message with a served command is so answered exactly if
+-- it is no sentence
+pub malformed : (connection : ℕ) (s : List ℕ) (t : Tables) (memory : List ℕ) → served (headerCommand s) ≡ true
+    → (answered connection s t memory .status ≡ status 2 1) ↔ (Sentence s → ⊥)
+unfolding answered
+malformed connection s t memory e = rw e (
+  λ f. no-sentence s .0 (chain-malformed (callerOf connection s) s t memory (blocks s) refl f),
+  λ n. chain-unread (callerOf connection s) s t memory (no-sentence s .1 n),
+)
+
+-- and then "2/22 and 2/1 come before anything is carried out"
+pub malformed-nothing : (connection : ℕ) (s : List ℕ) (t : Tables) (memory : List ℕ) → served (headerCommand s) ≡ true → (Sentence s → ⊥)
+    → answered connection s t memory ≡ onlyStatus (status 2 1) t memory
+unfolding answered runChain statusOf
+malformed-nothing connection s t memory e n = rw (e, no-sentence s .1 n)
+
+-- "2/22 header command not served", and nothing is carried out
+pub not-served : (connection : ℕ) (s : List ℕ) (t : Tables) (memory : List ℕ) → served (headerCommand s) ≡ false
+    → answered connection s t memory ≡ onlyStatus (status 2 22) t memory
+unfolding answered statusOf
+not-served connection s t memory e = rw e

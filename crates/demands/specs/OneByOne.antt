@@ -1,0 +1,290 @@
+-- Demand 3's single claim (document 01, "Sent one to a message" and "Compared"): a chain gives what its blocks give, each sent in a message
+-- of its own. Assumes nothing.
+use mathlib.Core.Path.{_≡_, refl, sym, _∙_, ap}
+use Prim.Native.Nat.{ℕ, _+_, _≤_, _<_}
+use native.Mathlib.Omega.{arith}
+use mathlib.Core.Bool.{Bool, true, false, cond, _&&_}
+use mathlib.Core.List.{List, [], _∷_, _++_, append-nil, map}
+use mathlib.Core.Option.{some}
+use lib.ListN.{length, drop}
+use lib.Seq.{drop-at}
+use lib.Dec.{eqb}
+use Rattle.lists.specs.Put.{put}
+use Rattle.wire.specs.LittleEndian.{byteAt, le16At}
+use Rattle.records.specs.declared.Tables.{Tables}
+use Rattle.locks.specs.Status.{Status, status}
+use Rattle.chain.specs.Layout.{headerCommand, FIRST, blockEnd, andxOffset}
+use Rattle.chain.specs.Grammar.{IsBlock, locking-andx, read-andx, write-andx, logoff-andx, close-plain, tree-disconnect-plain, process-exit-plain, Span, Reading}
+use Rattle.chain.specs.Chain.{blocks}
+use Rattle.chain.specs.declared.block.Block.{Block}
+use Rattle.chain.specs.declared.block.Next.{Next}
+use Rattle.chain.specs.declared.block.Next.the-variants.{End, Follow}
+use Rattle.readings.specs.BlockTests.{Served, plain as plainServed, andx as andxServed}
+use Rattle.readings.specs.BlockParse.{bodyAt, blockAt, block-inside, block-served, Link as Linked, link-plain, link-end, link-next}
+use Rattle.readings.specs.Moved.{Moved}
+use Rattle.readings.specs.Alone.{movedAlone, alone-blocks}
+use Rattle.readings.specs.ReaderSound.{spanOf}
+use Rattle.readings.specs.ReaderComplete.{reader-complete}
+use Rattle.readings.specs.Chained.{Chained, chained-end, chained-more, read-chained}
+use Rattle.message.specs.Caller.{Caller, callerOf}
+use Rattle.message.specs.Refusal.{statusOf}
+use Rattle.message.specs.Command.{Said, locked, loggedOff, read, wrote, plain, Given, refused, done, perform}
+use Rattle.message.specs.Reply.{two, replyHeader, Link, none, next, linkWords, replyBlock, refusedBlock, replySize}
+use Rattle.message.specs.Message.{areaOf, dataOf, Ran, after, linkTo, afterGiven, run, served, runChain, answered, replyOf}
+use Rattle.message.specs.declared.refusal.Refusal.{Refusal}
+use Rattle.message.specs.declared.refusal.Refusal.the-variants.{NotServed, NotSentence, NoSession, NoTree, NoOpen, NoAccess, LockType, NoSuchLock, PassesEnd, Conflict, NoRecord, NoSpace}
+use Rattle.demands.specs.PerformMoved.{perform-body, perform-bytes}
+use Rattle.demands.specs.ReplySize.{length-block, length-header}
+use Rattle.demands.specs.Alone.{alone, alone-command, alone-header, length-alone, alone-moved, alone-ends}
+
+-- ---- sending
+
+-- what the messages sent leave: the last one's status, tables and file memory, and the replies, each whole, in turn
+pub record Sent : Type 0 where
+  pub status : Status
+  pub tables : Tables
+  pub memory : List ℕ
+  pub replies : List (List ℕ)
+
+-- "refused (Status not 0)"
+unfoldable pub succeeded : Status → Bool
+succeeded s = eqb (s .class) 0 && eqb (s .code) 0
+
+-- a reply before those of the messages sent after it
+unfoldable pub replyThen : List ℕ → Sent → Sent
+replyThen reply sent = record { status = sent .status; tables = sent .tables; memory = sent .memory; replies = reply ∷ sent .replies }
+
+-- a message and what it gave: "It stops after the first one refused", else "each next" gets "those the last one left"
+unfoldable pub sendOn : List ℕ → Ran → (Tables → List ℕ → Sent) → Sent
+sendOn message r rest =
+    cond (succeeded (r .status)) (replyThen (replyOf message r) (rest (r .tables) (r .memory)))
+    (record { status = r .status; tables = r .tables; memory = r .memory; replies = replyOf message r ∷ [] })
+
+-- "each block in turn makes a message": the messages of these blocks, taken by the definition, on the same connection
+unfoldable pub sendAll : ℕ → List ℕ → List Block → Tables → List ℕ → Sent
+sendAll connection s [] t memory = record { status = status 0 0; tables = t; memory = memory; replies = [] }
+sendAll connection s (b ∷ bs) t memory =
+    sendOn (alone s b) (answered connection (alone s b) t memory) (λ t′ m. sendAll connection s bs t′ m)
+
+-- ---- comparing
+
+-- a block's AndX words (bytes 1 to 4, where it has words) and a READ's data offset (bytes 13 and 14 of a block of 12 words) "set by Reply blocks"
+unfoldable pub placed : ℕ → List ℕ → List ℕ
+placed place block = cond (eqb (byteAt block 0) 12) (put block 13 (two (place + 27))) block
+
+unfoldable pub relinked : ℕ → Link → List ℕ → List ℕ
+relinked place link block = cond (eqb (byteAt block 0) 0) block (placed place (put block 1 (linkWords link)))
+
+-- "AndX names the next block written; with none it is FF 00 00 00": the next reply's, with the command in its header
+unfoldable pub linkOf : List (List ℕ) → ℕ → Link
+linkOf [] place = none
+linkOf (reply ∷ replies) place = next (byteAt reply 4) place
+
+-- "a block for each message sent, a refused one's too: that message's reply block", end to end from a place
+unfoldable pub joined : ℕ → List (List ℕ) → List ℕ
+joined place [] = []
+joined place (reply ∷ replies) =
+    relinked place (linkOf replies (place + length (drop 32 reply))) (drop 32 reply) ++ joined (place + length (drop 32 reply)) replies
+
+-- what the chain is compared with
+unfoldable pub compared : ℕ → Sent → Ran
+compared place sent = record { status = sent .status; tables = sent .tables; memory = sent .memory; blocks = joined place (sent .replies) }
+
+-- ---- one step
+
+-- no refusal has status 0
+refusal-fails : (why : Refusal) → succeeded (statusOf why) ≡ false
+unfolding succeeded statusOf status
+refusal-fails NotServed = refl
+refusal-fails NotSentence = refl
+refusal-fails NoSession = refl
+refusal-fails NoTree = refl
+refusal-fails NoOpen = refl
+refusal-fails NoAccess = refl
+refusal-fails LockType = refl
+refusal-fails NoSuchLock = refl
+refusal-fails PassesEnd = refl
+refusal-fails (Conflict place) = refl
+refusal-fails NoRecord = refl
+refusal-fails NoSpace = refl
+
+-- a reply block of a message of its own, set for its place in the chain's reply
+relinked-block : (said : Said) (place p : ℕ) (link : Link) → relinked place link (replyBlock said p none) ≡ replyBlock said place link
+unfolding relinked placed replyBlock linkWords put two
+relinked-block locked place p none = refl
+relinked-block locked place p (next c q) = refl
+relinked-block loggedOff place p none = refl
+relinked-block loggedOff place p (next c q) = refl
+relinked-block (read bytes) place p none = refl
+relinked-block (read bytes) place p (next c q) = refl
+relinked-block (wrote count) place p none = refl
+relinked-block (wrote count) place p (next c q) = refl
+relinked-block plain place p link = refl
+
+relinked-refused : (place : ℕ) (link : Link) → relinked place link refusedBlock ≡ refusedBlock
+unfolding relinked refusedBlock
+relinked-refused place link = refl
+
+-- the block of a reply
+reply-block : (message : List ℕ) (r : Ran) → 32 ≤ length message → drop 32 (replyOf message r) ≡ r .blocks
+unfolding replyOf
+reply-block message r h = drop-at (replyHeader message (r .status)) (r .blocks) 32 (length-header message (r .status) h)
+
+module _ (message : List ℕ) (long : 32 ≤ length message) where
+  -- one reply, joined with the rest
+  joined-one : (place : ℕ) (r : Ran) (replies : List (List ℕ)) (block : List ℕ) → r .blocks ≡ block
+      → joined place (replyOf message r ∷ replies) ≡ relinked place (linkOf replies (place + length block)) block ++ joined (place + length block) replies
+  unfolding joined
+  joined-one place r replies block e = rw (reply-block message r long, e)
+
+  -- a command given in a message of its own, and in the chain
+  step : (g : Given) (bs : List Block) (place : ℕ) (t : Tables) (memory : List ℕ) (rest : Tables → List ℕ → Sent) (chain only : ℕ → Tables → List ℕ → Ran)
+      → ((p : ℕ) (u : Tables) (m : List ℕ) → only p u m ≡ record { status = status 0 0; tables = u; memory = m; blocks = [] })
+      → ((p : ℕ) (u : Tables) (m : List ℕ) → linkOf (rest u m .replies) p ≡ linkTo bs p)
+      → ((p : ℕ) (u : Tables) (m : List ℕ) → chain p u m ≡ compared p (rest u m))
+      → afterGiven g bs place t memory chain ≡ compared place (sendOn message (afterGiven g [] FIRST t memory only) rest)
+  unfolding afterGiven after sendOn compared refusedBlock linkTo status succeeded replyThen joined
+  step (refused why) bs place t memory rest chain only ends links same =
+      let e : joined place (replyOf message (record { status = statusOf why; tables = t; memory = memory; blocks = refusedBlock }) ∷ []) ≡ refusedBlock =
+      joined-one place (record { status = statusOf why; tables = t; memory = memory; blocks = refusedBlock }) [] refusedBlock refl
+      ∙ rw (relinked-refused place (linkOf [] (place + length refusedBlock))) refl in
+      rw (refusal-fails why, e)
+  step (done u m said) bs place t memory rest chain only ends links same =
+      let b : replyBlock said FIRST none ++ [] ≡ replyBlock said FIRST none = append-nil (replyBlock said FIRST none) in
+      let n : length (replyBlock said FIRST none) ≡ replySize said = length-block said FIRST none in
+      let e : joined place (replyOf message (record { status = status 0 0; tables = u; memory = m; blocks = replyBlock said FIRST none ++ [] }) ∷ rest u m .replies)
+      ≡ replyBlock said place (linkTo bs (place + replySize said)) ++ joined (place + replySize said) (rest u m .replies) =
+      joined-one place (record { status = status 0 0; tables = u; memory = m; blocks = replyBlock said FIRST none ++ [] }) (rest u m .replies) (replyBlock said FIRST none) b
+      ∙ rw (n, links (place + replySize said) u m, relinked-block said place FIRST (linkTo bs (place + replySize said))) in
+      rw (ends (FIRST + replySize said) u m, same (place + replySize said) u m, e)
+
+-- ---- a block in a message of its own
+
+-- a request of the table is served
+served-true : {command : ℕ} → Served command → served command ≡ true
+unfolding served
+served-true (plainServed close-plain) = refl
+served-true (plainServed tree-disconnect-plain) = refl
+served-true (plainServed process-exit-plain) = refl
+served-true (andxServed locking-andx) = refl
+served-true (andxServed read-andx) = refl
+served-true (andxServed write-andx) = refl
+served-true (andxServed logoff-andx) = refl
+
+-- the same caller
+alone-caller : (connection : ℕ) (s : List ℕ) (b : Block) → 32 ≤ length s → callerOf connection (alone s b) ≡ callerOf connection s
+unfolding callerOf le16At
+alone-caller connection s b long =
+    let n : (k : ℕ) → 24 ≤ k → k < 32 → byteAt (alone s b) k ≡ byteAt s k = λ k l h. alone-header s b long k h (λ e. omega arith) in
+    rw (n 28 (omega arith) (omega arith), n 29 (omega arith) (omega arith), n 24 (omega arith) (omega arith), n 25 (omega arith) (omega arith), n 26 (omega arith) (omega arith), n 27 (omega arith) (omega arith))
+
+-- nothing follows
+only-ends : (c : Caller) (s : List ℕ) (p : ℕ) (u : Tables) (m : List ℕ) → run c s [] p u m ≡ record { status = status 0 0; tables = u; memory = m; blocks = [] }
+unfolding run
+only-ends c s p u m = refl
+
+-- a block's own message gives what the block gives in the chain
+alone-answered : {s : List ℕ} {command at : ℕ} (connection : ℕ) (nx : Next) (t : Tables) (memory : List ℕ) → IsBlock s at command → 32 ≤ at → length s ≤ 8192
+    → answered connection (alone s (blockAt s command at nx)) t memory
+    ≡ afterGiven (perform (callerOf connection s) t memory (bodyAt s command at) (areaOf s (blockAt s command at nx)) (dataOf s (blockAt s command at nx))) [] FIRST t memory
+    (λ p u m. run (callerOf connection s) (alone s (blockAt s command at nx)) [] p u m)
+unfolding answered runChain run areaOf dataOf blockAt movedAlone
+alone-answered {s} {command} {at} connection nx t memory h from small =
+    let i : blockEnd s at ≤ length s = block-inside h in
+    let long : 32 ≤ length s = omega arith in
+    let m : Moved s at (alone s (blockAt s command at nx)) FIRST command = alone-moved (blockAt s command at nx) h refl from small in
+    let c : headerCommand (alone s (blockAt s command at nx)) ≡ command = alone-command s (blockAt s command at nx) long in
+    let e : blocks (alone s (blockAt s command at nx)) ≡ some (movedAlone s command at FIRST ∷ []) =
+    alone-blocks (alone s (blockAt s command at nx)) h m c (alone-ends (blockAt s command at nx) h refl from) in
+    rw (
+      c,
+      served-true (block-served h),
+      e,
+      alone-caller connection s (blockAt s command at nx) long,
+      perform-body (callerOf connection s) t memory at FIRST (bodyAt s command at),
+      perform-bytes (callerOf connection s) t memory h m,
+    )
+
+-- ---- the whole list of blocks
+
+-- the head of the replies is the first message's
+send-head : (t : Bool) (reply : List ℕ) (sent : Sent) (why : Status) (u : Tables) (m : List ℕ) (p : ℕ)
+    → linkOf (cond t (replyThen reply sent) (record { status = why; tables = u; memory = m; replies = reply ∷ [] }) .replies) p ≡ next (byteAt reply 4) p
+unfolding linkOf replyThen
+send-head true reply sent why u m p = refl
+send-head false reply sent why u m p = refl
+
+-- a reply has its message's command
+reply-command : (message : List ℕ) (r : Ran) → byteAt (replyOf message r) 4 ≡ headerCommand message
+unfolding replyOf replyHeader
+reply-command message r = refl
+
+-- the next block written in the chain is the next message's
+links-same : (connection : ℕ) (s : List ℕ) → 32 ≤ length s → (bs : List Block) (p : ℕ) (t : Tables) (memory : List ℕ)
+    → linkOf (sendAll connection s bs t memory .replies) p ≡ linkTo bs p
+unfolding sendAll linkTo sendOn linkOf
+links-same connection s long [] p t memory = refl
+links-same connection s long (b ∷ bs) p t memory =
+    send-head (succeeded (answered connection (alone s b) t memory .status)) (replyOf (alone s b) (answered connection (alone s b) t memory)) _ _ _ _ p
+    ∙ ap (λ (c : ℕ). next c p) (reply-command (alone s b) (answered connection (alone s b) t memory) ∙ alone-command s b long)
+
+-- a follower stands behind
+pub behind : {s : List ℕ} {command at : ℕ} {nx : Next} (c a : ℕ) → Linked s command at nx → nx ≡ Follow c a → blockEnd s at ≤ a
+behind c a (link-plain p) e = let z : _≡_ {A = ℕ} 0 1 = cc in absurd (omega arith)
+behind c a (link-end n f) e = let z : _≡_ {A = ℕ} 0 1 = cc in absurd (omega arith)
+behind {s} {command} {at} c a (link-next f g) e = let z : andxOffset s at ≡ a = cc in omega arith
+
+-- the message of a block of the table has a header
+alone-long : {s : List ℕ} {command at : ℕ} (nx : Next) → IsBlock s at command → 32 ≤ at → 32 ≤ length (alone s (blockAt s command at nx))
+unfolding blockAt
+alone-long {s} {command} {at} nx h from =
+    let i : blockEnd s at ≤ length s = block-inside h in
+    let long : 32 ≤ length s = omega arith in
+    omega (arith, length-alone s (blockAt s command at nx) long (omega arith))
+
+-- with no blocks left, nothing is sent
+nothing-sent : (p : ℕ) (u : Tables) (m : List ℕ)
+    → _≡_ {A = Ran} (record { status = status 0 0; tables = u; memory = m; blocks = [] }) (compared p (record { status = status 0 0; tables = u; memory = m; replies = [] }))
+unfolding compared joined
+nothing-sent p u m = refl
+
+-- from any place of the reading, and with the replies standing from any place on
+pub one-by-one-from : {s : List ℕ} {command at : ℕ} {bs : List Block} (connection : ℕ) → Chained s command at bs → 32 ≤ at → length s ≤ 8192
+    → (place : ℕ) (t : Tables) (memory : List ℕ) → run (callerOf connection s) s bs place t memory ≡ compared place (sendAll connection s bs t memory)
+unfolding run sendAll blockAt
+one-by-one-from {s} connection (chained-end {command} {at} h l) from small place t memory =
+    let i : blockEnd s at ≤ length s = block-inside h in
+    step (alone s (blockAt s command at End)) (alone-long End h from) _ [] place t memory (λ u m. sendAll connection s [] u m) (λ p u m. run (callerOf connection s) s [] p u m)
+    (λ p u m. run (callerOf connection s) (alone s (blockAt s command at End)) [] p u m) (only-ends (callerOf connection s) (alone s (blockAt s command at End)))
+    (λ p u m. links-same connection s (omega arith) [] p u m) nothing-sent
+    ∙ ap (λ (r : Ran). compared place (sendOn (alone s (blockAt s command at End)) r (λ u m. sendAll connection s [] u m))) (sym (alone-answered connection End t memory h from small))
+one-by-one-from {s} connection (chained-more {command} {at} {c} {a} {rest} h l r) from small place t memory =
+    let i : blockEnd s at ≤ length s = block-inside h in
+    let g : blockEnd s at ≤ a = behind c a l refl in
+    step (alone s (blockAt s command at (Follow c a))) (alone-long (Follow c a) h from) _ rest place t memory (λ u m. sendAll connection s rest u m)
+    (λ p u m. run (callerOf connection s) s rest p u m)
+    (λ p u m. run (callerOf connection s) (alone s (blockAt s command at (Follow c a))) [] p u m)
+    (only-ends (callerOf connection s) (alone s (blockAt s command at (Follow c a))))
+    (λ p u m. links-same connection s (omega arith) rest p u m) (λ p u m. one-by-one-from connection r (omega arith) small p u m)
+    ∙ ap (λ (r : Ran). compared place (sendOn (alone s (blockAt s command at (Follow c a))) r (λ u m. sendAll connection s rest u m)))
+    (sym (alone-answered connection (Follow c a) t memory h from small))
+
+-- the header's command of a sentence is served
+chained-served : {s : List ℕ} {command at : ℕ} {bs : List Block} → Chained s command at bs → served command ≡ true
+chained-served (chained-end h l) = served-true (block-served h)
+chained-served (chained-more h l r) = served-true (block-served h)
+
+-- "This is a single claim about the whole list of blocks": the chain's status, tables, file memory and reply blocks are what its blocks give, each
+-- sent in a message of its own
+pub one-by-one : (connection : ℕ) (s : List ℕ) (bs : List Block) → blocks s ≡ some bs → length s ≤ 8192 → (t : Tables) (memory : List ℕ)
+    → answered connection s t memory ≡ compared FIRST (sendAll connection s bs t memory)
+unfolding answered runChain blocks
+one-by-one connection s bs e small t memory =
+    let c : Chained s (headerCommand s) FIRST bs = read-chained s (headerCommand s) FIRST bs e in
+    rw (chained-served c, e) (one-by-one-from connection c (omega arith) small FIRST t memory)
+
+-- the same of any reading: its blocks are those sent
+pub one-by-one-reading : (connection : ℕ) (s : List ℕ) {spans : List Span} → Reading s spans → length s ≤ 8192 → (t : Tables) (memory : List ℕ)
+    → (bs : List Block) × (map spanOf bs ≡ spans) × (answered connection s t memory ≡ compared FIRST (sendAll connection s bs t memory))
+one-by-one-reading connection s r small t memory =
+    let a = reader-complete r in (a .0, a .2, one-by-one connection s (a .0) (a .1) small t memory)

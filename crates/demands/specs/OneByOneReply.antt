@@ -1,0 +1,115 @@
+-- "Compared" (document 01): the chain's whole reply, against the replies of its blocks sent one to a message. Assumes nothing.
+use mathlib.Core.Path.{_≡_, refl, _∙_, ap}
+use Prim.Native.Nat.{ℕ, _+_, _≤_, _<_}
+use native.Mathlib.Omega.{arith}
+use mathlib.Core.Bool.{Bool, true, false, cond}
+use mathlib.Core.List.{List, [], _∷_, _++_}
+use mathlib.Core.Option.{some}
+use lib.ListN.{length, take, drop, set}
+use lib.Seq.{take-at}
+use lib.Dec.{eqb}
+use borrow.Author.Tests.{eqb-true}
+use Rattle.lists.specs.Truth.{both-hold}
+use Rattle.wire.specs.LittleEndian.{byteAt}
+use Rattle.records.specs.declared.Tables.{Tables}
+use Rattle.locks.specs.Status.{Status, status}
+use Rattle.chain.specs.Layout.{headerCommand, FIRST, blockEnd}
+use Rattle.chain.specs.Chain.{blocks}
+use Rattle.chain.specs.declared.block.Block.{Block}
+use Rattle.readings.specs.BlockParse.{block-inside}
+use Rattle.readings.specs.MovedBytes.{part-same}
+use Rattle.readings.specs.Chained.{Chained, chained-end, chained-more, read-chained}
+use Rattle.message.specs.Reply.{two, replyHeader}
+use Rattle.message.specs.Message.{Ran, answered, replyOf}
+use Rattle.demands.specs.ReplySize.{length-header}
+use Rattle.demands.specs.Alone.{alone, alone-header, length-alone-more}
+use Rattle.demands.specs.OneByOne.{Sent, succeeded, replyThen, sendOn, sendAll, joined, compared, one-by-one}
+
+-- the last of the replies
+unfoldable pub lastReply : List (List ℕ) → List ℕ
+lastReply [] = []
+lastReply (r ∷ []) = r
+lastReply (r ∷ (q ∷ rs)) = lastReply (q ∷ rs)
+
+-- "the last reply's header with the chain's Command, then a block for each message sent"
+unfoldable pub comparedReply : List ℕ → Sent → List ℕ
+comparedReply s sent = set (take 32 (lastReply (sent .replies))) 4 (headerCommand s) ++ joined FIRST (sent .replies)
+
+module _ (s : List ℕ) (b : Block) (long : 32 ≤ length s) where
+  -- the header's last eight bytes are the chain's
+  last-bytes : take 8 (drop 24 (alone s b)) ≡ take 8 (drop 24 s)
+  last-bytes =
+      let n : 32 ≤ length (alone s b) = length-alone-more s b long in
+      part-same s (alone s b) 24 24 8 (omega arith) (omega arith) (λ k h. alone-header s b long (24 + k) (omega arith) (λ e. omega arith))
+
+  -- so the reply's header is the chain's but for the command
+  header-again : (why : Status) → set (replyHeader (alone s b) why) 4 (headerCommand s) ≡ replyHeader s why
+  unfolding replyHeader two
+  header-again why =
+      let n : (k : ℕ) → 4 < k → k < 32 → byteAt (alone s b) k ≡ byteAt s k = λ k l h. alone-header s b long k h (λ e. omega arith) in
+      rw (n 9 (omega arith) (omega arith), n 10 (omega arith) (omega arith), n 12 (omega arith) (omega arith), n 13 (omega arith) (omega arith), last-bytes)
+
+  header-of : (r : Ran) → set (take 32 (replyOf (alone s b) r)) 4 (headerCommand s) ≡ replyHeader s (r .status)
+  unfolding replyOf
+  header-of r =
+      ap (λ (l : List ℕ). set l 4 (headerCommand s))
+      (take-at (replyHeader (alone s b) (r .status)) (r .blocks) 32 (length-header (alone s b) (r .status) (length-alone-more s b long)))
+      ∙ header-again (r .status)
+
+-- status 0
+status-done : (x : Status) → succeeded x ≡ true → x ≡ status 0 0
+unfolding succeeded status
+status-done x e =
+    let h = both-hold (eqb (x .class) 0) (eqb (x .code) 0) e in
+    let a : x .class ≡ 0 = eqb-true (x .class) 0 (h .0) in
+    let c : x .code ≡ 0 = eqb-true (x .code) 0 (h .1) in
+    ap (λ (k : ℕ). record { class = k; code = x .code }) a ∙ ap (λ (k : ℕ). record { class = 0; code = k }) c
+
+-- a reply before others is not the last
+last-more : (t : Bool) (first reply : List ℕ) (sent : Sent) (why : Status) (u : Tables) (m : List ℕ)
+    → lastReply (first ∷ cond t (replyThen reply sent) (record { status = why; tables = u; memory = m; replies = reply ∷ [] }) .replies)
+    ≡ lastReply (cond t (replyThen reply sent) (record { status = why; tables = u; memory = m; replies = reply ∷ [] }) .replies)
+unfolding lastReply replyThen
+last-more true first reply sent why u m = refl
+last-more false first reply sent why u m = refl
+
+-- the last header of what is sent, where something is
+abbrev LastHeader : List ℕ → Sent → Type 0
+LastHeader s sent = set (take 32 (lastReply (sent .replies))) 4 (headerCommand s) ≡ replyHeader s (sent .status)
+
+send-last : (t : Bool) (s reply : List ℕ) (sent : Sent) (why : Status) (u : Tables) (m : List ℕ)
+    → (t ≡ true → LastHeader s (replyThen reply sent)) → (t ≡ false → LastHeader s (record { status = why; tables = u; memory = m; replies = reply ∷ [] }))
+    → LastHeader s (cond t (replyThen reply sent) (record { status = why; tables = u; memory = m; replies = reply ∷ [] }))
+send-last true s reply sent why u m f g = f refl
+send-last false s reply sent why u m f g = g refl
+
+last-header : (connection : ℕ) (s : List ℕ) → 32 ≤ length s → (b : Block) (bs : List Block) (t : Tables) (memory : List ℕ)
+    → LastHeader s (sendAll connection s (b ∷ bs) t memory)
+unfolding sendAll sendOn lastReply replyThen
+last-header connection s long b [] t memory =
+    send-last (succeeded (answered connection (alone s b) t memory .status)) s (replyOf (alone s b) (answered connection (alone s b) t memory)) _ _ _ _
+    (λ e. header-of s b long (answered connection (alone s b) t memory) ∙ ap (replyHeader s) (status-done (answered connection (alone s b) t memory .status) e))
+    (λ e. header-of s b long (answered connection (alone s b) t memory))
+last-header connection s long b (d ∷ bs) t memory =
+    let r : Ran = answered connection (alone s b) t memory in
+    send-last (succeeded (answered connection (alone s b) t memory .status)) s (replyOf (alone s b) (answered connection (alone s b) t memory)) _ _ _ _
+    (λ e. ap (λ (l : List ℕ). set (take 32 l) 4 (headerCommand s))
+    (last-more (succeeded (answered connection (alone s d) (r .tables) (r .memory) .status)) (replyOf (alone s b) r) (replyOf (alone s d) (answered connection (alone s d) (r .tables) (r .memory))) _ _ _ _)
+    ∙ last-header connection s long d bs (r .tables) (r .memory))
+    (λ e. header-of s b long (answered connection (alone s b) t memory))
+
+-- a reading's blocks: there is one, behind a header
+chained-header : {s : List ℕ} {command at : ℕ} {bs : List Block} (connection : ℕ) → Chained s command at bs → 32 ≤ at → (t : Tables) (memory : List ℕ)
+    → LastHeader s (sendAll connection s bs t memory)
+chained-header {s} connection (chained-end {command} {at} h l) from t memory =
+    let i : blockEnd s at ≤ length s = block-inside h in last-header connection s (omega arith) _ _ t memory
+chained-header {s} connection (chained-more {command} {at} h l r) from t memory =
+    let i : blockEnd s at ≤ length s = block-inside h in last-header connection s (omega arith) _ _ t memory
+
+-- "Its reply is the last reply's header with the chain's Command, then a block for each message sent, a refused one's too"
+pub one-by-one-reply : (connection : ℕ) (s : List ℕ) (bs : List Block) → blocks s ≡ some bs → length s ≤ 8192 → (t : Tables) (memory : List ℕ)
+    → replyOf s (answered connection s t memory) ≡ comparedReply s (sendAll connection s bs t memory)
+unfolding replyOf comparedReply compared blocks
+one-by-one-reply connection s bs e small t memory =
+    let c : Chained s (headerCommand s) FIRST bs = read-chained s (headerCommand s) FIRST bs e in
+    rw (one-by-one connection s bs e small t memory, chained-header connection c (omega arith) t memory)

@@ -1,0 +1,29 @@
+-- How long replies are. Assumes nothing.
+use mathlib.Core.Path.{_≡_, refl}
+use Prim.Native.Nat.{ℕ, _≤_}
+use native.Mathlib.Omega.{arith}
+use mathlib.Core.List.{List}
+use lib.ListN.{length, take, drop, length-take, length-drop}
+use Rattle.locks.specs.Status.{Status}
+use Rattle.message.specs.Command.{Said, locked, loggedOff, read, wrote, plain}
+use Rattle.message.specs.Reply.{two, replyHeader, Link, none, next, linkWords, replyBlock, replySize}
+
+-- "Reply blocks": a block's length by what it says, whatever it names and wherever it stands
+pub length-block : (said : Said) (place : ℕ) (link : Link) → length (replyBlock said place link) ≡ replySize said
+unfolding replyBlock replySize linkWords two
+length-block locked place none = refl
+length-block locked place (next c p) = refl
+length-block loggedOff place none = refl
+length-block loggedOff place (next c p) = refl
+length-block (read bytes) place none = omega arith
+length-block (read bytes) place (next c p) = omega arith
+length-block (wrote count) place none = refl
+length-block (wrote count) place (next c p) = refl
+length-block plain place link = refl
+
+-- "Header": "32 bytes"
+pub length-header : (s : List ℕ) (why : Status) → 32 ≤ length s → length (replyHeader s why) ≡ 32
+unfolding replyHeader two
+length-header s why h =
+    let e : length (take 8 (drop 24 s)) ≡ 8 = rw (length-take, length-drop) (omega arith) in
+    omega arith

@@ -1,0 +1,231 @@
+-- Demand 1 for messages: "Every call on sound tables leaves sound tables" (document 01, "Tables and room"). Assumes nothing.
+use mathlib.Core.Path.{_≡_, refl, _∙_}
+use Prim.Native.Nat.{ℕ, max, _+_, _*_, _≤_}
+use native.Mathlib.Omega.{arith}
+use mathlib.Core.Bool.{true, false}
+use mathlib.Core.List.{List, [], _∷_, map}
+use mathlib.Core.Option.{Option, none, some}
+use lib.ListN.{length, getD, set, length-set}
+use lib.Dec.{ltb, eqb}
+use borrow.Author.Tests.{leb-true, le-leb, ltb-false, eqb-true, eq-eqb}
+use Rattle.lists.specs.Walk.{found}
+use Rattle.lists.specs.Members.{all-each, one-any, all-set, in-map}
+use Rattle.lists.specs.Truth.{both-hold}
+use Rattle.lists.specs.declared.Found.the-variants.{At}
+use Rattle.records.specs.declared.Lock.{Lock}
+use Rattle.records.specs.declared.Tables.{Tables}
+use Rattle.records.specs.Empty.{noOpen, noFile}
+use Rattle.records.specs.Held.{sessionsOf, treesOf, opensOf, locksOf, withLocks, withFiles}
+use Rattle.numbers.specs.Number.{contains}
+use Rattle.numbers.specs.Column.{fidOf}
+use Rattle.locks.specs.Wire.{rangeSize, rangesAt}
+use Rattle.locks.specs.Request.{Result, done as doneWith, refused as refusedBy, settle, request, locking}
+use Rattle.locks.specs.declared.types.Request.{Request}
+use Rattle.locks.specs.declared.types.Outcome.the-variants.{Malformed}
+use Rattle.soundness.specs.File.{fileOf}
+use Rattle.soundness.specs.Sound.{sound, fileOk}
+use Rattle.removal.specs.Removal.{remove}
+use Rattle.removal.specs.declared.Gone.{Gone}
+use Rattle.removal.specs.declared.Gone.the-variants.{Session as UserGone, Tree as TreeGone, Open as OpenGone, Process as ProcessGone}
+use Rattle.claims.specs.SoundParts.{Sound, LocksOk, sound-says, sound-lists}
+use Rattle.claims.specs.RuleLaws.{open-says}
+use Rattle.claims.specs.Shaped.{Shaped, shaped-locks, shaped-files, locks-with}
+use Rattle.claims.specs.RemovalSound.{remove-sound, remove-shaped}
+use Rattle.chain.specs.Layout.{headerCommand, FIRST}
+use Rattle.chain.specs.Chain.{blocks}
+use Rattle.chain.specs.declared.block.LockingFields.{LockingFields}
+use Rattle.chain.specs.declared.block.ReadFields.{ReadFields}
+use Rattle.chain.specs.declared.block.WriteFields.{WriteFields}
+use Rattle.chain.specs.declared.block.Body.{Body}
+use Rattle.chain.specs.declared.block.Body.the-variants.{Locking as LockingBody, Read as ReadBody, Write as WriteBody, Close, Logoff, TreeDisconnect, ProcessExit}
+use Rattle.chain.specs.declared.block.Block.{Block}
+use Rattle.message.specs.Caller.{Caller, callerOf}
+use Rattle.message.specs.Refusal.{statusOf}
+use Rattle.message.specs.Contents.{sizeOf, resized}
+use Rattle.message.specs.Command.{Given, Said, refused, done, isOpen, servedType, requestOf, withLockList, lockingEnd, lockingAfter, doLocking, doRead, endsPast, doWrite, perform}
+use Rattle.message.specs.Message.{areaOf, dataOf, Ran, after, afterGiven, run, served, onlyStatus, runChain, answered}
+use Rattle.message.specs.declared.refusal.Refusal.{Refusal}
+use Rattle.message.specs.declared.refusal.Refusal.the-variants.{NoAccess, LockType, NoSpace}
+use Rattle.demands.specs.GivenCases.{cond-case, request-case, session-case, tree-case, open-case, barred-case}
+use Rattle.demands.specs.FoundFacts.{Hit, found-hit, all-getD}
+use Rattle.demands.specs.LockingSound.{release-ok, grant-ok}
+
+-- tables that a call may be given: sound, with arrays of their room
+pub record Good (t : Tables) : Type 0 where
+  pub sound : sound t ≡ true
+  pub shaped : Shaped t
+
+-- a command refused, or done and good tables left
+pub data Keeps : Given → Type 0 where
+  keeps-refused : {why : Refusal} → Keeps (refused why)
+  keeps-done : {t : Tables} {memory : List ℕ} {said : Said} → Good t → Keeps (done t memory said)
+
+-- the tables that a command left
+pub keeps-good : {t : Tables} {memory : List ℕ} {said : Said} → Keeps (done t memory said) → Good t
+keeps-good (keeps-done g) = g
+
+-- the open that a caller names: it is listed, with that FID
+module _ (c : Caller) (t : Tables) (fid k : ℕ) (e : found (isOpen c fid) (opensOf t) ≡ At k) where
+  pub open-hit : Hit (isOpen c fid) (opensOf t) (getD (opensOf t) k noOpen)
+  open-hit = found-hit (isOpen c fid) (opensOf t) k noOpen e
+
+  pub open-fid : getD (opensOf t) k noOpen .fid ≡ fid
+  unfolding isOpen
+  open-fid = eqb-true (getD (opensOf t) k noOpen .fid) fid (both-hold (eqb (getD (opensOf t) k noOpen .fid) fid) _ (open-hit .passes) .0)
+
+  -- its FID is in use
+  pub open-known : contains fid (map fidOf (opensOf t)) ≡ true
+  unfolding contains
+  open-known =
+      one-any (λ (x : ℕ). eqb x fid) (in-map fidOf (open-hit .listed)) (eq-eqb (getD (opensOf t) k noOpen .fid) fid open-fid)
+
+  -- its file is one of the 16
+  pub open-file : Sound t → getD (opensOf t) k noOpen .file ≤ 15
+  open-file s =
+      leb-true (getD (opensOf t) k noOpen .file) 15 (open-says (treesOf t) (getD (opensOf t) k noOpen) (all-each _ (open-hit .listed) (s .records .opensOk)) .file)
+
+-- a file's size
+pub size-most : (t : Tables) (file : ℕ) → Sound t → sizeOf t file ≤ 4096
+unfolding sizeOf fileOk
+size-most t file s = leb-true (getD (t .files) file noFile .size) 4096 (all-getD fileOk (t .files) file noFile refl (s .sizes))
+
+-- ---- LOCKING
+
+-- the tables with the list that a request leaves
+locks-left : (t : Tables) (list : List Lock)
+    → withLockList t (settle (t .locks) (t .nlocks) (doneWith list) .locks) (settle (t .locks) (t .nlocks) (doneWith list) .count) ≡ withLocks t list
+unfolding withLockList settle withLocks
+locks-left t list = refl
+
+module _ (t : Tables) (g : Good t) where
+  listed : Sound t
+  listed = sound-says t (g .sound)
+
+  -- a list that obeys the rules for locks, and for which there is room
+  locks-good : (list : List Lock) → length list ≤ 128 → LocksOk (opensOf t) list → Good (withLocks t list)
+  unfolding withLocks
+  locks-good list h ok =
+      let r = listed .room in
+      record {
+        sound = sound-lists (withLocks t list) (sessionsOf t) (treesOf t) (opensOf t) list refl refl refl (locks-with t list)
+            (record { sessionRoom = r .sessionRoom; treeRoom = r .treeRoom; openRoom = r .openRoom; lockRoom = h })
+            (listed .sizes) (listed .records) ok;
+        shaped = shaped-locks t (g .shaped) list h;
+      }
+
+  -- a request that is done leaves such a list
+  request-keeps : (memory : List ℕ) (q : Request) (area : List ℕ) → contains (q .fid) (map fidOf (opensOf t)) ≡ true
+      → Keeps (lockingAfter t memory (locking (fileOf (opensOf t)) (t .locks) (t .nlocks) q area))
+  unfolding locking settle lockingAfter lockingEnd
+  request-keeps memory q area known =
+      cond-case (λ (r : Result). Keeps (lockingAfter t memory (settle (t .locks) (t .nlocks) r))) (eqb (length area) ((q .unlocks + q .locks) * rangeSize (q .large)))
+      (request (fileOf (opensOf t)) (q .fid) (q .shared) (rangesAt (q .large) area 0 (q .unlocks)) (rangesAt (q .large) area (q .unlocks) (q .locks)) (locksOf t))
+      (refusedBy Malformed)
+      (λ _. request-case (λ (r : Result). Keeps (lockingAfter t memory (settle (t .locks) (t .nlocks) r))) keeps-refused keeps-refused (λ k. keeps-refused) keeps-refused
+      (fileOf (opensOf t)) (q .fid) (q .shared) (rangesAt (q .large) area (q .unlocks) (q .locks)) (rangesAt (q .large) area 0 (q .unlocks)) (locksOf t)
+      (λ left list e low f h. keeps-done (rw (locks-left t list)
+      (locks-good list h
+      (grant-ok (opensOf t) (q .fid) (q .shared) known (rangesAt (q .large) area (q .unlocks) (q .locks)) left list low
+      (release-ok (opensOf t) (fileOf (opensOf t)) (q .fid) (rangesAt (q .large) area 0 (q .unlocks)) (locksOf t) left (listed .locks) e) f)))))
+      (λ _. keeps-refused)
+
+  -- ---- a write
+
+  -- a file's new size
+  sized-good : (file size : ℕ) → size ≤ 4096 → Good (withFiles t (set (t .files) file (record { size = size })))
+  unfolding withFiles fileOk
+  sized-good file size h =
+      record {
+        sound = sound-lists (withFiles t (set (t .files) file (record { size = size }))) (sessionsOf t) (treesOf t) (opensOf t) (locksOf t) refl refl refl refl
+            (listed .room) (all-set fileOk (t .files) file (record { size = size }) (listed .sizes) (le-leb size 4096 h)) (listed .records) (listed .locks);
+        shaped = shaped-files t (g .shaped) (set (t .files) file (record { size = size })) (length-set (t .files) file (record { size = size }) ∙ g .shaped .files16);
+      }
+
+  -- "and a size below the write's end becomes that end": at most 4,096
+  resized-good : (file offset count : ℕ) → endsPast offset count ≡ false → Good (resized t file offset count)
+  unfolding resized endsPast
+  resized-good file offset count e =
+      cond-case Good (eqb count 0) t (withFiles t (set (t .files) file (record { size = max (sizeOf t file) (offset + count) }))) (λ _. g)
+      (λ f. let past : ltb 4096 (offset + count) ≡ false = rw f at e in
+      let low : offset + count ≤ 4096 = ltb-false 4096 (offset + count) past in
+      let most : sizeOf t file ≤ 4096 = size-most t file listed in
+      sized-good file (max (sizeOf t file) (offset + count)) (omega arith))
+
+  -- ---- all seven
+
+  module _ (c : Caller) (memory : List ℕ) where
+    locking-keeps : (f : LockingFields) (area : List ℕ) → Keeps (doLocking c t memory f area)
+    unfolding doLocking requestOf
+    locking-keeps f area =
+        open-case Keeps c t (f .fid) _ keeps-refused keeps-refused keeps-refused
+        (λ k e. cond-case Keeps (servedType (f .kind)) _ (refused LockType)
+        (λ _. request-keeps memory (requestOf f) area (open-known c t (f .fid) k e)) (λ _. keeps-refused))
+
+    read-keeps : (f : ReadFields) → Keeps (doRead c t memory f)
+    unfolding doRead
+    read-keeps f =
+        open-case Keeps c t (f .fid) _ keeps-refused keeps-refused keeps-refused
+        (λ k _. cond-case Keeps (eqb (getD (opensOf t) k noOpen .access) 1) (refused NoAccess) _ (λ _. keeps-refused)
+        (λ _. barred-case Keeps _ _ (λ j. keeps-refused) (λ _. keeps-done g)))
+
+    write-keeps : (f : WriteFields) (bytes : List ℕ) → Keeps (doWrite c t memory f bytes)
+    unfolding doWrite
+    write-keeps f bytes =
+        open-case Keeps c t (f .fid) _ keeps-refused keeps-refused keeps-refused
+        (λ k _. cond-case Keeps (eqb (getD (opensOf t) k noOpen .access) 0) (refused NoAccess) _ (λ _. keeps-refused)
+        (λ _. barred-case Keeps _ _ (λ j. keeps-refused)
+        (λ _. cond-case Keeps (endsPast (f .offset) (f .count)) (refused NoSpace) _ (λ _. keeps-refused)
+        (λ e. keeps-done (resized-good (getD (opensOf t) k noOpen .file) (f .offset) (f .count) e)))))
+
+    -- a removal
+    gone-good : (gone : Gone) → Good (remove gone t)
+    gone-good gone = record { sound = remove-sound gone t (g .sound); shaped = remove-shaped gone t (g .shaped) (g .sound) }
+
+    -- whatever the command, its bytes and its data
+    pub perform-keeps : (b : Body) (area bytes : List ℕ) → Keeps (perform c t memory b area bytes)
+    unfolding perform
+    perform-keeps (LockingBody f) area bytes = locking-keeps f area
+    perform-keeps (ReadBody f) area bytes = read-keeps f
+    perform-keeps (WriteBody f) area bytes = write-keeps f bytes
+    perform-keeps (Close fid) area bytes = open-case Keeps c t fid _ keeps-refused keeps-refused keeps-refused (λ k _. keeps-done (gone-good (OpenGone fid)))
+    perform-keeps Logoff area bytes = session-case Keeps c t _ keeps-refused (λ _. keeps-done (gone-good (UserGone (c .uid))))
+    perform-keeps TreeDisconnect area bytes = tree-case Keeps c t _ keeps-refused keeps-refused (keeps-done (gone-good (TreeGone (c .tid))))
+    perform-keeps ProcessExit area bytes = session-case Keeps c t _ keeps-refused (λ _. keeps-done (gone-good (ProcessGone (c .uid) (c .process))))
+
+-- ---- a chain
+
+after-keeps : {d : Given} → Keeps d → (bs : List Block) (place : ℕ) (t : Tables) (memory : List ℕ) (rest : ℕ → Tables → List ℕ → Ran) → Good t
+    → ((p : ℕ) (u : Tables) (m : List ℕ) → Good u → Good (rest p u m .tables)) → Good (afterGiven d bs place t memory rest .tables)
+unfolding afterGiven after
+after-keeps keeps-refused bs place t memory rest g f = g
+after-keeps (keeps-done h) bs place t memory rest g f = f _ _ _ h
+
+-- "command by command": each leaves good tables
+pub run-keeps : (c : Caller) (s : List ℕ) (bs : List Block) (place : ℕ) (t : Tables) (memory : List ℕ) → Good t → Good (run c s bs place t memory .tables)
+unfolding run
+run-keeps c s [] place t memory g = g
+run-keeps c s (b ∷ bs) place t memory g =
+    after-keeps (perform-keeps t g c memory (b .body) (areaOf s b) (dataOf s b)) bs place t memory _ g (λ p u m h. run-keeps c s bs p u m h)
+
+chain-keeps : (c : Caller) (s : List ℕ) (o : Option (List Block)) (t : Tables) (memory : List ℕ) → Good t → Good (runChain c s o t memory .tables)
+unfolding runChain onlyStatus
+chain-keeps c s none t memory g = g
+chain-keeps c s (some bs) t memory g = run-keeps c s bs FIRST t memory g
+
+-- "Every call on sound tables leaves sound tables": a message does, whatever its bytes
+pub answered-good : (connection : ℕ) (s : List ℕ) (t : Tables) (memory : List ℕ) → Good t → Good (answered connection s t memory .tables)
+unfolding answered onlyStatus
+answered-good connection s t memory g =
+    cond-case (λ (r : Ran). Good (r .tables)) (served (headerCommand s)) (runChain (callerOf connection s) s (blocks s) t memory) _
+    (λ _. chain-keeps (callerOf connection s) s (blocks s) t memory g) (λ _. g)
+
+-- the same, as the paper says it
+pub answered-sound : (connection : ℕ) (s : List ℕ) (t : Tables) (memory : List ℕ) → sound t ≡ true → Shaped t
+    → sound (answered connection s t memory .tables) ≡ true
+answered-sound connection s t memory e h = answered-good connection s t memory (record { sound = e; shaped = h }) .sound
+
+-- "A command refused changes no table and no file byte, its own unlocks included": what it leaves is what it was given, with its status
+pub refused-nothing : (why : Refusal) (bs : List Block) (place : ℕ) (t : Tables) (memory : List ℕ) (rest : ℕ → Tables → List ℕ → Ran)
+    → afterGiven (refused why) bs place t memory rest ≡ onlyStatus (statusOf why) t memory
+unfolding afterGiven onlyStatus
+refused-nothing why bs place t memory rest = refl

@@ -1,0 +1,137 @@
+-- The call itself, `take-message`: demand 1, free bytes, malformed messages and the messages sent one by one, of what the call gives. Assumes nothing.
+use mathlib.Core.Path.{_≡_, refl, sym, ap, _∙_}
+use Prim.Native.Nat.{ℕ, _+_, _≤_, _<_}
+use native.Mathlib.Omega.{arith}
+use mathlib.Core.Bool.{true, false, not, _||_}
+use mathlib.Core.List.{List, [], _∷_}
+use mathlib.Core.Option.{some}
+use lib.ListN.{length, take}
+use lib.Dec.{eqb, ltb}
+use borrow.Author.Tests.{ltb-false, le-ltb, eq-eqb}
+use Rattle.lists.specs.Truth.{neither-holds}
+use Rattle.wire.specs.LittleEndian.{byteAt}
+use Rattle.records.specs.declared.Tables.{Tables}
+use Rattle.locks.specs.Status.{status}
+use Rattle.soundness.specs.Sound.{sound}
+use Rattle.chain.specs.Layout.{headerCommand, FIRST, blockEnd}
+use Rattle.chain.specs.Grammar.{IsBlock, Span, Reading, Sentence}
+use Rattle.chain.specs.Header.{startsSmb, isReply, dropped}
+use Rattle.chain.specs.Chain.{blocks}
+use Rattle.chain.specs.declared.block.Block.{Block}
+use Rattle.chain.specs.declared.block.Next.{Next}
+use Rattle.chain.specs.declared.block.Next.the-variants.{End, Follow}
+use Rattle.readings.specs.BlockParse.{blockAt, block-inside}
+use Rattle.readings.specs.Moved.{blockSize}
+use Rattle.readings.specs.FreeBytes.{AllStand}
+use Rattle.readings.specs.Chained.{Chained, chained-end, chained-more, read-chained}
+use Rattle.message.specs.Message.{served, onlyStatus, answered, Taken, notTaken, replied, take-message}
+use Rattle.demands.specs.GivenCases.{cond-case}
+use Rattle.demands.specs.Malformed.{malformed-nothing, not-served}
+use Rattle.demands.specs.FreeBytesMessage.{free-answered, free-reply}
+use Rattle.demands.specs.Alone.{alone, alone-header, length-alone}
+use Rattle.demands.specs.OneByOne.{behind}
+use Rattle.demands.specs.Sound.{Good, answered-good}
+use Rattle.demands.specs.MemorySize.{answered-memory}
+
+-- "Every call on sound tables leaves sound tables": the call that takes a message, whatever it is given
+pub take-message-good : (connection : ℕ) (s : List ℕ) (t : Tables) (memory room : List ℕ) → Good t → Good (take-message connection s t memory room .tables)
+unfolding take-message notTaken replied
+take-message-good connection s t memory room g =
+    cond-case (λ (r : Taken). Good (r .tables)) (ltb (length room) 12292 || not (eqb (length memory) 65536)) (notTaken 2 t memory room) _ (λ _. g)
+    (λ _. cond-case (λ (r : Taken). Good (r .tables)) (not (sound t)) (notTaken 4 t memory room) _ (λ _. g)
+    (λ _. cond-case (λ (r : Taken). Good (r .tables)) (dropped s) (notTaken 1 t memory room) (replied s room (answered connection s t memory)) (λ _. g)
+    (λ _. answered-good connection s t memory g)))
+
+-- "Fit to be answered: rows 1, 2 and 4 don't apply"
+pub record Fit (s : List ℕ) (t : Tables) (memory room : List ℕ) : Type 0 where
+  pub room-enough : 12292 ≤ length room
+  pub memory-whole : length memory ≡ 65536
+  pub tables-sound : sound t ≡ true
+  pub not-dropped : dropped s ≡ false
+
+-- such a message is answered
+pub fit-answered : (connection : ℕ) (s : List ℕ) (t : Tables) (memory room : List ℕ) → Fit s t memory room
+    → take-message connection s t memory room ≡ replied s room (answered connection s t memory)
+unfolding take-message
+fit-answered connection s t memory room f =
+    rw (le-ltb (length room) 12292 (f .room-enough), eq-eqb (length memory) 65536 (f .memory-whole), f .tables-sound, f .not-dropped)
+
+-- "of two messages fit to be answered, let header, connection, tables and files be equal. If the blocks of a reading of one stand unchanged at the same
+-- places in the other, .. number, reply, tables, files and whatever else the call gives are equal."
+pub free-taken : (connection : ℕ) (s t : List ℕ) → take 32 t ≡ take 32 s → {spans : List Span} → Reading s spans → AllStand s t spans
+    → (u : Tables) (memory room : List ℕ) → Fit s u memory room → Fit t u memory room → take-message connection t u memory room ≡ take-message connection s u memory room
+unfolding replied
+free-taken connection s t header r stands u memory room f g =
+    fit-answered connection t u memory room g
+    ∙ rw (free-reply s t header r stands connection u memory, free-answered s t header r stands connection u memory)
+    (sym (fit-answered connection s u memory room f))
+
+-- "Answered as malformed: 0, Status 2/1": a message with a served command that is no sentence changes nothing
+pub malformed-taken : (connection : ℕ) (s : List ℕ) (t : Tables) (memory room : List ℕ) → Fit s t memory room → served (headerCommand s) ≡ true → (Sentence s → ⊥)
+    → take-message connection s t memory room ≡ replied s room (onlyStatus (status 2 1) t memory)
+malformed-taken connection s t memory room f e n = fit-answered connection s t memory room f ∙ ap (replied s room) (malformed-nothing connection s t memory e n)
+
+-- "2/22 header command not served": nor does one whose command is not served
+pub not-served-taken : (connection : ℕ) (s : List ℕ) (t : Tables) (memory room : List ℕ) → Fit s t memory room → served (headerCommand s) ≡ false
+    → take-message connection s t memory room ≡ replied s room (onlyStatus (status 2 22) t memory)
+not-served-taken connection s t memory room f e = fit-answered connection s t memory room f ∙ ap (replied s room) (not-served connection s t memory e)
+
+-- ---- the messages sent one by one are fit to be answered
+
+module _ (s : List ℕ) (fit : dropped s ≡ false) where
+  -- what a message that is not dropped has
+  pub not-long : length s ≤ 8192
+  unfolding dropped
+  not-long =
+      let a = neither-holds (ltb (length s) 35) (ltb 8192 (length s) || (not (startsSmb s) || isReply s)) fit in
+      let b = neither-holds (ltb 8192 (length s)) (not (startsSmb s) || isReply s) (a .1) in
+      ltb-false 8192 (length s) (b .0)
+
+  header-fits : (not (startsSmb s) || isReply s) ≡ false
+  unfolding dropped
+  header-fits =
+      let a = neither-holds (ltb (length s) 35) (ltb 8192 (length s) || (not (startsSmb s) || isReply s)) fit in
+      neither-holds (ltb 8192 (length s)) (not (startsSmb s) || isReply s) (a .1) .1
+
+  -- a block's own message is not dropped
+  alone-kept : {command at : ℕ} (nx : Next) → IsBlock s at command → 32 ≤ at → dropped (alone s (blockAt s command at nx)) ≡ false
+  unfolding dropped startsSmb isReply blockAt
+  alone-kept {command} {at} nx h from =
+      let i : blockEnd s at ≤ length s = block-inside h in
+      let m : length s ≤ 8192 = not-long in
+      let long : 32 ≤ length s = omega arith in
+      let n : length (alone s (blockAt s command at nx)) ≡ 32 + blockSize s at = length-alone s (blockAt s command at nx) long (omega arith) in
+      let b : (k : ℕ) → k < 32 → (k ≡ 4 → ⊥) → byteAt (alone s (blockAt s command at nx)) k ≡ byteAt s k = alone-header s (blockAt s command at nx) long in
+      rw (
+        le-ltb (length (alone s (blockAt s command at nx))) 35 (omega arith),
+        le-ltb 8192 (length (alone s (blockAt s command at nx))) (omega arith),
+        b 0 (omega arith) (λ e. omega arith),
+        b 1 (omega arith) (λ e. omega arith),
+        b 2 (omega arith) (λ e. omega arith),
+        b 3 (omega arith) (λ e. omega arith),
+        b 9 (omega arith) (λ e. omega arith),
+      )
+      header-fits
+
+-- each message in turn, with what the last one left, is fit to be answered in any room of 12,292
+pub data AllFit (connection : ℕ) (s : List ℕ) : List Block → Tables → List ℕ → Type 0 where
+  none-left : {t : Tables} {memory : List ℕ} → AllFit connection s [] t memory
+  next-fits : {b : Block} {bs : List Block} {t : Tables} {memory : List ℕ} → ((room : List ℕ) → 12292 ≤ length room → Fit (alone s b) t memory room)
+      → AllFit connection s bs (answered connection (alone s b) t memory .tables) (answered connection (alone s b) t memory .memory) → AllFit connection s (b ∷ bs) t memory
+
+all-fit-from : {s : List ℕ} {command at : ℕ} {bs : List Block} (connection : ℕ) → Chained s command at bs → 32 ≤ at → dropped s ≡ false → (t : Tables) (memory : List ℕ) → Good t
+    → length memory ≡ 65536 → AllFit connection s bs t memory
+all-fit-from {s} connection (chained-end {command} {at} h l) from fit t memory g full =
+    next-fits (λ room e. record { room-enough = e; memory-whole = full; tables-sound = g .sound; not-dropped = alone-kept s fit End h from }) none-left
+all-fit-from {s} connection (chained-more {command} {at} {c} {a} h l r) from fit t memory g full =
+    let i : blockEnd s at ≤ a = behind c a l refl in
+    next-fits (λ room e. record { room-enough = e; memory-whole = full; tables-sound = g .sound; not-dropped = alone-kept s fit (Follow c a) h from })
+    (all-fit-from connection r (omega arith) fit _ _ (answered-good connection (alone s (blockAt s command at (Follow c a))) t memory g)
+    (answered-memory connection (alone s (blockAt s command at (Follow c a))) t memory g full))
+
+-- "Each is taken by demand 2's definition, same connection, reply room 12,292": of a sentence that is not dropped, on sound tables, every block's
+-- message is fit to be answered, so that the call gives it number 0 and what `answered` says (`fit-answered`)
+pub all-fit : (connection : ℕ) (s : List ℕ) (bs : List Block) → blocks s ≡ some bs → dropped s ≡ false → (t : Tables) (memory : List ℕ) → Good t → length memory ≡ 65536
+    → AllFit connection s bs t memory
+unfolding blocks
+all-fit connection s bs e fit t memory g full = all-fit-from connection (read-chained s (headerCommand s) FIRST bs e) (omega arith) fit t memory g full

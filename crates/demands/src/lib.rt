@@ -1,0 +1,1 @@
+// Theorems on what a message gives; no code.
