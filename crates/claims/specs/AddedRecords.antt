@@ -22,8 +22,7 @@ use Rattle.lists.specs.Members.{all-each, each-all, any-more, all-snoc}
 use Rattle.claims.specs.Numbered.{contains-in, in-contains, numbered-snoc}
 use Rattle.claims.specs.Number.{smallest-low, smallest-high, smallest-free}
 use Rattle.claims.specs.SoundParts.{RecordsOk, LocksOk}
-use Rattle.claims.specs.RuleLaws.{tree-says, tree-ok, open-says, open-ok, LockOk, lock-says, lock-ok}
-use Rattle.claims.specs.RuleLaws.{fileOf-other, fileOf-here, contains-later, agreeAll-same}
+use Rattle.claims.specs.RuleLaws.{tree-says, tree-ok, open-says, open-ok, LockOk, lock-says, lock-ok, fileOf-other, fileOf-here, contains-later, agreeAll-same}
 
 -- ---- one more behind
 

@@ -5,16 +5,15 @@ use Prim.Native.Nat.{ℕ, _-_, _^_}
 use mathlib.Core.Bool.{Bool, true, false}
 use mathlib.Core.List.{List, [], _∷_, map, _++_}
 use mathlib.Core.Option.{Option, none, some}
-use lib.ListN.{length, take, drop, getD, replicate}
+use lib.ListN.{length, replicate}
 use Rattle.lists.specs.Walk.{any, foundFrom, found}
 use Rattle.lists.specs.Stored.{stored}
 use Rattle.locks.specs.Range.{overlaps, passesEnd}
 use Rattle.locks.specs.Answer.{owns, bars, inWay, named, answersFor, answers}
-use Rattle.locks.specs.Request.{askOf, lockOf, removeAt, afterFind, releaseAll, Grants, afterWalk, grantAll, Result, afterGrants, rangePasses, afterReleases, request, settle}
+use Rattle.locks.specs.Request.{askOf, lockOf, removeAt, afterFind, releaseAll, afterWalk, grantAll, afterGrants, rangePasses, afterReleases, request, settle}
 use Rattle.locks.specs.Status.{Status, status, statusOf}
 use Rattle.locks.specs.declared.types.LockRange.{LockRange}
 use Rattle.records.specs.declared.Lock.{Lock}
-use Rattle.records.specs.Empty.{noLock}
 use Rattle.locks.specs.Wire.{rangeSize}
 use Rattle.wire.specs.LittleEndian.{le16At}
 use Rattle.chain.specs.Parse.{shaped, bare, isLarge, lockingFits, readFits, mayFollow, linkFits, linkAt, answer, parseLocking, parseRead, parse}

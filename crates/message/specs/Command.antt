@@ -2,9 +2,9 @@
 -- the caller's numbers, the command's fields and its bytes, never its place, and gives a refusal or the new state with what
 -- its reply block says. Assumes nothing.
 use Prim.Native.Nat.{ℕ, _+_, _/_, _%_}
-use mathlib.Core.Bool.{Bool, true, false, cond, not, _&&_, _||_}
-use mathlib.Core.List.{List, []}
-use lib.ListN.{length, take, drop, getD}
+use mathlib.Core.Bool.{Bool, cond, not, _&&_, _||_}
+use mathlib.Core.List.{List}
+use lib.ListN.{length, getD}
 use lib.Dec.{ltb, eqb}
 use Rattle.lists.specs.Walk.{any, found}
 use Rattle.lists.specs.declared.Found.{Found}
@@ -27,7 +27,6 @@ use Rattle.locks.specs.declared.types.Purpose.the-variants.{Read as Reading, Wr
 use Rattle.soundness.specs.File.{fileOf}
 use Rattle.soundness.specs.Lookup.{isTree}
 use Rattle.removal.specs.Removal.{remove}
-use Rattle.removal.specs.declared.Gone.{Gone}
 use Rattle.removal.specs.declared.Gone.the-variants.{Session as UserGone, Tree as TreeGone, Open as OpenGone, Process as ProcessGone}
 use Rattle.chain.specs.declared.block.LockingFields.{LockingFields}
 use Rattle.chain.specs.declared.block.ReadFields.{ReadFields}

@@ -6,7 +6,6 @@ use mathlib.Core.List.{List}
 use lib.ListN.{length, take, drop, getD, set, replicate}
 use lib.Dec.{eqb}
 use Rattle.lists.specs.Put.{put}
-use Rattle.records.specs.declared.File.{File}
 use Rattle.records.specs.declared.Tables.{Tables}
 use Rattle.records.specs.Empty.{noFile}
 use Rattle.records.specs.Held.{withFiles}

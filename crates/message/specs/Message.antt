@@ -15,7 +15,7 @@ use Rattle.chain.specs.Chain.{blocks}
 use Rattle.chain.specs.declared.block.Block.{Block}
 use Rattle.message.specs.Caller.{Caller, callerOf}
 use Rattle.message.specs.Refusal.{statusOf}
-use Rattle.message.specs.Command.{Said, Given, refused, done, perform}
+use Rattle.message.specs.Command.{Given, refused, done, perform}
 use Rattle.message.specs.Reply.{replyHeader, Link, none as noLink, next, replyBlock, refusedBlock, replySize}
 use Rattle.message.specs.declared.refusal.Refusal.the-variants.{NotServed, NotSentence}
 

@@ -1,9 +1,8 @@
 -- The bytes of a reply (document 01, "Header" and "Reply blocks"). Assumes nothing.
 use Prim.Native.Nat.{ℕ, _+_, _*_, _/_, _%_}
-use mathlib.Core.Bool.{cond}
 use mathlib.Core.List.{List, [], _∷_, _++_}
 use lib.ListN.{length, take, drop, replicate}
-use Rattle.wire.specs.LittleEndian.{byteAt, le16At}
+use Rattle.wire.specs.LittleEndian.{byteAt}
 use Rattle.locks.specs.Status.{Status}
 use Rattle.message.specs.Command.{Said, locked, loggedOff, read, wrote, plain}
 

@@ -1,18 +1,18 @@
 -- The whole listing of a message fits 65,536 bytes, so the lister's program prints all of it.
 -- Assumes nothing.
-use mathlib.Core.Path.{_≡_, refl, sym, ap, _∙_}
-use Prim.Native.Nat.{ℕ, zero, suc, _+_, _-_, _*_, _/_, _%_, _≤_, _<_}
+use mathlib.Core.Path.{_≡_, refl}
+use Prim.Native.Nat.{ℕ, suc, _+_, _*_, _/_, _%_, _≤_, _<_}
 use native.Mathlib.Decide.{decLt}
 use native.Mathlib.Omega.{arith}
-use mathlib.Core.Bool.{Bool, true, false, cond}
+use mathlib.Core.Bool.{Bool, true, false}
 use mathlib.Core.List.{List, [], _∷_, _++_}
 use mathlib.Core.Option.{Option, none, some}
 use lib.ListN.{length, length-append}
-use Rattle.lists.specs.Truth.{either-holds, neither-holds}
+use Rattle.lists.specs.Truth.{neither-holds}
 use lib.Dec.{ltb}
 use borrow.Author.Tests.{ltb-false}
 use Rattle.chain.specs.Layout.{FIRST, headerCommand, blockEnd}
-use Rattle.chain.specs.Header.{dropped, startsSmb, isReply}
+use Rattle.chain.specs.Header.{dropped}
 use Rattle.chain.specs.Parse.{parse}
 use Rattle.chain.specs.ParseLaws.{placed}
 use Rattle.chain.specs.Chain.{blocksFrom, blocks}
