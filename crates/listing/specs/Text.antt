@@ -1,29 +1,14 @@
 -- The text of the chain lister (document 01, "A listing, whole"): "for each block its place, command in hex, offset and
 -- length, then `end`; else only `not a chain`, for an unserved command too, or `dropped` by row 1". Each line ends with a
 -- newline (10); a space is 32. Assumes nothing.
-use Prim.Native.Nat.{ℕ, zero, suc, _+_, _/_, _%_}
+use Prim.Native.Nat.{ℕ, suc}
 use mathlib.Core.Bool.{cond}
 use mathlib.Core.List.{List, [], _∷_, _++_}
 use mathlib.Core.Option.{Option, none, some}
-use lib.Dec.{ltb}
+use Rattle.text.specs.Digits.{decimal, hexByte}
 use Rattle.chain.specs.Header.{dropped}
 use Rattle.chain.specs.Chain.{blocks}
 use Rattle.chain.specs.declared.block.Block.{Block}
-
--- a number in decimal: its last digit behind those before it. As many turns as the number, and one more, are enough.
-unfoldable pub digitsWithin : ℕ → ℕ → List ℕ
-digitsWithin zero n = []
-digitsWithin (suc turns) n = cond (ltb n 10) ((48 + n) ∷ []) (digitsWithin turns (n / 10) ++ ((48 + n % 10) ∷ []))
-
-unfoldable pub decimal : ℕ → List ℕ
-decimal n = digitsWithin (suc n) n
-
--- a digit in hex, in upper case, and a byte as two of them
-unfoldable pub hexDigit : ℕ → ℕ
-hexDigit d = cond (ltb d 10) (48 + d) (55 + d)
-
-unfoldable pub hexByte : ℕ → List ℕ
-hexByte b = hexDigit (b / 16) ∷ hexDigit (b % 16) ∷ []
 
 -- the line of a block that stands k-th
 unfoldable pub line : ℕ → Block → List ℕ

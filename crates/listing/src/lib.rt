@@ -7,64 +7,16 @@ use chain::header::is_dropped;
 use chain::parse::parse_block;
 use chain::reader::Chain;
 use chain::reader::read_chain;
+use text::put_byte;
+use text::put_decimal;
+use text::put_hex;
+use text::put_text;
 ghost use mathlib.Core.Path.{_≡_};
-ghost use mathlib.Core.List.{_∷_, []};
 ghost use Prim.Native.Nat.{_≤_};
 ghost use Rattle.chain.specs.Chain.{blocksFrom};
-ghost use Rattle.listing.specs.Text.{decimal, hexDigit, hexByte, line, listing};
+ghost use Rattle.listing.specs.Text.{line, listing};
 ghost use Rattle.listing.specs.Chained.{Sentence, linesOf};
-ghost use Rattle.listing.specs.Over.{Written};
-
-// A byte at a place, where the buffer has it; the next place.
-fn put_byte(out: &mut [u8], at: usize, b: u8) -> usize
-    ensures { λ r. ⌜ Written (now (out .entry)) at (b ∷ []) (now (out .exit)) r ⌝ }
-{
-    if at < out.len() {
-        out[at] = b;
-        return at + 1;
-    }
-    at
-}
-
-// A text from a place on; the next place.
-fn put_text(out: &mut [u8], at: usize, text: &[u8]) -> usize
-    ensures { λ r. ⌜ Written (now (out .entry)) at (now (text .entry)) (now (out .exit)) r ⌝ }
-{
-    let mut to = at;
-    let mut i: usize = 0;
-    while i < text.len() {
-        to = put_byte(out, to, text[i]);
-        i += 1;
-    }
-    to
-}
-
-// A number in decimal: its last digit behind those before it.
-fn put_decimal(out: &mut [u8], at: usize, n: usize) -> usize
-    ensures { λ r. ⌜ Written (now (out .entry)) at (decimal n) (now (out .exit)) r ⌝ }
-{
-    if n < 10 {
-        return put_byte(out, at, 48 + (n % 10) as u8);
-    }
-    let to = put_decimal(out, at, n / 10);
-    put_byte(out, to, 48 + (n % 10) as u8)
-}
-
-// A digit in hex.
-fn hex_digit(d: u8) -> u8
-    requires { ⌜ d ≤ 15 ⌝ }
-    ensures { λ r. ⌜ r ≡ hexDigit d ⌝ }
-{
-    if d < 10 { 48 + d } else { 55 + d }
-}
-
-// A byte as two digits in hex.
-fn put_hex(out: &mut [u8], at: usize, b: u8) -> usize
-    ensures { λ r. ⌜ Written (now (out .entry)) at (hexByte b) (now (out .exit)) r ⌝ }
-{
-    let to = put_byte(out, at, hex_digit(b / 16));
-    put_byte(out, to, hex_digit(b % 16))
-}
+ghost use Rattle.text.specs.Over.{Written};
 
 // The line of a block that stands k-th.
 fn put_line(out: &mut [u8], at: usize, k: usize, b: Block) -> usize

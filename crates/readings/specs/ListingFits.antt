@@ -20,8 +20,9 @@ use Rattle.chain.specs.declared.block.Next.{Next}
 use Rattle.chain.specs.declared.block.Next.the-variants.{End, Follow}
 use Rattle.chain.specs.declared.block.Block.{Block}
 use Rattle.chain.specs.declared.block.Parsed.the-variants.{Whole}
-use Rattle.listing.specs.Text.{decimal, hexByte, line, endLine, linesFrom, notChain, droppedLine, listed, listing}
-use Rattle.listing.specs.TextLaws.{decimal-small, decimal-more}
+use Rattle.text.specs.Digits.{decimal, hexByte}
+use Rattle.listing.specs.Text.{line, endLine, linesFrom, notChain, droppedLine, listed, listing}
+use Rattle.text.specs.DigitLaws.{decimal-small, decimal-more}
 use Rattle.readings.specs.BlockParse.{blockAt, parse-complete}
 use Rattle.readings.specs.Chained.{Chained, chained-end, chained-more, read-chained}
 

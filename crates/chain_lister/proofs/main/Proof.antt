@@ -7,7 +7,7 @@ use native.Mathlib.Omega.{arith}
 use lib.ListN.{length}
 use lib.Seq.{length-take-le}
 use borrow.Author.Needs.{needs}
-use Rattle.listing.specs.Over.{past, Written}
+use Rattle.text.specs.Over.{past, Written}
 use Rattle.chain_lister.proofs.main.Statement.{statement}
 use Rattle.chain_lister.proofs.main.Tie as tie
 

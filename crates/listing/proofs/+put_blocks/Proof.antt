@@ -1,7 +1,7 @@
 -- The proof of the cycle of calls {put_blocks}. A follower stands behind the block, so what is left of the message falls.
 -- The block's line stands before those of the rest, and `end` stands last.
 -- Assumes nothing.
-use Rattle.listing.proofs.Overlaid.{written-nothing, written-then, written-length}
+use Rattle.text.specs.Overlaid.{written-nothing, written-then, written-length}
 use Rattle.listing.proofs.Lines.{lines-refused, lines-end, lines-more, sentence-more, left-falls, count-more, count-inside, Followed}
 use Rattle.listing.specs.Text.{endLine}
 use mathlib.Core.Path.{sym, _∙_}
@@ -14,7 +14,7 @@ use Rattle.listing.proofs.put_blocks.Kinds as put-blocks-kinds
 use Rattle.listing.proofs.+put_blocks.Lts-put_blocks as put-blocks-lts
 use Rattle.chain.proofs.parse.parse_block.Reads as parse-block-reads
 use Rattle.listing.proofs.put_line.Reads as put-line-reads
-use Rattle.listing.proofs.put_text.Reads as put-text-reads
+use Rattle.text.proofs.put_text.Reads as put-text-reads
 use Rattle.listing.proofs.+put_blocks.{statement}
 use Rattle.listing.proofs.+put_blocks.Tie.{close}
 use borrow.Author.Needs.{needs}

@@ -1,6 +1,6 @@
 -- `listing::put_line` meets its contract: one text behind the other.
 -- Assumes nothing.
-use Rattle.listing.proofs.Overlaid.{written-then}
+use Rattle.text.specs.Overlaid.{written-then}
 use Rattle.listing.specs.Text.{line}
 use borrow.Author.Needs.{needs}
 use Rattle.listing.proofs.put_line.Statement.{statement}

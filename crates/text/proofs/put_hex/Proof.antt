@@ -1,10 +1,10 @@
--- `listing::put_hex` meets its contract: one digit behind the other.
+-- `text::put_hex` meets its contract: one digit behind the other.
 -- Assumes nothing.
-use Rattle.listing.proofs.Overlaid.{written-then}
-use Rattle.listing.specs.Text.{hexByte}
+use Rattle.text.specs.Overlaid.{written-then}
+use Rattle.text.specs.Digits.{hexByte}
 use borrow.Author.Needs.{needs}
-use Rattle.listing.proofs.put_hex.Statement.{statement}
-use Rattle.listing.proofs.put_hex.Tie as tie
+use Rattle.text.proofs.put_hex.Statement.{statement}
+use Rattle.text.proofs.put_hex.Tie as tie
 
 hex-digit-requires : tie.Need-hex-digit-requires
 hex-digit-requires c κs = search needs

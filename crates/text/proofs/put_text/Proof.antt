@@ -1,11 +1,11 @@
--- `listing::put_text` meets its contract. The loop's invariant: the bytes passed are written.
+-- `text::put_text` meets its contract. The loop's invariant: the bytes passed are written.
 -- Assumes nothing.
-use Rattle.listing.proofs.Overlaid.{written-nothing, written-more, written-length, written-whole}
+use Rattle.text.specs.Overlaid.{written-nothing, written-more, written-length, written-whole}
 use Prim.Native.Nat.{_-_}
 use lib.ListN.{length, take}
-use Rattle.listing.specs.Over.{Written}
-use Rattle.listing.proofs.put_text.Statement.{statement}
-use Rattle.listing.proofs.put_text.Tie as tie
+use Rattle.text.specs.Over.{Written}
+use Rattle.text.proofs.put_text.Statement.{statement}
+use Rattle.text.proofs.put_text.Tie as tie
 use borrow.Author.Needs.{needs}
 use native.Mathlib.Omega.{arith}
 

@@ -1,18 +1,18 @@
 -- The proof of the cycle of calls {put_decimal}. A tenth of a number of two digits at least is smaller, so the number falls.
 -- A number's last digit stands behind those before it.
 -- Assumes nothing.
-use Rattle.listing.proofs.Overlaid.{written-then, written-length}
-use Rattle.listing.specs.TextLaws.{decimal-small, decimal-more}
+use Rattle.text.specs.Overlaid.{written-then, written-length}
+use Rattle.text.specs.DigitLaws.{decimal-small, decimal-more}
 use mathlib.Core.Path.{_≡_}
 use Prim.Native.Nat.{ℕ, _<_, _%_}
 use borrow.Fn.Kinds.{In}
 use borrow.Fn.PlainCycle.{Measures, is, falls, and}
-use Rattle.listing.proofs.put_decimal.Reads as put-decimal
-use Rattle.listing.proofs.put_decimal.Kinds as put-decimal-kinds
-use Rattle.listing.proofs.+put_decimal.Lts-put_decimal as put-decimal-lts
-use Rattle.listing.proofs.put_byte.Reads as put-byte-reads
-use Rattle.listing.proofs.+put_decimal.{statement}
-use Rattle.listing.proofs.+put_decimal.Tie.{close}
+use Rattle.text.proofs.put_decimal.Reads as put-decimal
+use Rattle.text.proofs.put_decimal.Kinds as put-decimal-kinds
+use Rattle.text.proofs.+put_decimal.Lts-put_decimal as put-decimal-lts
+use Rattle.text.proofs.put_byte.Reads as put-byte-reads
+use Rattle.text.proofs.+put_decimal.{statement}
+use Rattle.text.proofs.+put_decimal.Tie.{close}
 use borrow.Author.Needs.{needs}
 use native.Mathlib.Omega.{arith}
 

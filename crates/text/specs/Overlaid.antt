@@ -5,11 +5,12 @@ use Prim.Native.Nat.{ℕ, zero, suc, _+_, _-_, _≤_, _<_, min}
 use native.Mathlib.Nat.{zero-add, suc-add, zero-sub, suc-sub-suc, sub-zero}
 use native.Mathlib.Numerals.{add-one}
 use native.Mathlib.Omega.{arith}
-use mathlib.Core.List.{List, [], _∷_, _++_}
+use mathlib.Core.List.{List, [], _∷_, _++_, append-assoc, append-nil}
 use lib.ListN.{length, take, set, getD, length-append}
 use lib.Seq.{take-nil, drop-nil, take-suc, take-all, set-out}
 use Rattle.lists.specs.Put.{put}
-use Rattle.listing.specs.Over.{over, past, Written}
+use Rattle.text.specs.Over.{over, past, Written}
+use Rattle.text.specs.Digits.{hexByte, hexBytes}
 
 -- the same, byte by byte
 abbrev laid : List ℕ → ℕ → List ℕ → List ℕ
@@ -94,3 +95,20 @@ written-more text i h v w = rw (add-one i, take-suc text i 0 h) (written-then v 
 -- the whole text
 pub written-whole : {d : List ℕ} {at : ℕ} (text : List ℕ) (i : ℕ) {e : List ℕ} {to : ℕ} → length text ≤ i → Written d at (take i text) e to → Written d at text e to
 written-whole text i h v = rw (take-all i text h) at v
+
+-- bytes in hex, one more of them
+hex-append : (xs ys : List ℕ) → hexBytes (xs ++ ys) ≡ hexBytes xs ++ hexBytes ys
+unfolding hexBytes
+hex-append [] ys = refl
+hex-append (x ∷ xs) ys = rw (hex-append xs ys) (sym (append-assoc (hexByte x) (hexBytes xs) (hexBytes ys)))
+
+pub written-hex-more : {d : List ℕ} {at : ℕ} (bytes : List ℕ) (i : ℕ) {e : List ℕ} {mid : ℕ} {f : List ℕ} {to : ℕ} → i < length bytes
+    → Written d at (hexBytes (take i bytes)) e mid → Written e mid (hexByte (getD bytes i 0)) f to → Written d at (hexBytes (take (i + 1) bytes)) f to
+unfolding hexBytes
+written-hex-more bytes i h v w =
+    rw (add-one i, take-suc bytes i 0 h, hex-append (take i bytes) (getD bytes i 0 ∷ []), append-nil (hexByte (getD bytes i 0))) (written-then v w)
+
+-- all of them
+pub written-hex-whole : {d : List ℕ} {at : ℕ} (bytes : List ℕ) (i : ℕ) {e : List ℕ} {to : ℕ} → length bytes ≤ i → Written d at (hexBytes (take i bytes)) e to
+    → Written d at (hexBytes bytes) e to
+written-hex-whole bytes i h v = rw (take-all i bytes h) at v

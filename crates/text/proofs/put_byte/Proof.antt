@@ -1,10 +1,10 @@
--- `listing::put_byte` meets its contract: the byte is written where the buffer has its place, and else nothing is.
+-- `text::put_byte` meets its contract: the byte is written where the buffer has its place, and else nothing is.
 -- Assumes nothing.
-use Rattle.listing.proofs.Overlaid.{written-byte, written-none}
+use Rattle.text.specs.Overlaid.{written-byte, written-none}
 use native.Mathlib.Omega.{arith}
 use borrow.Author.Needs.{needs}
-use Rattle.listing.proofs.put_byte.Statement.{statement}
-use Rattle.listing.proofs.put_byte.Tie as tie
+use Rattle.text.proofs.put_byte.Statement.{statement}
+use Rattle.text.proofs.put_byte.Tie as tie
 
 slice-write-out : tie.Need-slice-write-out
 slice-write-out c = search needs

@@ -7,7 +7,7 @@ use mathlib.Core.Bool.{Bool, true, false, cond}
 use mathlib.Core.List.{List, [], _∷_, _++_}
 use lib.Dec.{ltb}
 use borrow.Author.Tests.{ltb-false, lt-ltb, le-ltb}
-use Rattle.listing.specs.Text.{digitsWithin, decimal}
+use Rattle.text.specs.Digits.{digitsWithin, decimal}
 
 -- a choice whose second answer matters only where the test fails
 cond-same : (t : Bool) (x y z : List ℕ) → (t ≡ false → y ≡ z) → cond t x y ≡ cond t x z

@@ -1,11 +1,11 @@
--- `listing::hex_digit` meets its contract: the test is the definition's.
+-- `text::hex_digit` meets its contract: the test is the definition's.
 -- Assumes nothing.
 use borrow.Author.Tests.{lt-ltb, le-ltb}
 use native.Mathlib.Omega.{arith}
-use Rattle.listing.specs.Text.{hexDigit}
+use Rattle.text.specs.Digits.{hexDigit}
 use borrow.Author.Needs.{needs}
-use Rattle.listing.proofs.hex_digit.Statement.{statement}
-use Rattle.listing.proofs.hex_digit.Tie as tie
+use Rattle.text.proofs.hex_digit.Statement.{statement}
+use Rattle.text.proofs.hex_digit.Tie as tie
 
 add-result : tie.Need-add-result
 add-result c = search needs
