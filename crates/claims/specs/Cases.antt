@@ -11,7 +11,6 @@ use Rattle.lists.specs.Stored.{stored}
 use Rattle.locks.specs.Range.{overlaps, passesEnd}
 use Rattle.locks.specs.Answer.{owns, bars, inWay, named, answersFor, answers}
 use Rattle.locks.specs.Request.{askOf, lockOf, removeAt, afterFind, releaseAll, afterWalk, grantAll, afterGrants, rangePasses, afterReleases, request, settle}
-use Rattle.locks.specs.Status.{Status, status, statusOf}
 use Rattle.locks.specs.declared.types.LockRange.{LockRange}
 use Rattle.records.specs.declared.Lock.{Lock}
 use Rattle.locks.specs.Wire.{rangeSize}
@@ -19,6 +18,19 @@ use Rattle.wire.specs.LittleEndian.{le16At}
 use Rattle.chain.specs.Parse.{shaped, bare, isLarge, lockingFits, readFits, mayFollow, linkFits, linkAt, answer, parseLocking, parseRead, parse}
 use Rattle.chain.specs.Chain.{before, afterBlock, afterParse, blocksWithin, blocksFrom, blocks}
 use Rattle.chain.specs.declared.block.Block.{Block}
+use Rattle.chain.specs.declared.block.WriteFields.{WriteFields}
+use Rattle.records.specs.declared.Session.{Session}
+use Rattle.records.specs.declared.Tree.{Tree}
+use Rattle.records.specs.declared.Open.{Open}
+use Rattle.records.specs.declared.Tables.{Tables}
+use Rattle.records.specs.Empty.{noFile}
+use Rattle.records.specs.Held.{sessionsOf, treesOf, opensOf, locksOf}
+use Rattle.soundness.specs.File.{fileOf}
+use Rattle.soundness.specs.Lookup.{isTree}
+use Rattle.message.specs.declared.caller.Caller.{Caller}
+use Rattle.message.specs.Refusal.{status, statusOf}
+use Rattle.message.specs.declared.refusal.Status.{Status}
+use Rattle.message.specs.Command.{Given, refused, done, isSession, withSession, withTree, isOpen, openAt, withOpen, lockingEnd, lockingAfter, askOf as asks, unlessBarred, barring, endsPast, doWrite}
 
 -- a case of the document: its number, what the definitions give, and what the document says
 pub record Case : Type 0 where
@@ -33,9 +45,35 @@ range offset size = record { process = 7; offset = offset; length = size }
 unfoldable pub held : ℕ → ℕ → Bool → Lock
 held offset size shared = record { fid = 1; process = 7; offset = offset; length = size; shared = shared }
 
+-- one session on connection 5, its tree, and an open of file 0 for both by process 7; no lock
+unfoldable pub small : Tables
+small =
+    record {
+      sessions = record { uid = 1; connection = 5 } ∷ [];
+      nsessions = 1;
+      trees = record { tid = 1; uid = 1; right = 1 } ∷ [];
+      ntrees = 1;
+      opens = record { fid = 1; uid = 1; tid = 1; process = 7; file = 0; access = 2 } ∷ [];
+      nopens = 1;
+      locks = [];
+      nlocks = 0;
+      files = noFile ∷ [];
+    }
+
+-- the status of what a command gives
+unfoldable pub statusIn : Given → Status
+statusIn (refused why) = statusOf why
+statusIn (done t memory said) = status 0 0
+
 -- the status of a request of FID 1 for one lock, where one lock is listed, all FIDs being of one file
 unfoldable pub asking : Bool → LockRange → Lock → Status
-asking shared r l = statusOf (settle (l ∷ []) 1 (request (λ fid. 0) 1 shared [] (r ∷ []) (l ∷ [])) .outcome)
+asking shared r l = statusIn (lockingAfter small [] (settle (l ∷ []) 1 (request (λ fid. 0) 1 shared [] (r ∷ []) (l ∷ []))))
+
+-- the status of a write of one byte at an offset, through that open
+unfoldable pub writing : ℕ → Status
+writing offset =
+    statusIn
+    (doWrite (record { connection = 5; uid = 1; tid = 1; process = 7 }) small [] (record { fid = 1; offset = offset; count = 1; from = 63 }) (0xAA ∷ []))
 
 -- The message of document 01's listing, with its AndXOffset and the bytes between its two blocks left open: the header
 -- (LOCKING, TID 1, PID 7, UID 1, MID 3), the LOCKING block, and the READ block.
@@ -58,7 +96,7 @@ reading none = status 2 1
 -- "1* the message above is a sentence. 2* with AndXOffset 60 it isn't. 3* with 62 and 85 bytes it is (one free byte)."
 -- "4* [0,10) exclusive against [10,20): no conflict. 5* against [9,10): conflict. 6* shared with shared overlapping: none.
 -- 7* own exclusive again: conflict. 8* length 0 inside an exclusive lock: none. 9* offset 2^64−1 length 1: accepted range.
--- 10* same, length 2: 1/87."
+-- 10* same, length 2: 1/87. 11* write of 1 at 4,095 done; 12* at 4,096: 3/39."
 unfoldable pub table : List Case
 table =
     record { number = 1; given = reading (blocks (message 61 [])); said = status 0 0 }
@@ -71,9 +109,11 @@ table =
     ∷ record { number = 8; given = asking false (range 5 0) (held 0 10 false); said = status 0 0 }
     ∷ record { number = 9; given = asking false (range (2 ^ 64 - 1) 1) (held 0 10 false); said = status 0 0 }
     ∷ record { number = 10; given = asking false (range (2 ^ 64 - 1) 2) (held 0 10 false); said = status 1 87 }
+    ∷ record { number = 11; given = writing 4095; said = status 0 0 }
+    ∷ record { number = 12; given = writing 4096; said = status 3 39 }
     ∷ []
 
 -- what the definitions give is what the document says, in every row
 pub cases : map (λ c. c .given) table ≡ map (λ c. c .said) table
-unfolding table message reading blocks blocksFrom blocksWithin afterParse afterBlock before parse parseLocking parseRead answer lockingFits readFits linkFits linkAt mayFollow shaped bare isLarge le16At rangeSize asking range held status statusOf settle stored request afterReleases afterGrants grantAll afterWalk releaseAll afterFind removeAt rangePasses askOf lockOf answers answersFor inWay bars named owns overlaps passesEnd any found foundFrom
+unfolding table message reading blocks blocksFrom blocksWithin afterParse afterBlock before parse parseLocking parseRead answer lockingFits readFits linkFits linkAt mayFollow shaped bare isLarge le16At rangeSize asking range held status statusOf settle stored request afterReleases afterGrants grantAll afterWalk releaseAll afterFind removeAt rangePasses askOf lockOf answers answersFor inWay bars named owns overlaps passesEnd any found foundFrom statusIn lockingAfter lockingEnd writing small doWrite withOpen withTree withSession isSession isTree isOpen openAt unlessBarred barring asks endsPast fileOf
 cases = refl

@@ -14,12 +14,13 @@ use Rattle.lists.specs.Put.{put}
 use Rattle.lists.specs.Truth.{both-hold, hold-both, same-truth}
 use Rattle.wire.specs.LittleEndian.{byteAt}
 use Rattle.records.specs.declared.Tables.{Tables}
-use Rattle.locks.specs.Status.{Status, status}
 use Rattle.chain.specs.Layout.{headerCommand, FIRST}
 use Rattle.chain.specs.Chain.{blocks}
 use Rattle.chain.specs.declared.block.Block.{Block}
-use Rattle.message.specs.Caller.{Caller, callerOf}
-use Rattle.message.specs.Refusal.{statusOf}
+use Rattle.message.specs.Caller.{callerOf}
+use Rattle.message.specs.declared.caller.Caller.{Caller}
+use Rattle.message.specs.Refusal.{status, statusOf}
+use Rattle.message.specs.declared.refusal.Status.{Status}
 use Rattle.message.specs.Command.{Given, refused, done, perform}
 use Rattle.message.specs.Reply.{two, replyHeader}
 use Rattle.message.specs.Message.{areaOf, dataOf, Ran, after, afterGiven, run, served, onlyStatus, runChain, answered, replyOf, Taken, replied, take-message}

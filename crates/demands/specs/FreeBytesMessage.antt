@@ -9,7 +9,7 @@ use lib.ListN.{length, take, drop, length-take, length-drop}
 use lib.Seq.{getD-take, getD-drop, ext-getD}
 use Rattle.wire.specs.LittleEndian.{byteAt, le16At}
 use Rattle.records.specs.declared.Tables.{Tables}
-use Rattle.locks.specs.Status.{Status}
+use Rattle.message.specs.declared.refusal.Status.{Status}
 use Rattle.chain.specs.Layout.{headerCommand, FIRST}
 use Rattle.chain.specs.Grammar.{IsBlock, Span, spanAt, Reading}
 use Rattle.chain.specs.Chain.{blocks}
@@ -20,7 +20,8 @@ use Rattle.readings.specs.ReaderSound.{spanOf}
 use Rattle.readings.specs.ReaderComplete.{reader-complete-from}
 use Rattle.readings.specs.FreeBytes.{Stands, unmoved, AllStand, free-blocks}
 use Rattle.readings.specs.Chained.{Chained, chained-end, chained-more, read-chained}
-use Rattle.message.specs.Caller.{Caller, callerOf}
+use Rattle.message.specs.Caller.{callerOf}
+use Rattle.message.specs.declared.caller.Caller.{Caller}
 use Rattle.message.specs.Command.{Given, refused, done, perform}
 use Rattle.message.specs.Reply.{replyHeader}
 use Rattle.message.specs.Message.{areaOf, dataOf, Ran, after, afterGiven, run, runChain, answered, replyOf}

@@ -20,7 +20,7 @@ use Rattle.locks.specs.Request.{releaseAll, Grants, granted, blocked, grantAll,
 use Rattle.locks.specs.declared.types.LockRange.{LockRange}
 use Rattle.locks.specs.declared.types.Outcome.the-variants.{NoSuchLock as NoLock, PassesEnd as PastEnd, Conflict as InWay, NoRecord as NoRoom}
 use Rattle.soundness.specs.Lookup.{isTree}
-use Rattle.message.specs.Caller.{Caller}
+use Rattle.message.specs.declared.caller.Caller.{Caller}
 use Rattle.message.specs.Command.{Given, refused, isSession, withSession, withTree, isOpen, openAt, withOpen, unlessBarred}
 use Rattle.message.specs.declared.refusal.Refusal.the-variants.{NoSession, NoTree, NoOpen, Conflict}
 

@@ -33,7 +33,7 @@ use Rattle.claims.specs.SoundPlain.{fileOf-one, sound-plain}
 use Rattle.chain.specs.declared.block.LockingFields.{LockingFields}
 use Rattle.chain.specs.declared.block.ReadFields.{ReadFields}
 use Rattle.chain.specs.declared.block.WriteFields.{WriteFields}
-use Rattle.message.specs.Caller.{Caller}
+use Rattle.message.specs.declared.caller.Caller.{Caller}
 use Rattle.message.specs.Contents.{resized, written}
 use Rattle.message.specs.Command.{Given, Said, wrote, refused, done, isSession, withSession, withTree, isOpen, openAt, withOpen, servedType, requestOf, lockingEnd, lockingAfter, doLocking, askOf, unlessBarred, barring, doRead, endsPast, doWrite}
 use Rattle.message.specs.declared.refusal.Refusal.the-variants.{Conflict, NoSpace}

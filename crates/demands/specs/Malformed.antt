@@ -14,7 +14,6 @@ use borrow.Author.Tests.{eq-eqb, ne-eqb}
 use Rattle.records.specs.declared.Tables.{Tables}
 use Rattle.records.specs.Empty.{noOpen}
 use Rattle.records.specs.Held.{opensOf}
-use Rattle.locks.specs.Status.{Status, status}
 use Rattle.locks.specs.Wire.{rangeSize, rangesAt}
 use Rattle.locks.specs.Request.{Result, settle, locking}
 use Rattle.locks.specs.declared.types.Request.{Request}
@@ -30,8 +29,10 @@ use Rattle.chain.specs.declared.block.Next.{Next}
 use Rattle.readings.specs.BlockParse.{bodyAt, blockAt, block-inside}
 use Rattle.readings.specs.Chained.{Chained, chained-end, chained-more, read-chained}
 use Rattle.readings.specs.ReaderComplete.{no-sentence}
-use Rattle.message.specs.Caller.{Caller, callerOf}
-use Rattle.message.specs.Refusal.{statusOf}
+use Rattle.message.specs.Caller.{callerOf}
+use Rattle.message.specs.declared.caller.Caller.{Caller}
+use Rattle.message.specs.Refusal.{status, statusOf}
+use Rattle.message.specs.declared.refusal.Status.{Status}
 use Rattle.message.specs.Command.{Given, Said, refused, done, servedType, requestOf, lockingEnd, lockingAfter, doLocking, doRead, doWrite, endsPast, perform}
 use Rattle.message.specs.Message.{areaOf, Ran, after, afterGiven, run, served, onlyStatus, runChain, answered}
 use Rattle.message.specs.declared.refusal.Refusal.{Refusal}

@@ -12,7 +12,6 @@ use lib.Dec.{eqb}
 use Rattle.lists.specs.Put.{put}
 use Rattle.wire.specs.LittleEndian.{byteAt, le16At}
 use Rattle.records.specs.declared.Tables.{Tables}
-use Rattle.locks.specs.Status.{Status, status}
 use Rattle.chain.specs.Layout.{headerCommand, FIRST, blockEnd, andxOffset}
 use Rattle.chain.specs.Grammar.{IsBlock, locking-andx, read-andx, write-andx, logoff-andx, close-plain, tree-disconnect-plain, process-exit-plain, Span, Reading}
 use Rattle.chain.specs.Chain.{blocks}
@@ -26,10 +25,14 @@ use Rattle.readings.specs.Alone.{movedAlone, alone-blocks}
 use Rattle.readings.specs.ReaderSound.{spanOf}
 use Rattle.readings.specs.ReaderComplete.{reader-complete}
 use Rattle.readings.specs.Chained.{Chained, chained-end, chained-more, read-chained}
-use Rattle.message.specs.Caller.{Caller, callerOf}
-use Rattle.message.specs.Refusal.{statusOf}
+use Rattle.message.specs.Caller.{callerOf}
+use Rattle.message.specs.declared.caller.Caller.{Caller}
+use Rattle.message.specs.Refusal.{status, statusOf}
+use Rattle.message.specs.declared.refusal.Status.{Status}
 use Rattle.message.specs.Command.{Said, locked, loggedOff, read, wrote, plain, Given, refused, done, perform}
-use Rattle.message.specs.Reply.{two, replyHeader, Link, none, next, linkWords, replyBlock, refusedBlock, replySize}
+use Rattle.message.specs.Reply.{two, replyHeader, linkWords, replyBlock, refusedBlock, replySize}
+use Rattle.message.specs.declared.link.Link.{Link}
+use Rattle.message.specs.declared.link.Link.the-variants.{None as none, Next as next}
 use Rattle.message.specs.Message.{areaOf, dataOf, Ran, after, linkTo, afterGiven, run, served, runChain, answered, replyOf}
 use Rattle.message.specs.declared.refusal.Refusal.{Refusal}
 use Rattle.message.specs.declared.refusal.Refusal.the-variants.{NotServed, NotSentence, NoSession, NoTree, NoOpen, NoAccess, LockType, NoSuchLock, PassesEnd, Conflict, NoRecord, NoSpace}

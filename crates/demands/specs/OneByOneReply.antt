@@ -12,7 +12,8 @@ use borrow.Author.Tests.{eqb-true}
 use Rattle.lists.specs.Truth.{both-hold}
 use Rattle.wire.specs.LittleEndian.{byteAt}
 use Rattle.records.specs.declared.Tables.{Tables}
-use Rattle.locks.specs.Status.{Status, status}
+use Rattle.message.specs.Refusal.{status}
+use Rattle.message.specs.declared.refusal.Status.{Status}
 use Rattle.chain.specs.Layout.{headerCommand, FIRST, blockEnd}
 use Rattle.chain.specs.Chain.{blocks}
 use Rattle.chain.specs.declared.block.Block.{Block}

@@ -12,7 +12,7 @@ use Rattle.chain.specs.declared.block.Body.the-variants.{Locking, Read, Write, 
 use Rattle.readings.specs.BlockParse.{bodyAt}
 use Rattle.readings.specs.Moved.{Moved, movedBody}
 use Rattle.readings.specs.MovedBytes.{part, moved-byte-area, moved-data-part}
-use Rattle.message.specs.Caller.{Caller}
+use Rattle.message.specs.declared.caller.Caller.{Caller}
 use Rattle.message.specs.Command.{doWrite, perform}
 
 module _ (c : Caller) (u : Tables) (memory : List ℕ) where

@@ -29,7 +29,8 @@ use Rattle.chain.specs.declared.block.Next.the-variants.{End, Follow}
 use Rattle.readings.specs.BlockParse.{bodyAt, blockAt, block-inside, Link as Linked, link-plain, link-end, link-next}
 use Rattle.readings.specs.Moved.{blockSize}
 use Rattle.readings.specs.Chained.{Chained, chained-end, chained-more, read-chained}
-use Rattle.message.specs.Caller.{Caller, callerOf}
+use Rattle.message.specs.Caller.{callerOf}
+use Rattle.message.specs.declared.caller.Caller.{Caller}
 use Rattle.message.specs.Refusal.{statusOf}
 use Rattle.message.specs.Contents.{sizeOf, contents, readBytes}
 use Rattle.message.specs.Command.{Said, Given, refused, done, servedType, requestOf, lockingEnd, lockingAfter, doLocking, doRead, doWrite, endsPast, perform}
@@ -187,7 +188,8 @@ slack-most : (command : ℕ) → slack command ≤ 4100
 unfolding slack
 slack-most command = cond-case (λ (n : ℕ). n ≤ 4100) (eqb command CLOSE) 0 4100 (λ _. omega arith) (λ _. omega arith)
 
-chain-room : (c : Caller) (s : List ℕ) (o : Option (List Block)) → blocks s ≡ o → (t : Tables) (memory : List ℕ) → Good t
+-- the reply blocks of any message that is answered
+pub chain-room : (c : Caller) (s : List ℕ) (o : Option (List Block)) → blocks s ≡ o → (t : Tables) (memory : List ℕ) → Good t
     → length (runChain c s o t memory .blocks) ≤ length s - 32 + 4100
 unfolding runChain onlyStatus refusedBlock blocks
 chain-room c s none e t memory g = omega arith

@@ -4,9 +4,11 @@ use Prim.Native.Nat.{ℕ, _≤_}
 use native.Mathlib.Omega.{arith}
 use mathlib.Core.List.{List}
 use lib.ListN.{length, take, drop, length-take, length-drop}
-use Rattle.locks.specs.Status.{Status}
+use Rattle.message.specs.declared.refusal.Status.{Status}
 use Rattle.message.specs.Command.{Said, locked, loggedOff, read, wrote, plain}
-use Rattle.message.specs.Reply.{two, replyHeader, Link, none, next, linkWords, replyBlock, replySize}
+use Rattle.message.specs.Reply.{two, replyHeader, linkWords, replyBlock, replySize}
+use Rattle.message.specs.declared.link.Link.{Link}
+use Rattle.message.specs.declared.link.Link.the-variants.{None as none, Next as next}
 
 -- "Reply blocks": a block's length by what it says, whatever it names and wherever it stands
 pub length-block : (said : Said) (place : ℕ) (link : Link) → length (replyBlock said place link) ≡ replySize said

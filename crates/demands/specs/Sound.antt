@@ -39,7 +39,8 @@ use Rattle.chain.specs.declared.block.WriteFields.{WriteFields}
 use Rattle.chain.specs.declared.block.Body.{Body}
 use Rattle.chain.specs.declared.block.Body.the-variants.{Locking as LockingBody, Read as ReadBody, Write as WriteBody, Close, Logoff, TreeDisconnect, ProcessExit}
 use Rattle.chain.specs.declared.block.Block.{Block}
-use Rattle.message.specs.Caller.{Caller, callerOf}
+use Rattle.message.specs.Caller.{callerOf}
+use Rattle.message.specs.declared.caller.Caller.{Caller}
 use Rattle.message.specs.Refusal.{statusOf}
 use Rattle.message.specs.Contents.{sizeOf, resized}
 use Rattle.message.specs.Command.{Given, Said, refused, done, isOpen, servedType, requestOf, withLockList, lockingEnd, lockingAfter, doLocking, doRead, endsPast, doWrite, perform}

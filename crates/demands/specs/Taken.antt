@@ -11,7 +11,7 @@ use borrow.Author.Tests.{ltb-false, le-ltb, eq-eqb}
 use Rattle.lists.specs.Truth.{neither-holds}
 use Rattle.wire.specs.LittleEndian.{byteAt}
 use Rattle.records.specs.declared.Tables.{Tables}
-use Rattle.locks.specs.Status.{status}
+use Rattle.message.specs.Refusal.{status}
 use Rattle.soundness.specs.Sound.{sound}
 use Rattle.chain.specs.Layout.{headerCommand, FIRST, blockEnd}
 use Rattle.chain.specs.Grammar.{IsBlock, Span, Reading, Sentence}

@@ -3,13 +3,7 @@
 use Prim.Native.Nat.{ℕ}
 use mathlib.Core.List.{List}
 use Rattle.wire.specs.LittleEndian.{le16At}
-
--- who sends a message: its connection, and the session, tree and process that the header names
-pub record Caller : Type 0 where
-  pub connection : ℕ
-  pub uid : ℕ
-  pub tid : ℕ
-  pub process : ℕ
+use Rattle.message.specs.declared.caller.Caller.{Caller}
 
 unfoldable pub callerOf : ℕ → List ℕ → Caller
 callerOf connection s = record { connection = connection; uid = le16At s 28; tid = le16At s 24; process = le16At s 26 }

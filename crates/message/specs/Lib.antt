@@ -4,3 +4,4 @@ pub mod Contents
 pub mod Command
 pub mod Reply
 pub mod Message
+pub mod Given

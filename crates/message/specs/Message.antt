@@ -7,16 +7,19 @@ use lib.ListN.{length, take, drop}
 use lib.Dec.{ltb, eqb}
 use Rattle.lists.specs.Put.{put}
 use Rattle.records.specs.declared.Tables.{Tables}
-use Rattle.locks.specs.Status.{Status, status}
 use Rattle.soundness.specs.Sound.{sound}
 use Rattle.chain.specs.Layout.{CLOSE, PROCESS_EXIT, LOCKING, READ, WRITE, TREE_DISCONNECT, LOGOFF, headerCommand, FIRST, byteArea, byteCount, dataOffset, dataLength}
 use Rattle.chain.specs.Header.{dropped}
 use Rattle.chain.specs.Chain.{blocks}
 use Rattle.chain.specs.declared.block.Block.{Block}
-use Rattle.message.specs.Caller.{Caller, callerOf}
-use Rattle.message.specs.Refusal.{statusOf}
+use Rattle.message.specs.Caller.{callerOf}
+use Rattle.message.specs.declared.caller.Caller.{Caller}
+use Rattle.message.specs.Refusal.{status, statusOf}
+use Rattle.message.specs.declared.refusal.Status.{Status}
 use Rattle.message.specs.Command.{Given, refused, done, perform}
-use Rattle.message.specs.Reply.{replyHeader, Link, none as noLink, next, replyBlock, refusedBlock, replySize}
+use Rattle.message.specs.Reply.{replyHeader, replyBlock, refusedBlock, replySize}
+use Rattle.message.specs.declared.link.Link.{Link}
+use Rattle.message.specs.declared.link.Link.the-variants.{None as noLink, Next as next}
 use Rattle.message.specs.declared.refusal.Refusal.the-variants.{NotServed, NotSentence}
 
 -- a block's byte area, and a write's data, as parts of the message

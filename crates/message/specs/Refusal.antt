@@ -1,10 +1,16 @@
--- The class and code of each refusal (document 01, "Refusals on the wire (class/code, decimal)"), and what a LOCKING
--- request's end means as one. Assumes nothing.
-use Rattle.locks.specs.Status.{Status, status}
+-- The class and code of each refusal (document 01, "Refusals on the wire (class/code, decimal)").
+-- Assumes nothing.
+use Prim.Native.Nat.{ℕ}
 use Rattle.message.specs.declared.refusal.Refusal.{Refusal}
 use Rattle.message.specs.declared.refusal.Refusal.the-variants.{NotServed, NotSentence, NoSession, NoTree, NoOpen, NoAccess, LockType, NoSuchLock, PassesEnd, Conflict, NoRecord, NoSpace}
+use Rattle.message.specs.declared.refusal.Status.{Status}
+
+-- an SMBSTATUS: class and code, 0/0 where everything was done
+unfoldable pub status : ℕ → ℕ → Status
+status class code = record { class = class; code = code }
 
 unfoldable pub statusOf : Refusal → Status
+unfolding status
 statusOf NotServed = status 2 22
 statusOf NotSentence = status 2 1
 statusOf NoSession = status 2 91

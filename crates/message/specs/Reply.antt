@@ -3,8 +3,10 @@ use Prim.Native.Nat.{ℕ, _+_, _*_, _/_, _%_}
 use mathlib.Core.List.{List, [], _∷_, _++_}
 use lib.ListN.{length, take, drop, replicate}
 use Rattle.wire.specs.LittleEndian.{byteAt}
-use Rattle.locks.specs.Status.{Status}
+use Rattle.message.specs.declared.refusal.Status.{Status}
 use Rattle.message.specs.Command.{Said, locked, loggedOff, read, wrote, plain}
+use Rattle.message.specs.declared.link.Link.{Link}
+use Rattle.message.specs.declared.link.Link.the-variants.{None as none, Next as next}
 
 -- a number in two bytes, the lower first
 unfoldable pub two : ℕ → List ℕ
@@ -18,11 +20,6 @@ replyHeader s status =
     ++ (two (status .code)
     ++ (((128 + byteAt s 9 / 8 % 2 * 8) ∷ byteAt s 10 % 2 ∷ 0 ∷ byteAt s 12 ∷ byteAt s 13 ∷ [])
     ++ (replicate 10 0 ++ take 8 (drop 24 s))))
-
--- what the AndX words name: the next block written, by its command and its place, or none
-pub data Link : Type 0 where
-  none : Link
-  next : ℕ → ℕ → Link
 
 -- "with none it is FF 00 00 00"
 unfoldable pub linkWords : Link → List ℕ

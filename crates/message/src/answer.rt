@@ -1,0 +1,21 @@
+// What a command gave, as the code hands it on.
+
+use crate::refusal::Refusal;
+use records::Tables;
+
+// What the reply block says. The bytes that a READ yields are not copied out: `Read(place, count)` says where
+// they stand in the file memory.
+pub enum Answer {
+    Refused(Refusal),
+    Locked,
+    LoggedOff,
+    Read(usize, usize),
+    Wrote(u16),
+    Plain,
+}
+
+// The answer, and the tables that the command left.
+pub struct Performed {
+    pub answer: Answer,
+    pub tables: Tables,
+}
