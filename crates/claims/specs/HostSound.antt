@@ -8,10 +8,11 @@ use lib.ListN.{length, set, length-set}
 use borrow.Author.Tests.{le-leb}
 use Rattle.records.specs.declared.Tables.{Tables}
 use Rattle.records.specs.Held.{sessionsOf, treesOf, opensOf, locksOf, withSessions, withTrees, withOpens, withFiles}
-use Rattle.numbers.specs.Number.{contains}
 use Rattle.numbers.specs.Column.{uidOf}
-use Rattle.soundness.specs.Sound.{sound, fileOk}
-use Rattle.host.specs.HostCall.{refused, done, newSession, addSession, newTree, addTree, newOpen, addOpen, loaded, loadFile, dropConnection}
+use Rattle.lists.specs.Walk.{all, allTails}
+use Rattle.numbers.specs.Number.{contains, numbered}
+use Rattle.soundness.specs.Sound.{sound, withinRoom, fileOk, soundRecords, soundLocks, agreeAll}
+use Rattle.host.specs.HostCall.{noTables, refused, done, newSession, addSession, newTree, addTree, newOpen, addOpen, loaded, loadFile, dropConnection}
 use Rattle.host.specs.declared.answer.Answer.{Answer}
 use Rattle.removal.specs.declared.Gone.the-variants.{Connection}
 use Rattle.lists.specs.Members.{all-set}
@@ -170,3 +171,8 @@ module _ (t : Tables) (s : Shaped t) where
   pub dropConnection-shaped : (connection : ℕ) → Shaped (dropConnection t connection .tables)
   unfolding ShapedAfter done
   dropConnection-shaped c = dropConnection-either t ShapedAfter refused-shaped c (λ a. remove-shaped (Connection c) t s a)
+
+-- the tables to start from are sound
+pub start-sound : sound noTables ≡ true
+unfolding noTables sound withinRoom all fileOk soundRecords numbered soundLocks agreeAll allTails
+start-sound = refl

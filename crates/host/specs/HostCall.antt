@@ -12,6 +12,7 @@ use Rattle.records.specs.declared.Session.{Session}
 use Rattle.records.specs.declared.Tree.{Tree}
 use Rattle.records.specs.declared.Open.{Open}
 use Rattle.records.specs.declared.Tables.{Tables}
+use Rattle.records.specs.Empty.{noSession, noTree, noOpen, noLock, noFile}
 use Rattle.records.specs.Held.{sessionsOf, treesOf, opensOf, withSessions, withTrees, withOpens, withFiles}
 use Rattle.numbers.specs.Number.{contains, smallestFree}
 use Rattle.numbers.specs.Column.{uidOf, tidOf, fidOf}
@@ -20,6 +21,21 @@ use Rattle.soundness.specs.Sound.{sound, holdsOpen}
 use Rattle.removal.specs.Removal.{remove}
 use Rattle.host.specs.declared.answer.Answer.{Answer}
 use Rattle.removal.specs.declared.Gone.the-variants.{Connection}
+
+-- tables with no record in use and every file empty
+unfoldable pub noTables : Tables
+noTables =
+    record {
+      sessions = replicate 16 noSession;
+      nsessions = 0;
+      trees = replicate 32 noTree;
+      ntrees = 0;
+      opens = replicate 64 noOpen;
+      nopens = 0;
+      locks = replicate 128 noLock;
+      nlocks = 0;
+      files = replicate 16 noFile;
+    }
 
 -- refused with that number: the tables stay
 unfoldable pub refused : ℕ → Tables → Answer

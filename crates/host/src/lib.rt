@@ -1,7 +1,8 @@
 // The host calls (document 01, "What a call returns"): `add::add_session`, `add::add_tree`,
-// `add::add_open`, `load::load_file` and `drop::drop_connection`.
+// `add::add_open`, `load::load_file` and `drop::drop_connection`; and `start::empty_tables` to start from.
 
 pub mod add;
 pub mod answer;
 pub mod drop;
 pub mod load;
+pub mod start;
