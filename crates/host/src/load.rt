@@ -12,6 +12,7 @@ use records::File;
 use records::Open;
 use records::Tables;
 use soundness::sound::is_sound;
+use wire::fill::clear;
 ghost use mathlib.Core.Path.{_≡_};
 ghost use mathlib.Core.List.{_++_};
 ghost use Prim.Native.Nat.{_-_, _≤_, _<_};
@@ -58,17 +59,6 @@ fn load_number(t: Tables, file: u8, size: usize, memory: usize) -> u8
     DONE
 }
 
-// Zeros over the whole slice.
-fn clear(room: &mut [u8])
-    ensures { λ _. ⌜ now (room .exit) ≡ replicate (length (now (room .entry))) 0 ⌝ }
-{
-    let mut i: usize = 0;
-    while i < room.len() {
-        room[i] = 0;
-        i += 1;
-    }
-}
-
 // The bytes, and zeros behind them.
 fn fill_file(contents: &[u8], room: &mut [u8])
     requires { ⌜ length (now contents) ≤ length (now room) ⌝ }
@@ -79,7 +69,7 @@ fn fill_file(contents: &[u8], room: &mut [u8])
 }
 
 // The tables with a file's size set.
-fn with_size(t: Tables, file: usize, size: usize) -> Tables
+pub fn with_size(t: Tables, file: usize, size: usize) -> Tables
     requires { ⌜ file < 16 ⌝ }
     ensures { λ r. ⌜ r ≡ loaded t file size ⌝ }
 {

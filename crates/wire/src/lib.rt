@@ -1,6 +1,8 @@
 // Reading little-endian numbers out of a message (document 01, "Header": "32 bytes, little-endian").
 // Bytes past the end count as 0: no place is refused, so no caller can break a reading.
 
+pub mod fill;
+
 ghost use mathlib.Core.Path.{_≡_};
 ghost use Rattle.wire.specs.LittleEndian.{byteAt, le16At, le32At};
 

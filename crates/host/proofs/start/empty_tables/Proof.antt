@@ -1,11 +1,10 @@
+-- `host::start::empty_tables` meets its contract: every array is filled with the empty record.
+-- Assumes nothing.
 use Rattle.host.proofs.start.empty_tables.Statement.{statement}
 use Rattle.host.proofs.start.empty_tables.Tie as tie
-use Rattle.host.proofs.start.empty_tables.Reads as reads
-use Rattle.host.proofs.start.empty_tables.Lts as lts
 use mathlib.Core.Path.{refl}
 use Rattle.host.specs.HostCall.{noTables}
 
--- src/start.rt:13:1
 returns : tie.Need-returns
 unfolding noTables
 returns c =

@@ -1,13 +1,13 @@
--- `host::load::clear` meets its contract: the bytes passed are 0 and the others stand.
+-- `wire::fill::clear` meets its contract: the bytes passed are 0 and the others stand.
 -- Assumes nothing.
-use Rattle.host.proofs.Cleared.{filled-length, all-filled}
+use Rattle.wire.proofs.Cleared.{filled-length, all-filled}
 use mathlib.Core.Path.{_≡_, refl}
 use Prim.Native.Nat.{_≤_, _-_}
 use lib.ListN.{length, drop, replicate}
 use mathlib.Core.List.{_++_}
 use borrow.Author.Fill.{fill-more}
-use Rattle.host.proofs.load.clear.Statement.{statement}
-use Rattle.host.proofs.load.clear.Tie as tie
+use Rattle.wire.proofs.fill.clear.Statement.{statement}
+use Rattle.wire.proofs.fill.clear.Tie as tie
 use native.Mathlib.Omega.{arith}
 
 abbrev Inv-loop : tie.InvT-loop
