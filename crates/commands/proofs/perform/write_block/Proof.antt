@@ -1,0 +1,48 @@
+-- `commands::perform::write_block` meets its contract: the part of the message handed on is the write's data.
+-- Assumes nothing.
+use borrow.Author.Needs.{needs}
+use Rattle.commands.proofs.perform.write_block.Statement.{statement}
+use Rattle.commands.proofs.perform.write_block.Tie as tie
+use mathlib.Core.Path.{_≡_}
+use Prim.Native.Nat.{_+_, _-_}
+use native.Mathlib.Omega.{arith}
+
+cast-to : tie.Need-cast-to
+cast-to c = search needs
+
+add-to : tie.Need-add-to
+add-to c = search needs
+
+sub-do-write : tie.Need-sub-do-write
+sub-do-write c = search needs
+
+part-do-write-start : tie.Need-part-do-write-start
+part-do-write-start c = search needs
+
+part-do-write-end : tie.Need-part-do-write-end
+part-do-write-end c = search needs
+
+do-write-requires : tie.Need-do-write-requires
+do-write-requires c κs = search needs
+
+same-length : tie.Need-same-length
+same-length c = search needs
+
+returns : tie.Need-returns
+returns c =
+    let args = c .before .before .before .before .before .before .before .before .args in
+    let cut : args .f .from + args .f .count - args .f .from ≡ args .f .count = omega arith in
+    rw cut at (c .before .before .do-write .ensures)
+
+pub write-block-spec : {M : Type 1} → statement M
+write-block-spec =
+    tie.close
+    (tie.spec
+    cast-to
+    add-to
+    sub-do-write
+    part-do-write-start
+    part-do-write-end
+    do-write-requires
+    same-length
+    returns)

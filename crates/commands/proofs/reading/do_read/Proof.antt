@@ -1,0 +1,47 @@
+-- `commands::reading::do_read` meets its contract: the open is reached first, then the file is read.
+-- Assumes nothing.
+use borrow.Author.Needs.{needs}
+use Rattle.commands.proofs.reading.do_read.Statement.{statement}
+use Rattle.commands.proofs.reading.do_read.Tie as tie
+use mathlib.Core.Path.{sym, _∙_}
+use Rattle.commands.specs.Reach.{reached-file, not-reached, is-reached}
+use Rattle.commands.specs.Steps.{read-steps}
+
+reach-open-requires : tie.Need-reach-open-requires
+reach-open-requires c κs = search needs
+
+enum-known-at : tie.Need-enum-known-at
+enum-known-at c = search needs
+
+read-open-requires : tie.Need-read-open-requires
+read-open-requires c κs =
+    let args = c .before .before .before .before .args in
+    (c .before .before .before .before .pre, reached-file (args .c) (args .t) (args .f .fid) (c .before .at .given .0 .0) (c .before .before .before .before .pre) (sym (c .before .before .before .reach-open .ensures) ∙ c .before .at .given .1))
+
+enum-known-at-2 : tie.Need-enum-known-at-2
+enum-known-at-2 c = search needs
+
+refuse-requires : tie.Need-refuse-requires
+refuse-requires c κs = search needs
+
+returns : tie.Need-returns
+returns c =
+    let args = c .before .before .before .before .before .args in
+    λ m. rw (read-steps (args .c) (args .t) m (args .f)) (is-reached (args .c) (args .t) (args .f .fid) m (c .read-open .result) _ m _ (sym (c .before .before .before .before .reach-open .ensures) ∙ c .before .before .at .given .1) (c .read-open .ensures m))
+
+returns-2 : tie.Need-returns-2
+returns-2 c =
+    let args = c .before .before .before .before .before .args in
+    λ m. rw (read-steps (args .c) (args .t) m (args .f)) (not-reached (args .c) (args .t) (args .f .fid) m (c .refuse .result) _ _ (sym (c .before .before .before .before .reach-open .ensures) ∙ c .before .before .at2 .given .1) (c .refuse .ensures))
+
+pub do-read-spec : {M : Type 1} → statement M
+do-read-spec =
+    tie.close
+    (tie.spec
+    reach-open-requires
+    enum-known-at
+    read-open-requires
+    enum-known-at-2
+    refuse-requires
+    returns
+    returns-2)

@@ -1,0 +1,67 @@
+-- `commands::reading::read_open` meets its contract: the tests are those of the definition, in its order, and the part read is what it yields.
+-- Assumes nothing.
+use borrow.Author.Needs.{needs}
+use Rattle.commands.proofs.reading.read_open.Statement.{statement}
+use Rattle.commands.proofs.reading.read_open.Tie as tie
+use mathlib.Core.Path.{ap}
+use borrow.Author.Tests.{eq-eqb, ne-eqb}
+use Rattle.message.specs.declared.answer.Answer.{Answer}
+use Rattle.message.specs.Command.{unlessBarred}
+use Rattle.commands.specs.Leaves.{performed, gives-refused, gives-done}
+use Rattle.commands.specs.Steps.{readOpen}
+use Rattle.commands.specs.ReadPart.{part-given, part-within}
+
+refuse-requires : tie.Need-refuse-requires
+refuse-requires c κs = search needs
+
+returns : tie.Need-returns
+unfolding readOpen
+returns c =
+    λ m. gives-refused _ (rw (eq-eqb _ _ (c .before .if1 .taken))) (c .refuse .ensures)
+
+ask-of-requires : tie.Need-ask-of-requires
+ask-of-requires c κs = search needs
+
+first-bar-requires : tie.Need-first-bar-requires
+first-bar-requires c κs = search needs
+
+enum-known-bar : tie.Need-enum-known-bar
+enum-known-bar c = search needs
+
+refuse-requires-2 : tie.Need-refuse-requires-2
+refuse-requires-2 c κs = search needs
+
+enum-told : tie.Need-enum-told
+enum-told c = search needs
+
+read-part-requires : tie.Need-read-part-requires
+read-part-requires c κs = search needs
+
+returns-2 : tie.Need-returns-2
+unfolding readOpen unlessBarred
+returns-2 c =
+    λ m. gives-refused _ (rw (ne-eqb _ _ (c .before .before .before .before .before .before .if1 .left), ← (c .before .before .before .before .before .ask-of .ensures), ← (c .before .before .before .before .first-bar .ensures), c .before .before .bar .given .1)) (c .refuse2 .ensures)
+
+returns-3 : tie.Need-returns-3
+unfolding readOpen unlessBarred
+returns-3 c =
+    let args = c .before .before .before .before .before .before .before .args in
+    λ m.
+    gives-done _ (args .t) _ (rw (ne-eqb _ _ (c .before .before .before .before .before .if1 .left), ← (c .before .before .before .before .ask-of .ensures), ← (c .before .before .before .first-bar .ensures), c .before .enum-told .given .1)) (ap (λ (a : Answer). performed a (args .t)) (c .read-part .ensures))
+    (part-given (args .t) (args .o .file) (args .f .offset) (args .f .max) m)
+    (part-within (args .t) (args .o .file) (args .f .offset) (args .f .max) (c .before .before .before .before .before .before .before .pre .0) (c .before .before .before .before .before .before .before .pre .1))
+
+pub read-open-spec : {M : Type 1} → statement M
+read-open-spec =
+    tie.close
+    (tie.spec
+    refuse-requires
+    returns
+    ask-of-requires
+    first-bar-requires
+    enum-known-bar
+    refuse-requires-2
+    enum-told
+    read-part-requires
+    returns-2
+    returns-3)

@@ -1,0 +1,53 @@
+-- `commands::reading::read_part` meets its contract: the size decides, and is at most 4,096.
+-- Assumes nothing.
+use borrow.Author.Needs.{needs}
+use Rattle.commands.proofs.reading.read_part.Statement.{statement}
+use Rattle.commands.proofs.reading.read_part.Tie as tie
+use Prim.Native.Nat.{_≤_, _<_}
+use native.Mathlib.Omega.{arith}
+use borrow.Author.Tests.{le-leb, lt-leb}
+use Rattle.claims.specs.SoundParts.{sound-says}
+use Rattle.message.specs.Contents.{sizeOf}
+use Rattle.demands.specs.Sound.{size-most}
+use Rattle.commands.specs.ReadPart.{readPart}
+
+size-of-requires : tie.Need-size-of-requires
+size-of-requires c κs = search needs
+
+returns : tie.Need-returns
+unfolding readPart
+returns c =
+    let args = c .before .before .args in
+    let e = c .before .size-of .ensures in
+    let past : sizeOf (args .t) (args .file) ≤ args .offset = omega arith in
+    rw (le-leb _ _ past)
+
+mul-start : tie.Need-mul-start
+mul-start c = search needs
+
+add-place : tie.Need-add-place
+add-place c =
+    let args = c .before .before .args in
+    let e = c .before .size-of .ensures in
+    let most : sizeOf (args .t) (args .file) ≤ 4096 = size-most (args .t) (args .file) (sound-says (args .t) (c .before .before .pre .0 .sound)) in
+    omega arith
+
+sub-at-most : tie.Need-sub-at-most
+sub-at-most c = search needs
+
+at-most-requires : tie.Need-at-most-requires
+at-most-requires c κs = search needs
+
+returns-2 : tie.Need-returns-2
+unfolding readPart
+returns-2 c =
+    let args = c .before .before .before .args in
+    let size-of = c .before .before .size-of in
+    let e = size-of .ensures in
+    let low : args .offset < sizeOf (args .t) (args .file) = omega arith in
+    rw (lt-leb _ _ low, c .at-most .ensures, size-of .ensures)
+
+pub read-part-spec : {M : Type 1} → statement M
+read-part-spec =
+    tie.close
+    (tie.spec size-of-requires returns mul-start add-place sub-at-most at-most-requires returns-2)

@@ -1,0 +1,58 @@
+-- `commands::writing::write_bytes` meets its contract: the gap is cleared and the bytes are laid behind it.
+-- Assumes nothing.
+use borrow.Author.Needs.{needs}
+use Rattle.commands.proofs.writing.write_bytes.Statement.{statement}
+use Rattle.commands.proofs.writing.write_bytes.Tie as tie
+use mathlib.Core.Path.{_∙_}
+use Prim.Native.Nat.{_≤_}
+use native.Mathlib.Omega.{arith}
+use Rattle.claims.specs.SoundParts.{sound-says}
+use Rattle.message.specs.Contents.{sizeOf}
+use Rattle.demands.specs.Sound.{size-most}
+use Rattle.commands.specs.WritePart.{put-written}
+
+mul-start : tie.Need-mul-start
+mul-start c = search needs
+
+size-of-requires : tie.Need-size-of-requires
+size-of-requires c κs = search needs
+
+add-from : tie.Need-add-from
+add-from c =
+    let args = c .before .before .before .args in
+    let e = c .size-of .ensures in
+    let most : sizeOf (args .t) (args .file) ≤ 4096 = size-most (args .t) (args .file) (sound-says (args .t) (c .before .before .before .pre .0 .sound)) in
+    omega arith
+
+add-at : tie.Need-add-at
+add-at c = search needs
+
+clear-gap-requires : tie.Need-clear-gap-requires
+clear-gap-requires c κs = search needs
+
+lay-requires : tie.Need-lay-requires
+lay-requires c κs = search needs
+
+same-length : tie.Need-same-length
+same-length c = search needs
+
+returns : tie.Need-returns
+returns c =
+    let args = c .before .before .before .before .before .before .before .before .before .before .before .args in
+    let clear-gap = c .before .before .before .before .before .before .clear-gap in
+    let size-of = c .before .before .before .before .before .before .before .before .size-of in
+    c .before .before .lay .ensures
+    ∙ put-written (args .t) (args .memory .now) (clear-gap .last .0) (args .source .now) (args .file) (args .offset) (size-of .result) (size-of .ensures) (c .before .before .before .before .before .before .before .before .before .before .before .pre .1 .1 .1 .1) (clear-gap .ensures)
+
+pub write-bytes-spec : {M : Type 1} → statement M
+write-bytes-spec =
+    tie.close
+    (tie.spec
+    mul-start
+    size-of-requires
+    add-from
+    add-at
+    clear-gap-requires
+    lay-requires
+    same-length
+    returns)

@@ -1,0 +1,68 @@
+-- `commands::writing::write_free` meets its contract: the end is tested first; a write of nothing changes nothing.
+-- Assumes nothing.
+use borrow.Author.Needs.{needs}
+use Rattle.commands.proofs.writing.write_free.Statement.{statement}
+use Rattle.commands.proofs.writing.write_free.Tie as tie
+use mathlib.Core.Path.{refl, sym, ap, _∙_}
+use Prim.Native.Nat.{_+_, _≤_}
+use native.Mathlib.Omega.{arith}
+use Rattle.message.specs.declared.answer.Answer.the-variants.{Wrote}
+use Rattle.message.specs.Command.{wrote}
+use Rattle.message.specs.Given.{givenOf, inside}
+use Rattle.commands.specs.Leaves.{performed, gives-refused, gives-done}
+use Rattle.commands.specs.Steps.{writeFree}
+use Rattle.commands.specs.WritePart.{fits-room, nothing-written}
+
+ends-past-requires : tie.Need-ends-past-requires
+ends-past-requires c κs = search needs
+
+refuse-requires : tie.Need-refuse-requires
+refuse-requires c κs = search needs
+
+returns : tie.Need-returns
+unfolding writeFree
+returns c =
+    gives-refused _ (rw (sym (c .before .before .ends-past .ensures) ∙ c .before .if1 .taken)) (c .refuse .ensures)
+
+returns-2 : tie.Need-returns-2
+unfolding givenOf inside
+returns-2 c =
+    let args = c .before .before .before .before .before .before .args in
+    gives-done (Wrote 0) (args .t) (wrote 0)
+    (nothing-written (args .t) (args .memory .now) (args .f) (args .file) (args .source .now) (sym (c .before .before .before .ends-past .ensures) ∙ c .before .before .if1 .left) (c .if2 .taken) (c .before .before .before .before .before .before .pre .1 .1 .1))
+    refl refl refl
+
+write-bytes-requires : tie.Need-write-bytes-requires
+write-bytes-requires c κs =
+    let args = c .before .before .before .before .before .before .before .args in
+    let fits : args .f .offset + args .f .count ≤ 4096 = fits-room (args .f .offset) (args .f .count) (c .before .if2 .left) (sym (c .before .before .before .before .ends-past .ensures) ∙ c .before .before .before .if1 .left) in
+    let same = c .before .before .before .before .before .before .before .pre .1 .1 .1 in
+    (c .before .before .before .before .before .before .before .pre .0, (c .before .before .before .before .before .before .before .pre .1 .0, (c .before .before .before .before .before .before .before .pre .1 .1 .0, (omega arith, omega arith))))
+
+raise-size-requires : tie.Need-raise-size-requires
+raise-size-requires c κs =
+    let args = c .before .before .before .before .before .before .before .before .before .before .args in
+    let fits : args .f .offset + args .f .count ≤ 4096 = fits-room (args .f .offset) (args .f .count) (c .before .before .before .before .if2 .left) (sym (c .before .before .before .before .before .before .before .ends-past .ensures) ∙ c .before .before .before .before .before .before .if1 .left) in
+    (c .before .before .before .before .before .before .before .before .before .before .pre .1 .0, (omega arith, omega arith))
+
+same-length : tie.Need-same-length
+same-length c = search needs
+
+returns-3 : tie.Need-returns-3
+unfolding writeFree givenOf inside
+returns-3 c =
+    let args = c .before .before .before .before .before .before .before .before .before .before .before .args in
+    gives-done (Wrote (args .f .count)) _ (wrote (args .f .count)) (rw (sym (c .before .before .before .before .before .before .before .before .ends-past .ensures) ∙ c .before .before .before .before .before .before .before .if1 .left, c .before .before .before .write-bytes .ensures)) (ap (performed (Wrote (args .f .count))) (c .raise-size .ensures)) refl refl
+
+pub write-free-spec : {M : Type 1} → statement M
+write-free-spec =
+    tie.close
+    (tie.spec
+    ends-past-requires
+    refuse-requires
+    returns
+    returns-2
+    write-bytes-requires
+    raise-size-requires
+    same-length
+    returns-3)

@@ -1,0 +1,7 @@
+pub mod Told
+pub mod Leaves
+pub mod Reach
+pub mod Steps
+pub mod ReadPart
+pub mod WritePart
+pub mod BlockPart

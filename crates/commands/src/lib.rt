@@ -1,0 +1,10 @@
+// One command of a message carried out on the tables and the file memory (document 01, "Refusals on the wire" and
+// "Locks, reads and writes"): `perform::perform_block`. The definitions are message/specs/Command.antt's.
+
+mod barred;
+mod leaving;
+mod locking;
+pub mod perform;
+mod reading;
+pub mod who;
+mod writing;

@@ -1,0 +1,73 @@
+// One block of a chain carried out.
+
+use crate::leaving::do_close;
+use crate::leaving::do_disconnect;
+use crate::leaving::do_exit;
+use crate::leaving::do_logoff;
+use crate::locking::do_locking;
+use crate::reading::do_read;
+use crate::writing::do_write;
+use chain::block::Block;
+use chain::block::Body;
+use chain::block::LockingFields;
+use chain::block::WriteFields;
+use message::answer::Performed;
+use message::caller::Caller;
+use records::Tables;
+ghost use mathlib.Core.Path.{_≡_};
+ghost use Prim.Native.Nat.{_+_, _≤_};
+ghost use lib.ListN.{length, take, drop};
+ghost use Rattle.chain.specs.Layout.{byteArea, byteCount};
+ghost use Rattle.chain.specs.Parse.{parse};
+ghost use Rattle.chain.specs.declared.block.Parsed.the-variants.{Whole};
+ghost use Rattle.message.specs.Command.{doLocking, doWrite, perform};
+ghost use Rattle.message.specs.Message.{areaOf, dataOf};
+ghost use Rattle.message.specs.Given.{Gives};
+ghost use Rattle.demands.specs.Sound.{Good};
+ghost use Rattle.commands.specs.BlockPart.{LockingPart};
+ghost use Rattle.commands.specs.Leaves.{Leaves};
+
+// A LOCKING block has 8 words: its bytes start 3 + 2 * 8 places behind its own start.
+const AREA: usize = 19;
+
+// The LOCKING block at that place and of that length, its ranges being its byte area.
+fn lock_block(c: Caller, t: Tables, f: LockingFields, s: &[u8], at: usize, size: usize) -> Performed
+    requires { ⌜ Good t ⌝ }
+    requires { ⌜ LockingPart (now s) at size ⌝ }
+    ensures { λ r. ⌜ Leaves (λ m. doLocking c t m f (take (byteCount (now (s .entry)) at) (drop (byteArea (now (s .entry)) at) (now (s .entry))))) t r ⌝ }
+{
+    let from = at + AREA;
+    let to = at + size;
+    do_locking(c, t, f, &s[from..to])
+}
+
+// A WRITE block, its data being a part of the message.
+fn write_block(c: Caller, t: Tables, f: WriteFields, s: &[u8], memory: &mut [u8]) -> Performed
+    requires { ⌜ Good t ⌝ }
+    requires { ⌜ length (now memory) ≡ 65536 ⌝ }
+    requires { ⌜ f .from + f .count ≤ length (now s) ⌝ }
+    ensures { λ r. ⌜ Gives (doWrite c t (now (memory .entry)) f (take (f .count) (drop (f .from) (now (s .entry))))) t (now (memory .entry)) r (now (memory .exit)) ⌝ }
+{
+    let from = f.from;
+    let to = from + f.count as usize;
+    do_write(c, t, f, &s[from..to], memory)
+}
+
+// The block `b` of the message `s`, "command by command".
+pub fn perform_block(c: Caller, t: Tables, s: &[u8], b: Block, memory: &mut [u8]) -> Performed
+    requires { ⌜ Good t ⌝ }
+    requires { ⌜ length (now memory) ≡ 65536 ⌝ }
+    requires { ⌜ parse (now s) (b .command) (b .at) ≡ Whole b ⌝ }
+    ensures { λ r. ⌜ Gives (perform c t (now (memory .entry)) (b .body) (areaOf (now (s .entry)) b) (dataOf (now (s .entry)) b)) t (now (memory .entry)) r (now (memory .exit)) ⌝ }
+{
+    let body = b.body;
+    match body {
+        Body::Locking(f) => lock_block(c, t, f, s, b.at, b.length),
+        Body::Read(f) => do_read(c, t, f),
+        Body::Write(f) => write_block(c, t, f, s, memory),
+        Body::Close(fid) => do_close(c, t, fid),
+        Body::Logoff => do_logoff(c, t),
+        Body::TreeDisconnect => do_disconnect(c, t),
+        Body::ProcessExit => do_exit(c, t),
+    }
+}

@@ -1,0 +1,74 @@
+// READ.
+
+use crate::barred::ask_of;
+use crate::barred::first_bar;
+use crate::barred::size_of;
+use crate::who::Reached;
+use crate::who::reach_open;
+use crate::who::refuse;
+use chain::block::ReadFields;
+use lists::Found;
+use locks::types::Purpose;
+use message::answer::Answer;
+use message::answer::Performed;
+use message::caller::Caller;
+use message::refusal::Refusal;
+use numbers::number::at_most;
+use records::Open;
+use records::Tables;
+ghost use mathlib.Core.Path.{_≡_};
+ghost use Prim.Native.Nat.{_≤_};
+ghost use Rattle.message.specs.Command.{doRead};
+ghost use Rattle.demands.specs.Sound.{Good};
+ghost use Rattle.commands.specs.Leaves.{Leaves};
+ghost use Rattle.commands.specs.ReadPart.{readPart};
+ghost use Rattle.commands.specs.Steps.{readOpen};
+
+// "It yields the file's bytes in the range below its size": where they stand in the file memory, and how many.
+fn read_part(t: Tables, file: u8, offset: u64, max: u16) -> Answer
+    requires { ⌜ Good t ⌝ }
+    requires { ⌜ file ≤ 15 ⌝ }
+    ensures { λ r. ⌜ r ≡ readPart t file offset max ⌝ }
+{
+    let size = size_of(t, file);
+    let at = offset as usize;
+    if size <= at {
+        return Answer::Read(0, 0);
+    }
+    let start = file as usize * 4096;
+    let place = start + at;
+    let count = at_most(max as usize, size - at);
+    Answer::Read(place, count)
+}
+
+// A read on an open that the caller may use: "1/5 is a read on access 1", then 1/33.
+fn read_open(c: Caller, t: Tables, f: ReadFields, o: Open) -> Performed
+    requires { ⌜ Good t ⌝ }
+    requires { ⌜ o .file ≤ 15 ⌝ }
+    ensures { λ r. ⌜ Leaves (λ m. readOpen c t m f o) t r ⌝ }
+{
+    if o.access == 1 {
+        return refuse(t, Refusal::NoAccess);
+    }
+    let q = ask_of(c, f.fid, f.offset, f.max, Purpose::Read);
+    let bar = first_bar(t, q);
+    match bar {
+        Found::At(place) => refuse(t, Refusal::Conflict(place)),
+        Found::Nothing => Performed {
+            answer: read_part(t, o.file, f.offset, f.max),
+            tables: t,
+        },
+    }
+}
+
+// A READ block.
+pub(crate) fn do_read(c: Caller, t: Tables, f: ReadFields) -> Performed
+    requires { ⌜ Good t ⌝ }
+    ensures { λ r. ⌜ Leaves (λ m. doRead c t m f) t r ⌝ }
+{
+    let at = reach_open(c, t, f.fid);
+    match at {
+        Reached::Open(o) => read_open(c, t, f, o),
+        Reached::Refused(why) => refuse(t, why),
+    }
+}
