@@ -1,0 +1,72 @@
+-- `reply::block::size_of` meets its contract: by the answers; a READ's count is inside the file memory, so the sum fits.
+-- Assumes nothing.
+use borrow.Author.Needs.{needs}
+use Rattle.reply.proofs.block.size_of.Statement.{statement}
+use Rattle.reply.proofs.block.size_of.Tie as tie
+use Rattle.message.specs.Given.{answerSize}
+use native.Mathlib.Omega.{arith}
+use Prim.Native.Nat.{_+_, _≤_}
+use Rattle.reply.specs.BlockLaws.{read-inside}
+
+enum-told : tie.Need-enum-told
+enum-told c = search needs
+
+enum-told-2 : tie.Need-enum-told-2
+enum-told-2 c = search needs
+
+enum-told-3 : tie.Need-enum-told-3
+enum-told-3 c = search needs
+
+enum-known-a : tie.Need-enum-known-a
+enum-known-a c = search needs
+
+add-result : tie.Need-add-result
+add-result c = let h : (c .before .a .given .0 .0) + (c .before .a .given .0 .1 .0) ≤ 65536 = read-inside (c .before .before .before .args .a) (c .before .a .given .0 .0) (c .before .a .given .0 .1 .0) (c .before .a .given .1) (c .before .before .before .pre) in record { fits = omega arith }
+
+enum-told-4 : tie.Need-enum-told-4
+enum-told-4 c = search needs
+
+enum-told-5 : tie.Need-enum-told-5
+enum-told-5 c = search needs
+
+returns : tie.Need-returns
+unfolding answerSize
+returns c = rw (c .enum-told .given .1)
+
+returns-2 : tie.Need-returns-2
+unfolding answerSize
+returns-2 c = rw (c .enum-told2 .given .1)
+
+returns-3 : tie.Need-returns-3
+unfolding answerSize
+returns-3 c = rw (c .enum-told3 .given .1)
+
+returns-4 : tie.Need-returns-4
+unfolding answerSize
+returns-4 c = rw (c .before .a .given .1)
+
+returns-5 : tie.Need-returns-5
+unfolding answerSize
+returns-5 c = rw (c .enum-told4 .given .1)
+
+returns-6 : tie.Need-returns-6
+unfolding answerSize
+returns-6 c = rw (c .enum-told5 .given .1)
+
+pub size-of-spec : {M : Type 1} → statement M
+size-of-spec =
+    tie.close
+    (tie.spec
+    enum-told
+    enum-told-2
+    enum-told-3
+    enum-known-a
+    add-result
+    enum-told-4
+    enum-told-5
+    returns
+    returns-2
+    returns-3
+    returns-4
+    returns-5
+    returns-6)

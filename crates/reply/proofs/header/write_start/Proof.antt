@@ -1,0 +1,45 @@
+-- `reply::header::write_start` meets its contract: the nine bytes are laid over the front.
+-- Assumes nothing.
+use borrow.Author.Needs.{needs}
+use Rattle.reply.proofs.header.write_start.Statement.{statement}
+use Rattle.reply.proofs.header.write_start.Tie as tie
+use Rattle.message.specs.Reply.{two}
+use Rattle.reply.specs.Fronts.{headerStart}
+
+byte-at-requires : tie.Need-byte-at-requires
+byte-at-requires c κs = search needs
+
+cast-code : tie.Need-cast-code
+cast-code c = search needs
+
+low-requires : tie.Need-low-requires
+low-requires c κs = search needs
+
+high-requires : tie.Need-high-requires
+high-requires c κs = search needs
+
+slice-aggregate-lay : tie.Need-slice-aggregate-lay
+slice-aggregate-lay c = search needs
+
+lay-requires : tie.Need-lay-requires
+lay-requires c κs = search needs
+
+same-length : tie.Need-same-length
+same-length c = search needs
+
+returns : tie.Need-returns
+unfolding two headerStart
+returns c = cc
+
+pub write-start-spec : {M : Type 1} → statement M
+write-start-spec =
+    tie.close
+    (tie.spec
+    byte-at-requires
+    cast-code
+    low-requires
+    high-requires
+    slice-aggregate-lay
+    lay-requires
+    same-length
+    returns)

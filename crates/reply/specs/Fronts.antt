@@ -1,0 +1,59 @@
+-- The parts of a header and of a READ's block, in the order in which they are written. Assumes nothing.
+use mathlib.Core.Path.{_≡_, refl}
+use Prim.Native.Nat.{ℕ, _+_, _*_, _/_, _%_}
+use mathlib.Core.List.{List, [], _∷_, _++_}
+use lib.ListN.{length, take, drop, replicate}
+use Rattle.wire.specs.LittleEndian.{byteAt}
+use Rattle.message.specs.Command.{read}
+use Rattle.message.specs.Reply.{two, replyHeader, linkWords, replyBlock}
+use Rattle.message.specs.declared.refusal.Status.{Status}
+use Rattle.message.specs.declared.link.Link.{Link}
+use Rattle.message.specs.declared.link.Link.the-variants.{None as none, Next as next}
+
+-- Protocol, Command and Status: 9 bytes
+unfoldable pub headerStart : List ℕ → Status → List ℕ
+headerStart s status = 0xFF ∷ 0x53 ∷ 0x4D ∷ 0x42 ∷ byteAt s 4 ∷ status .class ∷ 0 ∷ two (status .code)
+
+-- Flags, Flags2, PIDHigh, SecurityFeatures and Reserved: 15 bytes
+unfoldable pub headerFlags : List ℕ → List ℕ
+headerFlags s = (128 + byteAt s 9 / 8 % 2 * 8) ∷ byteAt s 10 % 2 ∷ 0 ∷ byteAt s 12 ∷ byteAt s 13 ∷ replicate 10 0
+
+-- before TID: 24 bytes
+pub length-headerFront : (s : List ℕ) (status : Status) → length (headerStart s status ++ headerFlags s) ≡ 24
+unfolding headerStart headerFlags two
+length-headerFront s status = refl
+
+pub length-headerStart : (s : List ℕ) (status : Status) → length (headerStart s status) ≡ 9
+unfolding headerStart two
+length-headerStart s status = refl
+
+-- "A reply copies .. TID, PIDLow, UID and MID", the header's last eight bytes
+pub header-whole : (s : List ℕ) (status : Status) → replyHeader s status ≡ (headerStart s status ++ headerFlags s) ++ take 8 (drop 24 s)
+unfolding replyHeader headerStart headerFlags two
+header-whole s status = refl
+
+-- WordCount, "AndX, 0xFFFF, 0, 0": 11 bytes
+unfoldable pub readStart : Link → List ℕ
+readStart link = 12 ∷ (linkWords link ++ (0xFF ∷ 0xFF ∷ 0 ∷ 0 ∷ 0 ∷ 0 ∷ []))
+
+-- "length, data offset, ten zero bytes", ByteCount: 16 bytes
+unfoldable pub readExtent : ℕ → ℕ → List ℕ
+readExtent count place = two count ++ (two (place + 27) ++ (replicate 10 0 ++ two count))
+
+pub length-readStart : (link : Link) → length (readStart link) ≡ 11
+unfolding readStart linkWords two
+length-readStart none = refl
+length-readStart (next c p) = refl
+
+-- before the data: 27 bytes
+pub length-readFront : (count place : ℕ) (link : Link) → length (readStart link ++ readExtent count place) ≡ 27
+unfolding readStart readExtent linkWords two
+length-readFront count place none = refl
+length-readFront count place (next c p) = refl
+
+-- "the bytes are the data"
+pub read-whole : (bytes : List ℕ) (place : ℕ) (link : Link)
+    → replyBlock (read bytes) place link ≡ (readStart link ++ readExtent (length bytes) place) ++ bytes
+unfolding replyBlock readStart readExtent linkWords two
+read-whole bytes place none = refl
+read-whole bytes place (next c p) = refl

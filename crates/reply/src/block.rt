@@ -1,0 +1,161 @@
+// A reply block (document 01, "Reply blocks"): "each is written into the room left after the one before". The room that a
+// writer is lent begins where its block is to stand.
+
+use crate::lay::high;
+use crate::lay::lay;
+use crate::lay::low;
+use chain::block::Next;
+use message::answer::Answer;
+use message::link::Link;
+ghost use mathlib.Core.Path.{_≡_};
+ghost use Prim.Native.Nat.{_+_, _≤_};
+ghost use mathlib.Core.Bool.{true};
+ghost use mathlib.Core.List.{[], _∷_, _++_};
+ghost use lib.ListN.{length, take, drop};
+ghost use Rattle.lists.specs.Put.{put};
+ghost use Rattle.message.specs.Command.{read, wrote};
+ghost use Rattle.message.specs.Reply.{linkWords, refusedBlock, replyBlock};
+ghost use Rattle.message.specs.Given.{inside, blockOf, answerSize};
+ghost use Rattle.reply.specs.Fronts.{readStart, readExtent};
+ghost use Rattle.reply.specs.Links.{linkFor, linkCommand, linkPlace};
+
+// "AndX names the next block written", which stands at `place`.
+pub fn link_to(next: Next, place: usize) -> Link
+    ensures { λ r. ⌜ r ≡ linkFor next place ⌝ }
+{
+    match next {
+        Next::End => Link::None,
+        Next::Follow(command, _) => Link::Next(command, place),
+    }
+}
+
+// AndXCommand: "with none it is FF 00 00 00".
+fn link_command(link: Link) -> u8
+    ensures { λ r. ⌜ r ≡ linkCommand link ⌝ }
+{
+    match link {
+        Link::None => 0xff,
+        Link::Next(command, _) => command,
+    }
+}
+
+// AndXOffset.
+fn link_place(link: Link) -> usize
+    ensures { λ r. ⌜ r ≡ linkPlace link ⌝ }
+{
+    match link {
+        Link::None => 0,
+        Link::Next(_, place) => place,
+    }
+}
+
+// How long the block of an answer is.
+pub fn size_of(a: Answer) -> usize
+    requires { ⌜ inside a ≡ true ⌝ }
+    ensures { λ r. ⌜ r ≡ answerSize a ⌝ }
+{
+    match a {
+        Answer::Refused(_) => 3,
+        Answer::Locked => 7,
+        Answer::LoggedOff => 7,
+        Answer::Read(_, count) => 27 + count,
+        Answer::Wrote(_) => 15,
+        Answer::Plain => 3,
+    }
+}
+
+// "A refused command or message gives WordCount 0 and ByteCount 0"; "Others: 0 words".
+fn write_bare(room: &mut [u8])
+    requires { ⌜ 3 ≤ length (now room) ⌝ }
+    ensures { λ _. ⌜ now (room .exit) ≡ put (now (room .entry)) 0 refusedBlock ⌝ }
+{
+    let bare = [0, 0, 0];
+    lay(&bare, room);
+}
+
+// "LOCKING and LOGOFF: 2 words."
+fn write_linked(link: Link, room: &mut [u8])
+    requires { ⌜ 7 ≤ length (now room) ⌝ }
+    ensures { λ _. ⌜ now (room .exit) ≡ put (now (room .entry)) 0 (2 ∷ (linkWords link ++ (0 ∷ 0 ∷ []))) ⌝ }
+{
+    let andx = link_command(link);
+    let next = link_place(link);
+    let linked = [2, andx, 0, low(next), high(next), 0, 0];
+    lay(&linked, room);
+}
+
+// "WRITE: 6 words: AndX, count, 0xFFFF, four zero bytes."
+fn write_wrote(count: u16, place: usize, link: Link, room: &mut [u8])
+    requires { ⌜ 15 ≤ length (now room) ⌝ }
+    ensures { λ _. ⌜ now (room .exit) ≡ put (now (room .entry)) 0 (replyBlock (wrote count) place link) ⌝ }
+{
+    let andx = link_command(link);
+    let next = link_place(link);
+    let p0 = low(next);
+    let p1 = high(next);
+    let n = count as usize;
+    let n0 = low(n);
+    let n1 = high(n);
+    let written = [6, andx, 0, p0, p1, n0, n1, 0xff, 0xff, 0, 0, 0, 0, 0, 0];
+    lay(&written, room);
+}
+
+// "READ: 12 words: AndX, 0xFFFF, 0, 0"
+fn write_start(link: Link, room: &mut [u8])
+    requires { ⌜ 11 ≤ length (now room) ⌝ }
+    ensures { λ _. ⌜ now (room .exit) ≡ put (now (room .entry)) 0 (readStart link) ⌝ }
+{
+    let andx = link_command(link);
+    let next = link_place(link);
+    let p0 = low(next);
+    let p1 = high(next);
+    let start = [12, andx, 0, p0, p1, 0xff, 0xff, 0, 0, 0, 0];
+    lay(&start, room);
+}
+
+// "length, data offset, ten zero bytes", and ByteCount. The data stand 27 bytes behind the block's place.
+fn write_extent(count: usize, place: usize, room: &mut [u8])
+    requires { ⌜ 16 ≤ length (now room) ⌝ }
+    requires { ⌜ place ≤ 12292 ⌝ }
+    ensures { λ _. ⌜ now (room .exit) ≡ put (now (room .entry)) 0 (readExtent count place) ⌝ }
+{
+    let n0 = low(count);
+    let n1 = high(count);
+    let from = place + 27;
+    let f0 = low(from);
+    let f1 = high(from);
+    let extent = [n0, n1, f0, f1, 0, 0, 0, 0, 0, 0, 0, 0, 0, 0, n0, n1];
+    lay(&extent, room);
+}
+
+// "the bytes are the data", copied straight from the file memory.
+fn write_read(at: usize, count: usize, place: usize, link: Link, memory: &[u8], room: &mut [u8])
+    requires { ⌜ length (now memory) ≡ 65536 ⌝ }
+    requires { ⌜ at + count ≤ 65536 ⌝ }
+    requires { ⌜ 27 + count ≤ length (now room) ⌝ }
+    requires { ⌜ place ≤ 12292 ⌝ }
+    ensures { λ _. ⌜ now (room .exit) ≡ put (now (room .entry)) 0 (replyBlock (read (take count (drop at (now (memory .entry))))) place link) ⌝ }
+{
+    write_start(link, room);
+    write_extent(count, place, &mut room[11..]);
+    let to = at + count;
+    lay(&memory[at..to], &mut room[27..]);
+}
+
+// The block of an answer, at the front of the room left for it.
+pub fn write_block(a: Answer, place: usize, link: Link, memory: &[u8], room: &mut [u8])
+    requires { ⌜ length (now memory) ≡ 65536 ⌝ }
+    requires { ⌜ inside a ≡ true ⌝ }
+    requires { ⌜ answerSize a ≤ length (now room) ⌝ }
+    requires { ⌜ place ≤ 12292 ⌝ }
+    ensures { λ _. ⌜ now (room .exit) ≡ put (now (room .entry)) 0 (blockOf a (now (memory .entry)) place link) ⌝ }
+{
+    match a {
+        Answer::Refused(_) => write_bare(room),
+        Answer::Locked => write_linked(link, room),
+        Answer::LoggedOff => write_linked(link, room),
+        Answer::Read(at, count) => write_read(at, count, place, link, memory, room),
+        Answer::Wrote(count) => write_wrote(count, place, link, room),
+        Answer::Plain => write_bare(room),
+    }
+}
