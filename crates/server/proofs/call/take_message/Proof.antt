@@ -1,0 +1,97 @@
+-- `server::call::take_message` meets its contract: the rows are tested in the definition's order, and what is left is fit to be answered.
+-- Assumes nothing.
+use borrow.Author.Needs.{needs}
+use Rattle.server.proofs.call.take_message.Statement.{statement}
+use Rattle.server.proofs.call.take_message.Tie as tie
+use mathlib.Core.Path.{sym, _∙_}
+use native.Mathlib.Omega.{arith}
+use borrow.Author.Tests.{not-true, not-false}
+use Rattle.lists.specs.Mapped.{length-mapped}
+use Rattle.demands.specs.Taken.{fit-answered}
+use Rattle.server.specs.Rows.{refusal-taken, row-room, row-memory, row-sound, row-dropped, kept-length}
+
+refuse-requires : tie.Need-refuse-requires
+refuse-requires c κs = search needs
+
+returns : tie.Need-returns
+returns c =
+    let args = c .before .before .before .before .before .args in
+    refusal-taken (c .refuse .result) 2 (args .tables) (args .memory .now) (args .room .now) (c .refuse .ensures) ∙ row-room (args .connection) (args .s .now) (args .tables) (args .memory .now) (args .room .now) (c .before .if1 .taken)
+
+refuse-requires-2 : tie.Need-refuse-requires-2
+refuse-requires-2 c κs = search needs
+
+returns-2 : tie.Need-returns-2
+returns-2 c =
+    let args = c .before .before .before .before .before .before .args in
+    refusal-taken (c .refuse2 .result) 2 (args .tables) (args .memory .now) (args .room .now) (c .refuse2 .ensures) ∙ row-memory (args .connection) (args .s .now) (args .tables) (args .memory .now) (args .room .now) (omega arith) (c .before .if2 .taken)
+
+is-sound-requires : tie.Need-is-sound-requires
+is-sound-requires c κs = search needs
+
+refuse-requires-3 : tie.Need-refuse-requires-3
+refuse-requires-3 c κs = search needs
+
+returns-3 : tie.Need-returns-3
+returns-3 c =
+    let args = c .before .before .before .before .before .before .before .before .args in
+    refusal-taken (c .refuse3 .result) 4 (args .tables) (args .memory .now) (args .room .now) (c .refuse3 .ensures) ∙ row-sound (args .connection) (args .s .now) (args .tables) (args .memory .now) (args .room .now) (omega arith) (c .before .before .before .if2 .left) (sym (c .before .before .is-sound .ensures) ∙ not-true (c .before .before .is-sound .result) (c .before .if3 .taken))
+
+is-dropped-requires : tie.Need-is-dropped-requires
+is-dropped-requires c κs = search needs
+
+refuse-requires-4 : tie.Need-refuse-requires-4
+refuse-requires-4 c κs = search needs
+
+returns-4 : tie.Need-returns-4
+returns-4 c =
+    let args = c .before .before .before .before .before .before .before .before .before .before .args in
+    let is-sound = c .before .before .before .before .is-sound in
+    refusal-taken (c .refuse4 .result) 1 (args .tables) (args .memory .now) (args .room .now) (c .refuse4 .ensures) ∙ row-dropped (args .connection) (args .s .now) (args .tables) (args .memory .now) (args .room .now) (omega arith) (c .before .before .before .before .before .if2 .left) (sym (is-sound .ensures) ∙ not-false (is-sound .result) (c .before .before .before .if3 .left)) (sym (c .before .before .is-dropped .ensures) ∙ c .before .if4 .taken)
+
+answer-message-requires : tie.Need-answer-message-requires
+answer-message-requires c κs =
+    let args = c .before .before .before .before .before .before .before .before .before .before .before .args in
+    let is-sound = c .before .before .before .before .before .is-sound in
+    let n = kept-length (args .s .now) (sym (c .before .before .before .is-dropped .ensures) ∙ c .before .before .if4 .left) in (
+      record {
+        sound = sym (is-sound .ensures) ∙ not-false (is-sound .result) (c .before .before .before .before .if3 .left);
+        shaped = record { sessions16 = search length-mapped; trees32 = search length-mapped; opens64 = search length-mapped; locks128 = search length-mapped; files16 = search length-mapped };
+      },
+      (n .0, (n .1, (c .before .before .before .before .before .before .if2 .left, omega arith))),
+    )
+
+same-length : tie.Need-same-length
+same-length c = search needs
+
+same-length-2 : tie.Need-same-length-2
+same-length-2 c = search needs
+
+returns-5 : tie.Need-returns-5
+returns-5 c =
+    let args = c .before .before .before .before .before .before .before .before .before .before .before .before .before .before .before .before .args in
+    let if2 = c .before .before .before .before .before .before .before .before .before .before .before .if2 in
+    let is-sound = c .before .before .before .before .before .before .before .before .before .before .is-sound in
+    let if3 = c .before .before .before .before .before .before .before .before .before .if3 in
+    let is-dropped = c .before .before .before .before .before .before .before .before .is-dropped in
+    let if4 = c .before .before .before .before .before .before .before .if4 in
+    c .before .before .before .before .answer-message .ensures ∙ sym (fit-answered (args .connection) (args .s .now) (args .tables) (args .memory .now) (args .room .now) (record { room-enough = omega arith; memory-whole = if2 .left; tables-sound = sym (is-sound .ensures) ∙ not-false (is-sound .result) (if3 .left); not-dropped = sym (is-dropped .ensures) ∙ if4 .left }))
+
+pub take-message-spec : {M : Type 1} → statement M
+take-message-spec =
+    tie.close
+    (tie.spec
+    refuse-requires
+    returns
+    refuse-requires-2
+    returns-2
+    is-sound-requires
+    refuse-requires-3
+    returns-3
+    is-dropped-requires
+    refuse-requires-4
+    returns-4
+    answer-message-requires
+    same-length
+    same-length-2
+    returns-5)

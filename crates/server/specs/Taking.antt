@@ -1,0 +1,202 @@
+-- From a message's reading to the loop, and from its end to what the call gives. Assumes nothing.
+use mathlib.Core.Path.{_≡_, refl, sym, ap, _∙_}
+use Prim.Native.Nat.{ℕ, _+_, _-_, _≤_, _<_}
+use native.Mathlib.Omega.{arith}
+use mathlib.Core.Bool.{Bool, true, false}
+use mathlib.Core.List.{List, [], _∷_, _++_}
+use mathlib.Core.Option.{Option, none, some}
+use lib.ListN.{length, take, drop, length-append}
+use Rattle.lists.specs.Put.{put}
+use Rattle.lists.specs.PutLaws.{put-before, put-part}
+use Rattle.records.specs.declared.Tables.{Tables}
+use Rattle.chain.specs.Layout.{headerCommand, FIRST}
+use Rattle.chain.specs.Chain.{blocksFrom, blocks}
+use Rattle.chain.specs.Judged.{judged}
+use Rattle.chain.specs.Parse.{parse}
+use Rattle.chain.specs.ParseLaws.{placed}
+use Rattle.chain.specs.declared.block.Next.{Next}
+use Rattle.chain.specs.declared.block.Next.the-variants.{End, Follow}
+use Rattle.chain.specs.declared.block.Block.{Block}
+use Rattle.chain.specs.declared.block.Parsed.the-variants.{Whole, Malformed}
+use Rattle.chain.specs.declared.reader.Chain.{Chain}
+use Rattle.chain.specs.declared.reader.Chain.the-variants.{Sentence, NoSentence}
+use Rattle.readings.specs.BlockParse.{parse-complete}
+use Rattle.readings.specs.Chained.{Chained, chained-end, chained-more, read-chained}
+use Rattle.message.specs.declared.caller.Caller.{Caller}
+use Rattle.message.specs.Caller.{callerOf}
+use Rattle.message.specs.Refusal.{statusOf}
+use Rattle.message.specs.declared.refusal.Refusal.the-variants.{NotServed, NotSentence}
+use Rattle.message.specs.declared.refusal.Status.{Status}
+use Rattle.message.specs.Reply.{replyHeader, refusedBlock}
+use Rattle.message.specs.Command.{perform}
+use Rattle.message.specs.declared.answer.Answer.{Answer}
+use Rattle.message.specs.declared.answer.Answer.the-variants.{Refused, Locked, LoggedOff, Read, Wrote, Plain}
+use Rattle.message.specs.declared.answer.Performed.{Performed}
+use Rattle.message.specs.Given.{Gives, inside, blockOf, answerSize}
+use Rattle.message.specs.Message.{areaOf, dataOf, Ran, onlyStatus, runChain, served, answered, replyOf, Taken, replied}
+use Rattle.demands.specs.Sound.{Good}
+use Rattle.demands.specs.ReplySize.{length-header}
+use Rattle.demands.specs.ReplyRoom.{chain-room}
+use Rattle.message.specs.declared.link.Link.{Link}
+use Rattle.reply.specs.Links.{linkFor}
+use Rattle.reply.specs.BlockLaws.{length-of-block}
+use Rattle.server.specs.Step.{statusAfter, goesOn}
+use Rattle.server.specs.Going.{Going, going-start, going-place, going-length, here, turn-fits, turn-end, turn-more, Finished}
+
+-- a chain's first block is there
+not-malformed : {s : List ℕ} {command at : ℕ} {bs : List Block} → Chained s command at bs → parse s command at ≡ Malformed → ⊥
+not-malformed {s} (chained-end {command} {at} h l) e = let z : _≡_ {A = ℕ} 0 1 = cc (parse-complete s at h l) in omega arith
+not-malformed {s} (chained-more {command} {at} h l r) e = let z : _≡_ {A = ℕ} 0 1 = cc (parse-complete s at h l) in omega arith
+
+-- what is gone on with is what follows
+goes-next : (a : Answer) (n : Next) (command at : ℕ) → goesOn a n ≡ Follow command at → n ≡ Follow command at
+unfolding goesOn
+goes-next (Refused why) n command at e = let z : _≡_ {A = ℕ} 0 1 = cc in absurd (omega arith)
+goes-next Locked n command at e = e
+goes-next LoggedOff n command at e = e
+goes-next (Read place count) n command at e = e
+goes-next (Wrote count) n command at e = e
+goes-next Plain n command at e = e
+
+-- there is a reading
+unfoldable pub readable : Option (List Block) → Bool
+readable none = false
+readable (some bs) = true
+
+-- the reader's answer says so
+pub judged-readable : (o : Option (List Block)) (n : ℕ) → judged o ≡ Sentence n → readable o ≡ true
+unfolding judged readable
+judged-readable none n e = let z : _≡_ {A = ℕ} 0 1 = cc in absurd (omega arith)
+judged-readable (some bs) n e = refl
+
+-- the loop's start
+start-of : (c : Caller) (s room : List ℕ) (o : Option (List Block)) → blocks s ≡ o → readable o ≡ true → (t : Tables) (memory : List ℕ) → Good t → length memory ≡ 65536
+    → Going c s room (runChain c s o t memory) (headerCommand s) FIRST FIRST t memory room
+unfolding runChain readable blocks
+start-of c s room none e r t memory g m = let z : _≡_ {A = ℕ} 0 1 = cc in absurd (omega arith)
+start-of c s room (some bs) e r t memory g m = going-start c s room t memory (read-chained s (headerCommand s) FIRST bs e) g m
+
+-- the whole fits the room
+pub run-fits : (c : Caller) (s : List ℕ) (t : Tables) (memory : List ℕ) → Good t → length s ≤ 8192 → 32 + length (runChain c s (blocks s) t memory .blocks) ≤ 12292
+run-fits c s t memory g small = omega (arith, chain-room c s (blocks s) refl t memory g)
+
+-- ---- the loop over the chain of a message, and the room it has
+
+module _ (c : Caller) (s first : List ℕ) (t₀ : Tables) (memory₀ : List ℕ) where
+  abbrev pub wholeRun : Ran
+  wholeRun = runChain c s (blocks s) t₀ memory₀
+
+  pub record Turn (command at place : ℕ) (t : Tables) (memory room : List ℕ) : Type 0 where
+    pub going : Going c s first wholeRun command at place t memory room
+    pub most : 32 + length (wholeRun .blocks) ≤ 12292
+    pub enough : 12292 ≤ length first
+
+pub turn-start : (c : Caller) (s room : List ℕ) (t : Tables) (memory : List ℕ) → readable (blocks s) ≡ true → Good t → length memory ≡ 65536 → length s ≤ 8192 → 12292 ≤ length room
+    → Turn c s room t memory (headerCommand s) FIRST FIRST t memory room
+turn-start c s room t memory r g m small enough =
+    record { going = start-of c s room (blocks s) refl r t memory g m; most = run-fits c s t memory g small; enough = enough }
+
+module _ {c : Caller} {s first : List ℕ} {t₀ : Tables} {memory₀ : List ℕ} {command at place : ℕ} {t : Tables} {memory room : List ℕ}
+    (u : Turn c s first t₀ memory₀ command at place t memory room) where
+  -- a chain has a block where it begins
+  pub turn-block : parse s command at ≡ Malformed → ⊥
+  turn-block e = not-malformed (u .going .chained) e
+
+  pub turn-place : place ≤ 12292
+  turn-place = let a = going-place (u .going) in let b = u .most in omega arith
+
+  pub turn-length : length room ≡ length first
+  turn-length = going-length (u .going) (let b = u .most in let d = u .enough in omega arith)
+
+  module _ (b : Block) (e : parse s command at ≡ Whole b) where
+    -- the block is the one that is parsed at its own place
+    pub turn-parse : parse s (b .command) (b .at) ≡ Whole b
+    turn-parse = ap (λ (x : ℕ). parse s x (b .at)) (here (u .going) b e .named) ∙ ap (λ (x : ℕ). parse s command x) (here (u .going) b e .stands) ∙ e
+
+    module _ (p : Performed) (memory′ : List ℕ) (g : Gives (perform c t memory (b .body) (areaOf s b) (dataOf s b)) t memory p memory′) (size : length memory′ ≡ 65536) where
+      pub block-fits : place + answerSize (p .answer) ≤ 12292
+      block-fits =
+          let a = turn-fits (u .going) b e (p .answer) (p .tables) memory′ (g .meaning) (g .tables-left) (g .memory-left) (g .within) size in
+          let d = u .most in
+          omega arith
+
+      -- the room with the block written behind the others
+      module _ (room′ : List ℕ) (laid : room′ ≡ put room place (blockOf (p .answer) memory′ place (linkFor (b .next) (place + answerSize (p .answer))))) where
+        room-enough : 32 + length (wholeRun c s first t₀ memory₀ .blocks) ≤ length first
+        room-enough = let a = u .most in let d = u .enough in omega arith
+
+        pub turn-ends : goesOn (p .answer) (b .next) ≡ End
+            → Finished first (wholeRun c s first t₀ memory₀) (statusAfter (p .answer)) (place + answerSize (p .answer)) (p .tables) memory′ room′
+        turn-ends stop = turn-end (u .going) b e (p .answer) (p .tables) memory′ (g .meaning) (g .tables-left) (g .memory-left) (g .within) size room′ room-enough laid stop
+
+        pub turn-goes : (command′ at′ : ℕ) → goesOn (p .answer) (b .next) ≡ Follow command′ at′
+            → Turn c s first t₀ memory₀ command′ at′ (place + answerSize (p .answer)) (p .tables) memory′ room′
+        turn-goes command′ at′ more =
+            record {
+              going = turn-more (u .going) b e (p .answer) (p .tables) memory′ (g .meaning) (g .tables-left) (g .memory-left) (g .within) size room′ room-enough laid command′ at′ more;
+              most = u .most;
+              enough = u .enough;
+            }
+
+    -- fewer bytes are left at the next block
+    pub turn-falls : (a : Answer) (command′ at′ : ℕ) → goesOn a (b .next) ≡ Follow command′ at′ → length s - at′ < length s - at
+    turn-falls a command′ at′ more =
+        let inside = placed s at b command e .inside in
+        let ahead = placed s at b command e .ahead command′ at′ (goes-next a (b .next) command′ at′ more) in
+        omega arith
+
+-- a block written at the front of the room left stands behind the others
+pub block-laid : (room e memory : List ℕ) (place : ℕ) (a : Answer) (link : Link) (n : Next) (size : ℕ) → size ≡ answerSize a → link ≡ linkFor n (place + size)
+    → e ≡ put (take (length room - place) (drop place room)) 0 (blockOf a memory place link) → inside a ≡ true → length memory ≡ 65536 → place + answerSize a ≤ length room
+    → take place room ++ (e ++ drop (length room - place) (drop place room)) ≡ put room place (blockOf a memory place (linkFor n (place + answerSize a)))
+block-laid room e memory place a link n size s l h i m fits =
+    let k : length (blockOf a memory place link) ≡ answerSize a = length-of-block a memory place link i m in
+    put-part room (blockOf a memory place link) e place (length room) (omega arith) (omega arith) h
+    ∙ ap (λ (x : Link). put room place (blockOf a memory place x)) (l ∙ ap (λ (x : ℕ). linkFor n (place + x)) s)
+
+-- a message refused as a whole
+pub refused-finished : (room : List ℕ) (why : Status) (t : Tables) (memory : List ℕ) → Finished room (onlyStatus why t memory) why 35 t memory (put room 32 refusedBlock)
+unfolding onlyStatus refusedBlock
+refused-finished room why t memory = record { status-is = refl; tables-are = refl; memory-is = refl; room-is = refl; place-is = refl }
+
+-- the header before the blocks completes the reply
+pub finish : (s room : List ℕ) (whole : Ran) (why : Status) (place : ℕ) (t : Tables) (memory before after : List ℕ) → Finished room whole why place t memory before
+    → after ≡ put before 0 (replyHeader s why) → 32 ≤ length s → 32 + length (whole .blocks) ≤ length room
+    → _≡_ {A = Taken} (record { number = 0; length = place; tables = t; memory = memory; room = after }) (replied s room whole)
+unfolding replied replyOf
+finish s room whole why place t memory before after f e long enough =
+    let h : length (replyHeader s (whole .status)) ≡ 32 = length-header s (whole .status) long in
+    let n : place ≡ length (replyHeader s (whole .status) ++ whole .blocks) = f .place-is ∙ rw (length-append, h) in
+    let r : after ≡ put room 0 (replyHeader s (whole .status) ++ whole .blocks) =
+    e
+    ∙ ap (λ (x : List ℕ). put x 0 (replyHeader s why)) (f .room-is)
+    ∙ ap (λ (x : Status). put (put room 32 (whole .blocks)) 0 (replyHeader s x)) (f .status-is)
+    ∙ put-before room (replyHeader s (whole .status)) (whole .blocks) 32 h enough in
+    rw (n, r, f .tables-are, f .memory-is)
+
+-- ---- the three ways a message fit to be answered is answered
+
+pub answered-not-served : (connection : ℕ) (s : List ℕ) (t : Tables) (memory : List ℕ) → served (headerCommand s) ≡ false
+    → answered connection s t memory ≡ onlyStatus (statusOf NotServed) t memory
+unfolding answered
+answered-not-served connection s t memory e = rw e
+
+none-of : (c : Caller) (s : List ℕ) (o : Option (List Block)) (t : Tables) (memory : List ℕ) → judged o ≡ NoSentence → runChain c s o t memory ≡ onlyStatus (statusOf NotSentence) t memory
+unfolding runChain judged
+none-of c s none t memory e = refl
+none-of c s (some bs) t memory e = let z : _≡_ {A = ℕ} 0 1 = cc in absurd (omega arith)
+
+pub answered-none : (connection : ℕ) (s : List ℕ) (t : Tables) (memory : List ℕ) → served (headerCommand s) ≡ true → judged (blocksFrom s (headerCommand s) FIRST) ≡ NoSentence
+    → answered connection s t memory ≡ onlyStatus (statusOf NotSentence) t memory
+unfolding answered blocks
+answered-none connection s t memory e j = rw e (none-of (callerOf connection s) s (blocks s) t memory j)
+
+pub answered-run : (connection : ℕ) (s : List ℕ) (t : Tables) (memory : List ℕ) → served (headerCommand s) ≡ true
+    → answered connection s t memory ≡ runChain (callerOf connection s) s (blocks s) t memory
+unfolding answered
+answered-run connection s t memory e = rw e
+
+-- the reader's answer that there is a reading
+pub readable-here : (s : List ℕ) (r : Chain) (n : ℕ) → judged (blocksFrom s (headerCommand s) FIRST) ≡ r → r ≡ Sentence n → readable (blocks s) ≡ true
+unfolding blocks
+readable-here s r n e f = judged-readable (blocks s) n (e ∙ f)

@@ -1,0 +1,86 @@
+// The commands of a chain, carried out one after the other.
+
+use crate::step::goes_on;
+use crate::step::status_after;
+use chain::block::Next;
+use chain::block::Parsed;
+use chain::parse::parse_block;
+use commands::perform::perform_block;
+use message::answer::Answer;
+use message::caller::Caller;
+use message::refusal::Refusal;
+use message::refusal::Status;
+use records::Tables;
+use reply::block::link_to;
+use reply::block::size_of;
+use reply::block::write_block;
+ghost use mathlib.Core.Path.{_≡_};
+ghost use Prim.Native.Nat.{_+_, _≤_};
+ghost use mathlib.Core.Bool.{true};
+ghost use lib.ListN.{length};
+ghost use Rattle.chain.specs.Chain.{blocks};
+ghost use Rattle.message.specs.Message.{runChain};
+ghost use Rattle.demands.specs.Sound.{Good};
+ghost use Rattle.server.specs.Going.{Finished};
+ghost use Rattle.server.specs.Taking.{readable};
+
+// How a chain ended: the status for the header, where the reply ends, and the tables left.
+pub(crate) struct Ended {
+    pub status: Status,
+    pub length: usize,
+    pub tables: Tables,
+}
+
+// The chain of a message that is a sentence. Each reply block is written into the room left after the one
+// before; the block's link is known before it is written, since a command done is followed by the next
+// one's block, refused or not.
+pub(crate) fn run_chain(
+    c: Caller,
+    s: &[u8],
+    tables: Tables,
+    memory: &mut [u8],
+    room: &mut [u8],
+) -> Ended
+    requires { ⌜ Good tables ⌝ }
+    requires { ⌜ length (now memory) ≡ 65536 ⌝ }
+    requires { ⌜ length (now s) ≤ 8192 ⌝ }
+    requires { ⌜ 12292 ≤ length (now room) ⌝ }
+    requires { ⌜ readable (blocks (now s)) ≡ true ⌝ }
+    ensures { λ r. ⌜ Finished (now (room .entry)) (runChain c (now (s .entry)) (blocks (now (s .entry))) tables (now (memory .entry))) (r .status) (r .length) (r .tables) (now (memory .exit)) (now (room .exit)) ⌝ }
+{
+    let mut t = tables;
+    let mut command = wire::byte_at(s, 4);
+    let mut at: usize = 32;
+    let mut place: usize = 32;
+    loop {
+        let Parsed::Whole(b) = parse_block(s, command, at) else {
+            return Ended {
+                status: status_after(Answer::Refused(Refusal::NotSentence)),
+                length: place,
+                tables: t,
+            };
+        };
+        let p = perform_block(c, t, s, b, memory);
+        t = p.tables;
+        let answer = p.answer;
+        let next = b.next;
+        let end = place + size_of(answer);
+        write_block(
+            answer,
+            place,
+            link_to(next, end),
+            memory,
+            &mut room[place..],
+        );
+        place = end;
+        let Next::Follow(then, from) = goes_on(answer, next) else {
+            return Ended {
+                status: status_after(answer),
+                length: place,
+                tables: t,
+            };
+        };
+        command = then;
+        at = from;
+    }
+}

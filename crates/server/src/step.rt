@@ -1,0 +1,36 @@
+// What the loop over a chain does after a command.
+
+use chain::block::Next;
+use message::answer::Answer;
+use message::refusal::Status;
+use message::refusal::status_of;
+ghost use mathlib.Core.Path.{_≡_};
+ghost use Rattle.server.specs.Step.{statusAfter, goesOn};
+
+// The status that an answer leaves in the header, if it is the last.
+pub(crate) fn status_after(a: Answer) -> Status
+    ensures { λ r. ⌜ r ≡ statusAfter a ⌝ }
+{
+    match a {
+        Answer::Refused(why) => status_of(why),
+        Answer::Locked => Status { class: 0, code: 0 },
+        Answer::LoggedOff => Status { class: 0, code: 0 },
+        Answer::Read(_, _) => Status { class: 0, code: 0 },
+        Answer::Wrote(_) => Status { class: 0, code: 0 },
+        Answer::Plain => Status { class: 0, code: 0 },
+    }
+}
+
+// What is carried out next: "Commands before it in the chain stand; those after it aren't begun."
+pub(crate) fn goes_on(a: Answer, next: Next) -> Next
+    ensures { λ r. ⌜ r ≡ goesOn a next ⌝ }
+{
+    match a {
+        Answer::Refused(_) => Next::End,
+        Answer::Locked => next,
+        Answer::LoggedOff => next,
+        Answer::Read(_, _) => next,
+        Answer::Wrote(_) => next,
+        Answer::Plain => next,
+    }
+}
