@@ -1,125 +1,101 @@
+-- `message::refusal::status_of` meets its contract: each arm is the definition's.
+-- Assumes nothing.
 use borrow.Author.Needs.{needs}
 use Rattle.message.proofs.refusal.status_of.Statement.{statement}
 use Rattle.message.proofs.refusal.status_of.Tie as tie
-use Rattle.message.proofs.refusal.status_of.Reads as reads
-use Rattle.message.proofs.refusal.status_of.Lts as lts
 use Rattle.message.specs.Refusal.{status, statusOf}
 
--- src/refusal.rt:33:31
 enum-told : tie.Need-enum-told
 enum-told c = search needs
 
--- src/refusal.rt:34:33
 enum-told-2 : tie.Need-enum-told-2
 enum-told-2 c = search needs
 
--- src/refusal.rt:35:31
 enum-told-3 : tie.Need-enum-told-3
 enum-told-3 c = search needs
 
--- src/refusal.rt:36:28
 enum-told-4 : tie.Need-enum-told-4
 enum-told-4 c = search needs
 
--- src/refusal.rt:37:28
 enum-told-5 : tie.Need-enum-told-5
 enum-told-5 c = search needs
 
--- src/refusal.rt:38:30
 enum-told-6 : tie.Need-enum-told-6
 enum-told-6 c = search needs
 
--- src/refusal.rt:39:30
 enum-told-7 : tie.Need-enum-told-7
 enum-told-7 c = search needs
 
--- src/refusal.rt:40:32
 enum-told-8 : tie.Need-enum-told-8
 enum-told-8 c = search needs
 
--- src/refusal.rt:41:31
 enum-told-9 : tie.Need-enum-told-9
 enum-told-9 c = search needs
 
--- src/refusal.rt:42:33
 enum-told-10 : tie.Need-enum-told-10
 enum-told-10 c = search needs
 
--- src/refusal.rt:43:30
 enum-told-11 : tie.Need-enum-told-11
 enum-told-11 c = search needs
 
--- src/refusal.rt:44:29
 enum-told-12 : tie.Need-enum-told-12
 enum-told-12 c = search needs
 
--- src/refusal.rt:29:1
 returns : tie.Need-returns
 unfolding statusOf status
 returns c =
     rw (c .enum-told .given .1)
 
--- src/refusal.rt:29:1
 returns-2 : tie.Need-returns-2
 unfolding statusOf status
 returns-2 c =
     rw (c .enum-told2 .given .1)
 
--- src/refusal.rt:29:1
 returns-3 : tie.Need-returns-3
 unfolding statusOf status
 returns-3 c =
     rw (c .enum-told3 .given .1)
 
--- src/refusal.rt:29:1
 returns-4 : tie.Need-returns-4
 unfolding statusOf status
 returns-4 c =
     rw (c .enum-told4 .given .1)
 
--- src/refusal.rt:29:1
 returns-5 : tie.Need-returns-5
 unfolding statusOf status
 returns-5 c =
     rw (c .enum-told5 .given .1)
 
--- src/refusal.rt:29:1
 returns-6 : tie.Need-returns-6
 unfolding statusOf status
 returns-6 c =
     rw (c .enum-told6 .given .1)
 
--- src/refusal.rt:29:1
 returns-7 : tie.Need-returns-7
 unfolding statusOf status
 returns-7 c =
     rw (c .enum-told7 .given .1)
 
--- src/refusal.rt:29:1
 returns-8 : tie.Need-returns-8
 unfolding statusOf status
 returns-8 c =
     rw (c .enum-told8 .given .1)
 
--- src/refusal.rt:29:1
 returns-9 : tie.Need-returns-9
 unfolding statusOf status
 returns-9 c =
     rw (c .enum-told9 .given .1)
 
--- src/refusal.rt:29:1
 returns-10 : tie.Need-returns-10
 unfolding statusOf status
 returns-10 c =
     rw (c .enum-told10 .given .1)
 
--- src/refusal.rt:29:1
 returns-11 : tie.Need-returns-11
 unfolding statusOf status
 returns-11 c =
     rw (c .enum-told11 .given .1)
 
--- src/refusal.rt:29:1
 returns-12 : tie.Need-returns-12
 unfolding statusOf status
 returns-12 c =
