@@ -1,5 +1,7 @@
 // A small gateway for the programs that play document 01's cases: one terminal with one open, on a file of 120 bytes.
 
+pub mod show;
+
 use host::add::add_open;
 use host::add::add_session;
 use host::add::add_tree;

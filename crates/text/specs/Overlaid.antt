@@ -112,3 +112,8 @@ written-hex-more bytes i h v w =
 pub written-hex-whole : {d : List ℕ} {at : ℕ} (bytes : List ℕ) (i : ℕ) {e : List ℕ} {to : ℕ} → length bytes ≤ i → Written d at (hexBytes (take i bytes)) e to
     → Written d at (hexBytes bytes) e to
 written-hex-whole bytes i h v = rw (take-all i bytes h) at v
+
+-- what is written from the start on ends inside
+pub written-inside : {d x e : List ℕ} {to : ℕ} → Written d 0 x e to → to ≤ length e
+unfolding past
+written-inside w = omega (arith, w .place, written-length w)

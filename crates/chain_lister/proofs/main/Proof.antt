@@ -1,20 +1,11 @@
 -- `chain_lister::main` meets its contract: the lister's next place is inside the buffer, so what is in front of it can be lent.
 -- Assumes nothing.
-use mathlib.Core.Path.{_≡_, sym}
-use Prim.Native.Nat.{ℕ, _≤_}
-use mathlib.Core.List.{List}
-use native.Mathlib.Omega.{arith}
-use lib.ListN.{length}
+use mathlib.Core.Path.{sym}
 use lib.Seq.{length-take-le}
 use borrow.Author.Needs.{needs}
-use Rattle.text.specs.Over.{past, Written}
+use Rattle.text.specs.Overlaid.{written-inside}
 use Rattle.chain_lister.proofs.main.Statement.{statement}
 use Rattle.chain_lister.proofs.main.Tie as tie
-
--- a text that is written from the buffer's start on ends inside it
-inside : {d x e : List ℕ} {to : ℕ} → Written d 0 x e to → length e ≡ length d → to ≤ length e
-unfolding past
-inside w long = omega (arith, w .place)
 
 slice-aggregate-read-full : tie.Need-slice-aggregate-read-full
 slice-aggregate-read-full c = search needs
@@ -35,12 +26,11 @@ list-message-requires : tie.Need-list-message-requires
 list-message-requires c κs = search needs
 
 array-share-prefix-text : tie.Need-array-share-prefix-text
-array-share-prefix-text c = inside (c .before .list-message .ensures) (c .before .list-message .kept .1 .0)
+array-share-prefix-text c = written-inside (c .before .list-message .ensures)
 
 slice-aggregate-write-all : tie.Need-slice-aggregate-write-all
 slice-aggregate-write-all c =
-    let few : c .before .before .list-message .result ≤ length (c .before .before .list-message .last .1 .0) = inside (c .before .before .list-message .ensures) (c .before .before .list-message .kept .1 .0) in
-    sym (length-take-le (c .before .before .list-message .result) (c .before .before .list-message .last .1 .0) few)
+    sym (length-take-le (c .before .before .list-message .result) (c .before .before .list-message .last .1 .0) (written-inside (c .before .before .list-message .ensures)))
 
 write-all-requires : tie.Need-write-all-requires
 write-all-requires c κs = search needs
