@@ -1,0 +1,48 @@
+-- `gateway::gateway_add_open` meets its contract: the words do not fit, the core refuses, or the core is done. Assumes nothing.
+use borrow.Author.Needs.{needs}
+use Rattle.gateway.proofs.gateway_add_open.Statement.{statement}
+use Rattle.gateway.proofs.gateway_add_open.Tie as tie
+use mathlib.Core.Path.{sym, ap, _∙_}
+use borrow.Author.Tests.{not-true, not-false}
+use Rattle.records.specs.declared.Tables.{Tables}
+use Rattle.host.specs.HostCall.{addOpen}
+use Rattle.gateway.specs.Boundary.{openAdded}
+use Rattle.gateway.specs.BoundaryLaws.{unfit, refused-leaves, done-leaves}
+
+words-fit-requires : tie.Need-words-fit-requires
+words-fit-requires c κs = search needs
+
+returns : tie.Need-returns
+returns c =
+    let k = unfit (c .before .before .before .before .args .tables .now) (c .before .before .before .before .args .fid .now) (openAdded (c .before .before .before .before .args .tables .now) (c .before .before .before .before .args .uid) (c .before .before .before .before .args .tid) (c .before .before .before .before .args .process) (c .before .before .before .before .args .file) (c .before .before .before .before .args .access)) (sym (c .before .words-fit .ensures) ∙ not-true (c .before .words-fit .result) (c .if1 .taken)) in (k .number, (k .words, k .given))
+
+unpack-requires : tie.Need-unpack-requires
+unpack-requires c κs = search needs
+
+add-open-requires : tie.Need-add-open-requires
+add-open-requires c κs = search needs
+
+returns-2 : tie.Need-returns-2
+unfolding openAdded
+returns-2 c =
+    let k = refused-leaves (c .before .before .before .before .before .before .before .before .before .args .tables .now) (c .before .before .before .before .before .before .before .before .before .args .fid .now) (openAdded (c .before .before .before .before .before .before .before .before .before .args .tables .now) (c .before .before .before .before .before .before .before .before .before .args .uid) (c .before .before .before .before .before .before .before .before .before .args .tid) (c .before .before .before .before .before .before .before .before .before .args .process) (c .before .before .before .before .before .before .before .before .before .args .file) (c .before .before .before .before .before .before .before .before .before .args .access)) (c .before .add-open .result) (c .before .add-open .ensures ∙ ap (λ (t : Tables). addOpen t (c .before .before .before .before .before .before .before .before .before .args .uid) (c .before .before .before .before .before .before .before .before .before .args .tid) (c .before .before .before .before .before .before .before .before .before .args .process) (c .before .before .before .before .before .before .before .before .before .args .file) (c .before .before .before .before .before .before .before .before .before .args .access)) (c .before .before .unpack .ensures)) (sym (c .before .before .before .before .before .before .words-fit .ensures) ∙ not-false (c .before .before .before .before .before .before .words-fit .result) (c .before .before .before .before .before .if1 .left)) (c .if2 .taken) in (k .number, (k .words, k .given))
+
+pack-requires : tie.Need-pack-requires
+pack-requires c κs = search needs
+
+returns-3 : tie.Need-returns-3
+unfolding openAdded
+returns-3 c =
+    let k = done-leaves (c .before .before .before .before .before .before .before .before .before .before .before .before .args .tables .now) (c .before .before .before .before .before .before .before .before .before .before .before .before .args .fid .now) (openAdded (c .before .before .before .before .before .before .before .before .before .before .before .before .args .tables .now) (c .before .before .before .before .before .before .before .before .before .before .before .before .args .uid) (c .before .before .before .before .before .before .before .before .before .before .before .before .args .tid) (c .before .before .before .before .before .before .before .before .before .before .before .before .args .process) (c .before .before .before .before .before .before .before .before .before .before .before .before .args .file) (c .before .before .before .before .before .before .before .before .before .before .before .before .args .access)) (c .before .before .before .before .add-open .result) (c .before .before .before .before .add-open .ensures ∙ ap (λ (t : Tables). addOpen t (c .before .before .before .before .before .before .before .before .before .before .before .before .args .uid) (c .before .before .before .before .before .before .before .before .before .before .before .before .args .tid) (c .before .before .before .before .before .before .before .before .before .before .before .before .args .process) (c .before .before .before .before .before .before .before .before .before .before .before .before .args .file) (c .before .before .before .before .before .before .before .before .before .before .before .before .args .access)) (c .before .before .before .before .before .unpack .ensures)) (sym (c .before .before .before .before .before .before .before .before .before .words-fit .ensures) ∙ not-false (c .before .before .before .before .before .before .before .before .before .words-fit .result) (c .before .before .before .before .before .before .before .before .if1 .left)) (c .before .before .before .if2 .left) in (k .number, (c .pack .ensures ∙ k .words, k .given))
+
+pub gateway-add-open-spec : {M : Type 1} → statement M
+gateway-add-open-spec =
+    tie.close
+    (tie.spec
+    words-fit-requires
+    returns
+    unpack-requires
+    add-open-requires
+    returns-2
+    pack-requires
+    returns-3)

@@ -1,0 +1,48 @@
+-- `gateway::gateway_add_session` meets its contract: the words do not fit, the core refuses, or the core is done. Assumes nothing.
+use borrow.Author.Needs.{needs}
+use Rattle.gateway.proofs.gateway_add_session.Statement.{statement}
+use Rattle.gateway.proofs.gateway_add_session.Tie as tie
+use mathlib.Core.Path.{sym, ap, _∙_}
+use borrow.Author.Tests.{not-true, not-false}
+use Rattle.records.specs.declared.Tables.{Tables}
+use Rattle.host.specs.HostCall.{addSession}
+use Rattle.gateway.specs.Boundary.{sessionAdded}
+use Rattle.gateway.specs.BoundaryLaws.{unfit, refused-leaves, done-leaves}
+
+words-fit-requires : tie.Need-words-fit-requires
+words-fit-requires c κs = search needs
+
+returns : tie.Need-returns
+returns c =
+    let k = unfit (c .before .before .before .before .args .tables .now) (c .before .before .before .before .args .uid .now) (sessionAdded (c .before .before .before .before .args .tables .now) (c .before .before .before .before .args .connection)) (sym (c .before .words-fit .ensures) ∙ not-true (c .before .words-fit .result) (c .if1 .taken)) in (k .number, (k .words, k .given))
+
+unpack-requires : tie.Need-unpack-requires
+unpack-requires c κs = search needs
+
+add-session-requires : tie.Need-add-session-requires
+add-session-requires c κs = search needs
+
+returns-2 : tie.Need-returns-2
+unfolding sessionAdded
+returns-2 c =
+    let k = refused-leaves (c .before .before .before .before .before .before .before .before .before .args .tables .now) (c .before .before .before .before .before .before .before .before .before .args .uid .now) (sessionAdded (c .before .before .before .before .before .before .before .before .before .args .tables .now) (c .before .before .before .before .before .before .before .before .before .args .connection)) (c .before .add-session .result) (c .before .add-session .ensures ∙ ap (λ (t : Tables). addSession t (c .before .before .before .before .before .before .before .before .before .args .connection)) (c .before .before .unpack .ensures)) (sym (c .before .before .before .before .before .before .words-fit .ensures) ∙ not-false (c .before .before .before .before .before .before .words-fit .result) (c .before .before .before .before .before .if1 .left)) (c .if2 .taken) in (k .number, (k .words, k .given))
+
+pack-requires : tie.Need-pack-requires
+pack-requires c κs = search needs
+
+returns-3 : tie.Need-returns-3
+unfolding sessionAdded
+returns-3 c =
+    let k = done-leaves (c .before .before .before .before .before .before .before .before .before .before .before .before .args .tables .now) (c .before .before .before .before .before .before .before .before .before .before .before .before .args .uid .now) (sessionAdded (c .before .before .before .before .before .before .before .before .before .before .before .before .args .tables .now) (c .before .before .before .before .before .before .before .before .before .before .before .before .args .connection)) (c .before .before .before .before .add-session .result) (c .before .before .before .before .add-session .ensures ∙ ap (λ (t : Tables). addSession t (c .before .before .before .before .before .before .before .before .before .before .before .before .args .connection)) (c .before .before .before .before .before .unpack .ensures)) (sym (c .before .before .before .before .before .before .before .before .before .words-fit .ensures) ∙ not-false (c .before .before .before .before .before .before .before .before .before .words-fit .result) (c .before .before .before .before .before .before .before .before .if1 .left)) (c .before .before .before .if2 .left) in (k .number, (c .pack .ensures ∙ k .words, k .given))
+
+pub gateway-add-session-spec : {M : Type 1} → statement M
+gateway-add-session-spec =
+    tie.close
+    (tie.spec
+    words-fit-requires
+    returns
+    unpack-requires
+    add-session-requires
+    returns-2
+    pack-requires
+    returns-3)

@@ -1,0 +1,48 @@
+-- `gateway::gateway_drop_connection` meets its contract: the words do not fit, the core refuses, or the core is done. Assumes nothing.
+use borrow.Author.Needs.{needs}
+use Rattle.gateway.proofs.gateway_drop_connection.Statement.{statement}
+use Rattle.gateway.proofs.gateway_drop_connection.Tie as tie
+use mathlib.Core.Path.{sym, ap, _∙_}
+use borrow.Author.Tests.{not-true, not-false}
+use Rattle.records.specs.declared.Tables.{Tables}
+use Rattle.host.specs.HostCall.{dropConnection}
+use Rattle.gateway.specs.Boundary.{connectionDropped}
+use Rattle.gateway.specs.BoundaryLaws.{unfit, refused-leaves, done-leaves}
+
+words-fit-requires : tie.Need-words-fit-requires
+words-fit-requires c κs = search needs
+
+returns : tie.Need-returns
+returns c =
+    let k = unfit (c .before .before .before .before .args .tables .now) 0 (connectionDropped (c .before .before .before .before .args .tables .now) (c .before .before .before .before .args .connection)) (sym (c .before .words-fit .ensures) ∙ not-true (c .before .words-fit .result) (c .if1 .taken)) in (k .number, k .words)
+
+unpack-requires : tie.Need-unpack-requires
+unpack-requires c κs = search needs
+
+drop-connection-requires : tie.Need-drop-connection-requires
+drop-connection-requires c κs = search needs
+
+returns-2 : tie.Need-returns-2
+unfolding connectionDropped
+returns-2 c =
+    let k = refused-leaves (c .before .before .before .before .before .before .before .before .before .args .tables .now) 0 (connectionDropped (c .before .before .before .before .before .before .before .before .before .args .tables .now) (c .before .before .before .before .before .before .before .before .before .args .connection)) (c .before .drop-connection .result) (c .before .drop-connection .ensures ∙ ap (λ (t : Tables). dropConnection t (c .before .before .before .before .before .before .before .before .before .args .connection)) (c .before .before .unpack .ensures)) (sym (c .before .before .before .before .before .before .words-fit .ensures) ∙ not-false (c .before .before .before .before .before .before .words-fit .result) (c .before .before .before .before .before .if1 .left)) (c .if2 .taken) in (k .number, k .words)
+
+pack-requires : tie.Need-pack-requires
+pack-requires c κs = search needs
+
+returns-3 : tie.Need-returns-3
+unfolding connectionDropped
+returns-3 c =
+    let k = done-leaves (c .before .before .before .before .before .before .before .before .before .before .before .before .args .tables .now) 0 (connectionDropped (c .before .before .before .before .before .before .before .before .before .before .before .before .args .tables .now) (c .before .before .before .before .before .before .before .before .before .before .before .before .args .connection)) (c .before .before .before .before .drop-connection .result) (c .before .before .before .before .drop-connection .ensures ∙ ap (λ (t : Tables). dropConnection t (c .before .before .before .before .before .before .before .before .before .before .before .before .args .connection)) (c .before .before .before .before .before .unpack .ensures)) (sym (c .before .before .before .before .before .before .before .before .before .words-fit .ensures) ∙ not-false (c .before .before .before .before .before .before .before .before .before .words-fit .result) (c .before .before .before .before .before .before .before .before .if1 .left)) (c .before .before .before .if2 .left) in (k .number, c .pack .ensures ∙ k .words)
+
+pub gateway-drop-connection-spec : {M : Type 1} → statement M
+gateway-drop-connection-spec =
+    tie.close
+    (tie.spec
+    words-fit-requires
+    returns
+    unpack-requires
+    drop-connection-requires
+    returns-2
+    pack-requires
+    returns-3)

@@ -1,0 +1,19 @@
+-- `gateway::gateway_empty` meets its contract: the words written are those of empty tables. Assumes nothing.
+use borrow.Author.Needs.{needs}
+use Rattle.gateway.proofs.gateway_empty.Statement.{statement}
+use Rattle.gateway.proofs.gateway_empty.Tie as tie
+use mathlib.Core.Path.{ap, _∙_}
+use Rattle.words.specs.Words.{packed}
+
+empty-tables-requires : tie.Need-empty-tables-requires
+empty-tables-requires c κs = search needs
+
+pack-requires : tie.Need-pack-requires
+pack-requires c κs = search needs
+
+returns : tie.Need-returns
+returns c =
+    c .pack .ensures ∙ ap packed (c .before .before .empty-tables .ensures)
+
+pub gateway-empty-spec : {M : Type 1} → statement M
+gateway-empty-spec = tie.close (tie.spec empty-tables-requires pack-requires returns)

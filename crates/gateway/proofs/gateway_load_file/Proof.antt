@@ -1,0 +1,61 @@
+-- `gateway::gateway_load_file` meets its contract: the file memory is of another length, the words do not fit, the core refuses, or the core is done. Assumes nothing.
+use borrow.Author.Needs.{needs}
+use Rattle.gateway.proofs.gateway_load_file.Statement.{statement}
+use Rattle.gateway.proofs.gateway_load_file.Tie as tie
+use mathlib.Core.Path.{sym, ap, _∙_}
+use borrow.Author.Tests.{not-true, not-false}
+use Rattle.records.specs.declared.Tables.{Tables}
+use Rattle.host.specs.HostCall.{loadFile, loadMemory}
+use Rattle.gateway.specs.Boundary.{fileLoaded}
+use Rattle.gateway.specs.BoundaryLaws.{unfit, refused-leaves, done-leaves, wrong-number, wrong-words, wrong-memory, right-number, unfit-memory, fit-memory}
+
+returns : tie.Need-returns
+returns c =
+    (wrong-number (c .before .before .before .args .tables .now) (c .before .before .before .args .file) (c .before .before .before .args .contents .now) (c .before .before .before .args .memory .now) (c .if1 .taken), (wrong-words (c .before .before .before .args .tables .now) (c .before .before .before .args .file) (c .before .before .before .args .contents .now) (c .before .before .before .args .memory .now) (c .if1 .taken), wrong-memory (c .before .before .before .args .tables .now) (c .before .before .before .args .file) (c .before .before .before .args .contents .now) (c .before .before .before .args .memory .now) (c .if1 .taken)))
+
+words-fit-requires : tie.Need-words-fit-requires
+words-fit-requires c κs = search needs
+
+returns-2 : tie.Need-returns-2
+returns-2 c =
+    let k = unfit (c .before .before .before .before .before .before .before .args .tables .now) 0 (fileLoaded (c .before .before .before .before .before .before .before .args .tables .now) (c .before .before .before .before .before .before .before .args .file) (c .before .before .before .before .before .before .before .args .contents .now) (c .before .before .before .before .before .before .before .args .memory .now)) (sym (c .before .words-fit .ensures) ∙ not-true (c .before .words-fit .result) (c .if2 .taken)) in (right-number (c .before .before .before .before .before .before .before .args .tables .now) (c .before .before .before .before .before .before .before .args .file) (c .before .before .before .before .before .before .before .args .contents .now) (c .before .before .before .before .before .before .before .args .memory .now) 4 (c .before .before .before .before .if1 .left) (k .number), (k .words, unfit-memory (c .before .before .before .before .before .before .before .args .tables .now) (c .before .before .before .before .before .before .before .args .file) (c .before .before .before .before .before .before .before .args .contents .now) (c .before .before .before .before .before .before .before .args .memory .now) (sym (c .before .words-fit .ensures) ∙ not-true (c .before .words-fit .result) (c .if2 .taken))))
+
+unpack-requires : tie.Need-unpack-requires
+unpack-requires c κs = search needs
+
+load-file-requires : tie.Need-load-file-requires
+load-file-requires c κs = search needs
+
+same-length : tie.Need-same-length
+same-length c = search needs
+
+returns-3 : tie.Need-returns-3
+unfolding fileLoaded
+returns-3 c =
+    let k = refused-leaves (c .before .before .before .before .before .before .before .before .before .before .before .before .before .before .before .args .tables .now) 0 (fileLoaded (c .before .before .before .before .before .before .before .before .before .before .before .before .before .before .before .args .tables .now) (c .before .before .before .before .before .before .before .before .before .before .before .before .before .before .before .args .file) (c .before .before .before .before .before .before .before .before .before .before .before .before .before .before .before .args .contents .now) (c .before .before .before .before .before .before .before .before .before .before .before .before .before .before .before .args .memory .now)) (c .before .before .before .load-file .result) (c .before .before .before .load-file .ensures .0 ∙ ap (λ (t : Tables). loadFile t (c .before .before .before .before .before .before .before .before .before .before .before .before .before .before .before .args .file) (c .before .before .before .before .before .before .before .before .before .before .before .before .before .before .before .args .contents .now) (c .before .before .before .before .before .before .before .before .before .before .before .before .before .before .before .args .memory .now)) (c .before .before .before .before .before .unpack .ensures)) (sym (c .before .before .before .before .before .before .before .before .before .words-fit .ensures) ∙ not-false (c .before .before .before .before .before .before .before .before .before .words-fit .result) (c .before .before .before .before .before .before .before .before .if2 .left)) (c .if3 .taken) in (right-number (c .before .before .before .before .before .before .before .before .before .before .before .before .before .before .before .args .tables .now) (c .before .before .before .before .before .before .before .before .before .before .before .before .before .before .before .args .file) (c .before .before .before .before .before .before .before .before .before .before .before .before .before .before .before .args .contents .now) (c .before .before .before .before .before .before .before .before .before .before .before .before .before .before .before .args .memory .now) (c .before .before .before .load-file .result .number) (c .before .before .before .before .before .before .before .before .before .before .before .before .if1 .left) (k .number), (k .words, c .before .before .before .load-file .ensures .1 ∙ ap (λ (t : Tables). loadMemory t (c .before .before .before .before .before .before .before .before .before .before .before .before .before .before .before .args .file) (c .before .before .before .before .before .before .before .before .before .before .before .before .before .before .before .args .contents .now) (c .before .before .before .before .before .before .before .before .before .before .before .before .before .before .before .args .memory .now)) (c .before .before .before .before .before .unpack .ensures) ∙ fit-memory (c .before .before .before .before .before .before .before .before .before .before .before .before .before .before .before .args .tables .now) (c .before .before .before .before .before .before .before .before .before .before .before .before .before .before .before .args .file) (c .before .before .before .before .before .before .before .before .before .before .before .before .before .before .before .args .contents .now) (c .before .before .before .before .before .before .before .before .before .before .before .before .before .before .before .args .memory .now) (sym (c .before .before .before .before .before .before .before .before .before .words-fit .ensures) ∙ not-false (c .before .before .before .before .before .before .before .before .before .words-fit .result) (c .before .before .before .before .before .before .before .before .if2 .left))))
+
+pack-requires : tie.Need-pack-requires
+pack-requires c κs = search needs
+
+same-length-2 : tie.Need-same-length-2
+same-length-2 c = search needs
+
+returns-4 : tie.Need-returns-4
+unfolding fileLoaded
+returns-4 c =
+    let k = done-leaves (c .before .before .before .before .before .before .before .before .before .before .before .before .before .before .before .before .before .before .args .tables .now) 0 (fileLoaded (c .before .before .before .before .before .before .before .before .before .before .before .before .before .before .before .before .before .before .args .tables .now) (c .before .before .before .before .before .before .before .before .before .before .before .before .before .before .before .before .before .before .args .file) (c .before .before .before .before .before .before .before .before .before .before .before .before .before .before .before .before .before .before .args .contents .now) (c .before .before .before .before .before .before .before .before .before .before .before .before .before .before .before .before .before .before .args .memory .now)) (c .before .before .before .before .before .before .load-file .result) (c .before .before .before .before .before .before .load-file .ensures .0 ∙ ap (λ (t : Tables). loadFile t (c .before .before .before .before .before .before .before .before .before .before .before .before .before .before .before .before .before .before .args .file) (c .before .before .before .before .before .before .before .before .before .before .before .before .before .before .before .before .before .before .args .contents .now) (c .before .before .before .before .before .before .before .before .before .before .before .before .before .before .before .before .before .before .args .memory .now)) (c .before .before .before .before .before .before .before .before .unpack .ensures)) (sym (c .before .before .before .before .before .before .before .before .before .before .before .before .words-fit .ensures) ∙ not-false (c .before .before .before .before .before .before .before .before .before .before .before .before .words-fit .result) (c .before .before .before .before .before .before .before .before .before .before .before .if2 .left)) (c .before .before .before .if3 .left) in (right-number (c .before .before .before .before .before .before .before .before .before .before .before .before .before .before .before .before .before .before .args .tables .now) (c .before .before .before .before .before .before .before .before .before .before .before .before .before .before .before .before .before .before .args .file) (c .before .before .before .before .before .before .before .before .before .before .before .before .before .before .before .before .before .before .args .contents .now) (c .before .before .before .before .before .before .before .before .before .before .before .before .before .before .before .before .before .before .args .memory .now) 0 (c .before .before .before .before .before .before .before .before .before .before .before .before .before .before .before .if1 .left) (k .number), (c .pack .ensures ∙ k .words, c .before .before .before .before .before .before .load-file .ensures .1 ∙ ap (λ (t : Tables). loadMemory t (c .before .before .before .before .before .before .before .before .before .before .before .before .before .before .before .before .before .before .args .file) (c .before .before .before .before .before .before .before .before .before .before .before .before .before .before .before .before .before .before .args .contents .now) (c .before .before .before .before .before .before .before .before .before .before .before .before .before .before .before .before .before .before .args .memory .now)) (c .before .before .before .before .before .before .before .before .unpack .ensures) ∙ fit-memory (c .before .before .before .before .before .before .before .before .before .before .before .before .before .before .before .before .before .before .args .tables .now) (c .before .before .before .before .before .before .before .before .before .before .before .before .before .before .before .before .before .before .args .file) (c .before .before .before .before .before .before .before .before .before .before .before .before .before .before .before .before .before .before .args .contents .now) (c .before .before .before .before .before .before .before .before .before .before .before .before .before .before .before .before .before .before .args .memory .now) (sym (c .before .before .before .before .before .before .before .before .before .before .before .before .words-fit .ensures) ∙ not-false (c .before .before .before .before .before .before .before .before .before .before .before .before .words-fit .result) (c .before .before .before .before .before .before .before .before .before .before .before .if2 .left))))
+
+pub gateway-load-file-spec : {M : Type 1} → statement M
+gateway-load-file-spec =
+    tie.close
+    (tie.spec
+    returns
+    words-fit-requires
+    returns-2
+    unpack-requires
+    load-file-requires
+    same-length
+    returns-3
+    pack-requires
+    same-length-2
+    returns-4)

@@ -1,0 +1,112 @@
+-- `words::pack::pack` meets its contract: the five parts stand end to end and fill the words. Assumes nothing.
+use borrow.Author.Needs.{needs}
+use Rattle.words.proofs.pack.pack.Statement.{statement}
+use Rattle.words.proofs.pack.pack.Tie as tie
+use mathlib.Core.Path.{_≡_}
+use lib.ListN.{length}
+use Rattle.lists.specs.Mapped.{length-mapped}
+use Rattle.words.specs.Back.{Roomy}
+use Rattle.words.specs.Parts.{all-parts}
+
+roomy : (c : tie.Start) → Roomy (c .args .t)
+roomy c =
+    let a : length (c .args .t .sessions) ≡ 16 = search length-mapped in
+    let b : length (c .args .t .trees) ≡ 32 = search length-mapped in
+    let o : length (c .args .t .opens) ≡ 64 = search length-mapped in
+    let l : length (c .args .t .locks) ≡ 128 = search length-mapped in
+    let f : length (c .args .t .files) ≡ 16 = search length-mapped in
+    record { sessions-room = a; trees-room = b; opens-room = o; locks-room = l; files-room = f }
+
+sub-pack-sessions : tie.Need-sub-pack-sessions
+sub-pack-sessions c = search needs
+
+part-pack-sessions-start : tie.Need-part-pack-sessions-start
+part-pack-sessions-start c = search needs
+
+part-pack-sessions-end : tie.Need-part-pack-sessions-end
+part-pack-sessions-end c = search needs
+
+pack-sessions-requires : tie.Need-pack-sessions-requires
+pack-sessions-requires c κs = search needs
+
+sub-pack-trees : tie.Need-sub-pack-trees
+sub-pack-trees c = search needs
+
+part-pack-trees-start : tie.Need-part-pack-trees-start
+part-pack-trees-start c = search needs
+
+part-pack-trees-end : tie.Need-part-pack-trees-end
+part-pack-trees-end c = search needs
+
+pack-trees-requires : tie.Need-pack-trees-requires
+pack-trees-requires c κs = search needs
+
+sub-pack-opens : tie.Need-sub-pack-opens
+sub-pack-opens c = search needs
+
+part-pack-opens-start : tie.Need-part-pack-opens-start
+part-pack-opens-start c = search needs
+
+part-pack-opens-end : tie.Need-part-pack-opens-end
+part-pack-opens-end c = search needs
+
+pack-opens-requires : tie.Need-pack-opens-requires
+pack-opens-requires c κs = search needs
+
+sub-pack-locks : tie.Need-sub-pack-locks
+sub-pack-locks c = search needs
+
+part-pack-locks-start : tie.Need-part-pack-locks-start
+part-pack-locks-start c = search needs
+
+part-pack-locks-end : tie.Need-part-pack-locks-end
+part-pack-locks-end c = search needs
+
+pack-locks-requires : tie.Need-pack-locks-requires
+pack-locks-requires c κs = search needs
+
+sub-pack-files : tie.Need-sub-pack-files
+sub-pack-files c = search needs
+
+part-pack-files-start : tie.Need-part-pack-files-start
+part-pack-files-start c = search needs
+
+part-pack-files-end : tie.Need-part-pack-files-end
+part-pack-files-end c = search needs
+
+pack-files-requires : tie.Need-pack-files-requires
+pack-files-requires c κs = search needs
+
+same-length : tie.Need-same-length
+same-length c = search needs
+
+returns : tie.Need-returns
+returns c =
+    all-parts (c .before .before .before .before .before .before .before .before .before .before .before .before .before .before .before .before .before .before .before .before .before .before .before .before .before .before .args .t) (roomy (c .before .before .before .before .before .before .before .before .before .before .before .before .before .before .before .before .before .before .before .before .before .before .before .before .before .before)) (c .before .before .before .before .before .before .before .before .before .before .before .before .before .before .before .before .before .before .before .before .before .before .before .before .before .before .args .out .now) _ _ _ _ _ (c .before .before .before .before .before .before .before .before .before .before .before .before .before .before .before .before .before .before .before .before .before .before .before .before .before .before .pre) (c .before .before .before .before .before .before .before .before .before .before .before .before .before .before .before .before .before .before .before .before .before .before .pack-sessions .ensures) (c .before .before .before .before .before .before .before .before .before .before .before .before .before .before .before .before .before .pack-trees .ensures) (c .before .before .before .before .before .before .before .before .before .before .before .before .pack-opens .ensures) (c .before .before .before .before .before .before .before .pack-locks .ensures) (c .before .before .pack-files .ensures)
+
+pub pack-spec : {M : Type 1} → statement M
+pack-spec =
+    tie.close
+    (tie.spec
+    sub-pack-sessions
+    part-pack-sessions-start
+    part-pack-sessions-end
+    pack-sessions-requires
+    sub-pack-trees
+    part-pack-trees-start
+    part-pack-trees-end
+    pack-trees-requires
+    sub-pack-opens
+    part-pack-opens-start
+    part-pack-opens-end
+    pack-opens-requires
+    sub-pack-locks
+    part-pack-locks-start
+    part-pack-locks-end
+    pack-locks-requires
+    sub-pack-files
+    part-pack-files-start
+    part-pack-files-end
+    pack-files-requires
+    same-length
+    returns)

@@ -1,0 +1,66 @@
+-- `words::unpack::unpack_locks` meets its contract: after i turns the first i places hold the first i records. Assumes nothing.
+use Rattle.words.proofs.unpack.unpack_locks.Statement.{statement}
+use Rattle.words.proofs.unpack.unpack_locks.Tie as tie
+use borrow.Author.Needs.{needs}
+use native.Mathlib.Omega.{arith}
+use mathlib.Core.Path.{_≡_, refl}
+use Prim.Native.Nat.{_-_, _≤_}
+use lib.ListN.{length}
+use Rattle.words.specs.Words.{lockIn}
+use Rattle.words.specs.Turns.{filled, filled-none, filled-more, filled-all}
+
+abbrev Inv-loop : tie.InvT-loop
+Inv-loop words list₀ i₀ list i = (i ≤ 128) × ((length list₀ ≡ 128) × (list ≡ filled (lockIn words) list₀ i))
+
+abbrev μ-loop : tie.MeasureT-loop
+μ-loop words list₀ i₀ list i = 128 - i
+
+loop-holds : tie.Need-loop-holds Inv-loop μ-loop
+loop-holds c =
+    (omega arith, (refl, filled-none (lockIn (c .before .args .words .now)) _))
+
+mul-lock-at : tie.Need-mul-lock-at Inv-loop μ-loop
+mul-lock-at c = omega arith
+
+add-lock-at : tie.Need-add-lock-at Inv-loop μ-loop
+add-lock-at c = omega arith
+
+lock-at-requires : tie.Need-lock-at-requires Inv-loop μ-loop
+lock-at-requires c κs = search needs
+
+mul-list : tie.Need-mul-list Inv-loop μ-loop
+mul-list c = omega arith
+
+array-set-from-list : tie.Need-array-set-from-list Inv-loop μ-loop
+array-set-from-list c = omega arith
+
+add-i : tie.Need-add-i Inv-loop μ-loop
+add-i c = omega arith
+
+loop-less : tie.Need-loop-less Inv-loop μ-loop
+loop-less c = omega arith
+
+loop-again : tie.Need-loop-again Inv-loop μ-loop
+loop-again c =
+    (omega arith, (c .before .before .loop .inv .1 .0, filled-more (lockIn (c .before .before .before .before .args .words .now)) _ (c .before .before .loop .list) 128 (c .before .before .loop .i) (c .lock-at .result) (c .before .loop-test .taken) (c .before .before .loop .inv .1 .0) (c .before .before .loop .inv .1 .1) (c .lock-at .ensures)))
+
+returns : tie.Need-returns Inv-loop μ-loop
+returns c =
+    filled-all (lockIn (c .before .before .before .args .words .now)) _ (c .before .loop .list) 128 (c .before .loop .i) (c .before .loop .inv .0) (c .loop-test .left) (c .before .loop .inv .1 .0) (c .before .loop .inv .1 .1)
+
+pub unpack-locks-spec : {M : Type 1} → statement M
+unpack-locks-spec =
+    tie.close
+    (tie.spec
+    Inv-loop
+    μ-loop
+    loop-holds
+    mul-lock-at
+    add-lock-at
+    lock-at-requires
+    mul-list
+    array-set-from-list
+    add-i
+    loop-less
+    loop-again
+    returns)

@@ -1,0 +1,141 @@
+/*
+ * The SMB1 message core as a C library (libgateway.a).
+ *
+ * The host owns all memory. The tables are one struct of 64-bit words that the host keeps between calls and
+ * hands to each of them; the library keeps nothing. Start with gateway_empty. Calls on the same tables must not
+ * run at the same time.
+ *
+ * No pointer may be NULL, not even one whose length is 0, and no two areas handed to one call may overlap: the tables,
+ * an out-parameter, the contents or the message, the file memory, the reply room.
+ *
+ * Every call but gateway_empty returns one of the numbers below. A call that returns anything but GATEWAY_DONE has
+ * written nothing at all: no table, no file byte, no reply byte, no out-parameter.
+ */
+#ifndef GATEWAY_H
+#define GATEWAY_H
+
+#include <stddef.h>
+#include <stdint.h>
+
+#ifdef __cplusplus
+extern "C" {
+#endif
+
+/* What a call returns. Where more than one applies, the order is 2, 4, 7, 6, 8, 9, 5, 1. */
+#define GATEWAY_DONE 0          /* done; a message's reply is in the room, an add's number in its out-parameter */
+#define GATEWAY_DROPPED 1       /* message dropped: it is under 35 or over 8,192 bytes, or no SMB1 request */
+#define GATEWAY_WRONG_ROOM 2    /* reply room under GATEWAY_ROOM bytes, or file memory not GATEWAY_MEMORY bytes */
+#define GATEWAY_NOT_SOUND 4     /* tables not sound, or a word that does not fit its field */
+#define GATEWAY_FULL 5          /* table full */
+#define GATEWAY_NO_SUCH 6       /* no such session, or no such tree of that session */
+#define GATEWAY_OUT_OF_RANGE 7  /* file above 15, access above 2, right above 1, or load over 4,096 bytes */
+#define GATEWAY_EXCEEDS_RIGHT 8 /* the open would exceed its tree's right */
+#define GATEWAY_FILE_OPEN 9     /* load of a file that has an open */
+
+/* How many records each table has room for. */
+#define GATEWAY_SESSIONS 16
+#define GATEWAY_TREES 32
+#define GATEWAY_OPENS 64
+#define GATEWAY_LOCKS 128
+#define GATEWAY_FILES 16
+
+#define GATEWAY_FILE_SIZE 4096  /* bytes of file memory that each file has */
+#define GATEWAY_MEMORY 65536    /* bytes of file memory: file n stands at n * GATEWAY_FILE_SIZE */
+#define GATEWAY_ROOM 12292      /* bytes of reply room that a message needs at least */
+#define GATEWAY_WORDS 1172      /* 64-bit words in the tables */
+
+/*
+ * The records. Each field is a 64-bit word, whatever its values: a comment gives the largest value that fits. A call
+ * on tables with a word that does not fit, in a record in use or not, returns GATEWAY_NOT_SOUND.
+ */
+struct gateway_session {
+    uint64_t uid;        /* 1 to 16; fits up to 65,535 */
+    uint64_t connection; /* the host's number for a connection; fits up to 4,294,967,295 */
+};
+
+struct gateway_tree {
+    uint64_t tid;   /* 1 to 32; fits up to 65,535 */
+    uint64_t uid;   /* its session's; fits up to 65,535 */
+    uint64_t right; /* 0 read, 1 read and write; fits up to 255 */
+};
+
+struct gateway_open {
+    uint64_t fid;     /* 1 to 64; fits up to 65,535 */
+    uint64_t uid;     /* its tree's session's; fits up to 65,535 */
+    uint64_t tid;     /* its tree's; fits up to 65,535 */
+    uint64_t process; /* the client's process; fits up to 4,294,967,295 */
+    uint64_t file;    /* 0 to 15; fits up to 255 */
+    uint64_t access;  /* 0 read, 1 write, 2 both; fits up to 255 */
+};
+
+struct gateway_lock {
+    uint64_t fid;     /* its open's; fits up to 65,535 */
+    uint64_t process; /* the owner's process; fits up to 4,294,967,295 */
+    uint64_t offset;  /* the first byte locked */
+    uint64_t length;  /* how many bytes */
+    uint64_t shared;  /* 1 shared, 0 exclusive; nothing else fits */
+};
+
+struct gateway_file {
+    uint64_t size; /* how many of the file's bytes in the file memory count, up to 4,096 */
+};
+
+/* The tables. In each the records in use stand first, as many as the count says; locks in order of grant. */
+struct gateway_tables {
+    uint64_t session_count;
+    struct gateway_session sessions[GATEWAY_SESSIONS];
+    uint64_t tree_count;
+    struct gateway_tree trees[GATEWAY_TREES];
+    uint64_t open_count;
+    struct gateway_open opens[GATEWAY_OPENS];
+    uint64_t lock_count;
+    struct gateway_lock locks[GATEWAY_LOCKS];
+    struct gateway_file files[GATEWAY_FILES];
+};
+
+#ifdef __cplusplus
+static_assert(sizeof(struct gateway_tables) == GATEWAY_WORDS * sizeof(uint64_t), "the tables are 1172 words");
+#else
+_Static_assert(sizeof(struct gateway_tables) == GATEWAY_WORDS * sizeof(uint64_t), "the tables are 1172 words");
+#endif
+
+/* Writes tables with no record in use and every file empty. */
+void gateway_empty(struct gateway_tables *tables);
+
+/* Adds a session on a connection. On GATEWAY_DONE its UID, the smallest from 1 not in use, is in *uid. */
+uint8_t gateway_add_session(struct gateway_tables *tables, uint32_t connection, uint16_t *uid);
+
+/* Adds a tree to the session of that UID. On GATEWAY_DONE its TID is in *tid. */
+uint8_t gateway_add_tree(struct gateway_tables *tables, uint16_t uid, uint8_t right, uint16_t *tid);
+
+/* Opens a file through the tree of that TID and UID, for a process. On GATEWAY_DONE the FID is in *fid. */
+uint8_t gateway_add_open(struct gateway_tables *tables, uint16_t uid, uint16_t tid, uint32_t process, uint8_t file,
+                         uint8_t access, uint16_t *fid);
+
+/*
+ * Sets a file that has no open to these contents: its size to contents_length, at most 4,096, and its bytes in the file
+ * memory to the contents and zeros behind them. memory_length must be GATEWAY_MEMORY.
+ */
+uint8_t gateway_load_file(struct gateway_tables *tables, uint8_t file, const uint8_t *contents, size_t contents_length,
+                          uint8_t *memory, size_t memory_length);
+
+/*
+ * The connection has ended: removes its sessions with their trees, opens and locks. A connection with no session is
+ * GATEWAY_DONE and changes nothing.
+ */
+uint8_t gateway_drop_connection(struct gateway_tables *tables, uint32_t connection);
+
+/*
+ * Carries out one request message of a connection. On GATEWAY_DONE the reply is the first *reply_length bytes of the
+ * room, and the bytes behind it are as they were. memory_length must be GATEWAY_MEMORY and room_length at least
+ * GATEWAY_ROOM.
+ */
+uint8_t gateway_take_message(struct gateway_tables *tables, uint32_t connection, const uint8_t *message,
+                             size_t message_length, uint8_t *memory, size_t memory_length, uint8_t *room,
+                             size_t room_length, size_t *reply_length);
+
+#ifdef __cplusplus
+}
+#endif
+
+#endif
