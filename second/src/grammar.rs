@@ -91,30 +91,44 @@ pub struct NotAChain {
 
 /// Reads the chain of a message that row 1 does not drop.
 pub fn read_chain(message: &[u8]) -> Result<Vec<Block>, NotAChain> {
-    // Command is at 4 of the header. "Known: a request served"; an unserved
-    // command is `not a chain` in a listing.
-    let mut command = message[4];
-    if !SERVED.contains(&command) {
-        return Err(NotAChain {
-            why: Why::NotServed,
-            command,
-        });
+    blocks(message).collect()
+}
+
+/// The blocks of a message that row 1 does not drop, read one by one. It is
+/// a chain if none of them is an error; the first error is the last item.
+pub fn blocks(message: &[u8]) -> Blocks<'_> {
+    // "first the block at 32 with the header's command". Command is at 4.
+    Blocks {
+        message,
+        next: Some((message[4], HEADER)),
     }
-    // "first the block at 32 with the header's command; after each with an
-    // AndXCommand other than 0xFF, the block at its AndXOffset with that
-    // command". Each next offset is past the one before, so this ends.
-    let mut offset = HEADER;
-    let mut blocks = Vec::new();
-    loop {
-        let (block, next) =
-            read_block(message, command, offset).map_err(|why| NotAChain { why, command })?;
-        blocks.push(block);
-        match next {
-            None => return Ok(blocks),
-            Some((next_command, next_offset)) => {
-                command = next_command;
-                offset = next_offset;
+}
+
+/// What `blocks` gives: the message, with command and offset of the block to
+/// be read next. Each next offset is past the one before, so this ends.
+#[derive(Clone, Debug)]
+pub struct Blocks<'m> {
+    message: &'m [u8],
+    next: Option<(u8, usize)>,
+}
+
+impl Iterator for Blocks<'_> {
+    type Item = Result<Block, NotAChain>;
+
+    fn next(&mut self) -> Option<Self::Item> {
+        let (command, offset) = self.next.take()?;
+        // "Known: a request served"; an unserved command is `not a chain` in
+        // a listing. It can be the header's only: no other may follow.
+        if !SERVED.contains(&command) {
+            let why = Why::NotServed;
+            return Some(Err(NotAChain { why, command }));
+        }
+        match read_block(self.message, command, offset) {
+            Ok((block, next)) => {
+                self.next = next;
+                Some(Ok(block))
             }
+            Err(why) => Some(Err(NotAChain { why, command })),
         }
     }
 }

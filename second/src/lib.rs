@@ -1,9 +1,22 @@
-//! The independent second program: a reading of chains written from
+//! The independent second program: the gateway's message core written from
 //! document 01 alone, to compare the first program with. It shares no code
 //! with it.
+//!
+//! The state is [`tables::Tables`] and a slice of file memory. [`host`] has
+//! the host's calls, [`message::take_message`] takes a message, and [`words`]
+//! offers all of them over the tables as the host hands them over.
 #![forbid(unsafe_code)]
 
+pub mod builder;
+pub mod commands;
 pub mod grammar;
+pub mod host;
 pub mod listing;
+pub mod message;
 pub mod messages;
+pub mod refusals;
+pub mod reply;
+pub mod request;
 pub mod rng;
+pub mod tables;
+pub mod words;

@@ -32,21 +32,27 @@ pub enum Answer {
     Chain(Vec<Block>),
 }
 
+/// Why row 1 drops a message, if it does.
+pub fn dropped(message: &[u8]) -> Option<Dropped> {
+    if message.len() < 35 {
+        Some(Dropped::Short)
+    } else if message.len() > 8192 {
+        Some(Dropped::Long)
+    } else if message[..4] != [0xFF, 0x53, 0x4D, 0x42] {
+        Some(Dropped::Protocol)
+    } else if message[9] & 0x80 != 0 {
+        // Flags is at 9 of the header.
+        Some(Dropped::Flags)
+    } else {
+        None
+    }
+}
+
 /// The answer to a message of any length. Row 1 comes first: only a message
 /// that is not dropped is read as a chain.
 pub fn answer(message: &[u8]) -> Answer {
-    if message.len() < 35 {
-        return Answer::Dropped(Dropped::Short);
-    }
-    if message.len() > 8192 {
-        return Answer::Dropped(Dropped::Long);
-    }
-    if message[..4] != [0xFF, 0x53, 0x4D, 0x42] {
-        return Answer::Dropped(Dropped::Protocol);
-    }
-    // Flags is at 9 of the header.
-    if message[9] & 0x80 != 0 {
-        return Answer::Dropped(Dropped::Flags);
+    if let Some(reason) = dropped(message) {
+        return Answer::Dropped(reason);
     }
     match read_chain(message) {
         Ok(blocks) => Answer::Chain(blocks),

@@ -1,0 +1,155 @@
+//! Compares the gateway library with the second program, call by call over
+//! long histories.
+//!
+//! `compare_gateway [CALLS [SEED [SHOW]]]` makes that many calls on both. It
+//! ends with status 1 at the first difference, or if some answer was met too
+//! seldom. SHOW is the number of a call to print before it is made.
+
+mod call;
+mod crash;
+mod damage;
+mod gateway;
+mod guarded;
+mod plan;
+mod report;
+mod sides;
+mod tally;
+
+use call::Call;
+use guarded::Side;
+use plan::Planner;
+use second::rng::Rng;
+use second::tables::Tables;
+use second::words::unpack;
+use sides::Sides;
+use std::process::ExitCode;
+use std::sync::atomic::Ordering;
+use tally::Tally;
+
+const CALLS: usize = 300_000;
+const SEED: u64 = 0x4757_3031;
+
+/// A run of the comparison.
+struct Run {
+    planner: Planner,
+    sides: Sides,
+    tally: Tally,
+    /// The call to print.
+    show: Option<usize>,
+}
+
+impl Run {
+    /// A call on both sides, counted.
+    fn make(&mut self, call: &Call) -> Result<u8, String> {
+        crash::CALL.store(self.tally.calls, Ordering::Relaxed);
+        if self.show == Some(self.tally.calls) {
+            println!("call {}:", self.tally.calls);
+            println!("{}", report::described(call, &self.sides.words));
+        }
+        let side = self.planner.rng.pick(&[Side::Start, Side::End]);
+        let shift = self.planner.rng.below(4096);
+        let given = self.sides.make(call, side, shift)?;
+        self.tally.count(call, given, &self.sides.room);
+        Ok(given.number)
+    }
+
+    /// Empties the tables, from whatever they hold.
+    fn begin_history(&mut self) -> Result<(), String> {
+        self.tally.histories += 1;
+        let words = &mut self.sides.words;
+        words.fill_with(|| self.planner.rng.number());
+        self.make(&Call::Empty)?;
+        if self.planner.rng.below(2) == 0 {
+            damage::litter(&mut self.sides.words, &mut self.planner.rng);
+        }
+        Ok(())
+    }
+
+    /// The next call of a history, once in a while on damaged tables.
+    fn step(&mut self) -> Result<(), String> {
+        let tables = unpack(&self.sides.words).filter(Tables::sound);
+        let Some(tables) = tables else {
+            return Err("the tables are not sound between calls".to_string());
+        };
+        if self.planner.rng.below(20) == 0 {
+            return self.step_on_damaged(&tables);
+        }
+        let call = self.planner.next(&tables);
+        self.make(&call)?;
+        self.tally.count_tables(&self.sides.words);
+        Ok(())
+    }
+
+    /// A call on damaged tables. Of the damage only what leaves them sound
+    /// stays.
+    fn step_on_damaged(&mut self, tables: &Tables) -> Result<(), String> {
+        let call = match self.planner.rng.below(3) {
+            0 => self.planner.any(tables),
+            _ => self.planner.next(tables),
+        };
+        let before = self.sides.words;
+        for _ in 0..1 + self.planner.rng.below(2) {
+            damage::damage(&mut self.sides.words, &mut self.planner.rng);
+        }
+        self.make(&call)?;
+        self.tally.damaged += 1;
+        if unpack(&self.sides.words).is_some_and(|tables| tables.sound()) {
+            self.tally.damaged_but_sound += 1;
+        } else {
+            self.sides.words = before;
+        }
+        Ok(())
+    }
+
+    fn history(&mut self, calls: usize) -> Result<(), String> {
+        self.begin_history()?;
+        let length = 100 + self.planner.rng.below(4000);
+        let end = calls.min(self.tally.calls + length);
+        while self.tally.calls < end {
+            self.step()?;
+        }
+        Ok(())
+    }
+}
+
+fn argument<T: std::str::FromStr>(place: usize) -> Option<T> {
+    let text = std::env::args().nth(place)?;
+    match text.parse() {
+        Ok(value) => Some(value),
+        Err(_) => {
+            eprintln!("usage: compare_gateway [CALLS [SEED [SHOW]]]");
+            std::process::exit(2);
+        }
+    }
+}
+
+fn main() -> ExitCode {
+    let calls = argument(1).unwrap_or(CALLS);
+    let seed = argument(2).unwrap_or(SEED);
+    let mut rng = Rng::new(seed);
+    let mut run = Run {
+        sides: Sides::new(&mut rng),
+        planner: Planner::new(rng),
+        tally: Tally::default(),
+        show: argument(3),
+    };
+    crash::watch();
+    while run.tally.calls < calls {
+        if let Err(report) = run.history(calls) {
+            println!("DIFFERENCE at call {}, seed {seed}", run.tally.calls);
+            println!("{report}");
+            println!(
+                "compare_gateway: {} calls the same, then a difference",
+                run.tally.calls
+            );
+            return ExitCode::FAILURE;
+        }
+    }
+    let good = run.tally.print();
+    println!("compare_gateway: {} calls, no difference", run.tally.calls);
+    if good {
+        ExitCode::SUCCESS
+    } else {
+        ExitCode::FAILURE
+    }
+}

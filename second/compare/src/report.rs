@@ -1,0 +1,193 @@
+//! What is said of a difference.
+
+use crate::call::Call;
+use crate::guarded::Side;
+use second::listing::{answer, Answer};
+use second::request::{Ranges, Request};
+use second::words::{Words, WORDS};
+
+/// Most differences of one kind that are printed.
+const MOST: usize = 12;
+
+/// The name of a word: table, place and field.
+pub fn word_name(word: usize) -> String {
+    let tables: [(&str, usize, usize, &[&str]); 4] = [
+        ("sessions", 0, 16, &["uid", "connection"]),
+        ("trees", 33, 32, &["tid", "uid", "right"]),
+        (
+            "opens",
+            130,
+            64,
+            &["fid", "uid", "tid", "process", "file", "access"],
+        ),
+        (
+            "locks",
+            515,
+            128,
+            &["fid", "process", "offset", "length", "shared"],
+        ),
+    ];
+    for (table, start, records, fields) in tables {
+        let end = start + 1 + records * fields.len();
+        if word == start {
+            return format!("{table} count");
+        }
+        if word > start && word < end {
+            let place = word - start - 1;
+            let field = fields[place % fields.len()];
+            return format!("{table}[{}].{field}", place / fields.len());
+        }
+    }
+    format!("files[{}].size", word - 1156)
+}
+
+/// The words that differ.
+pub fn words(own: &Words, theirs: &Words) -> Vec<String> {
+    if own == theirs {
+        return Vec::new();
+    }
+    let differing: Vec<usize> = (0..WORDS)
+        .filter(|&word| own[word] != theirs[word])
+        .collect();
+    let mut lines: Vec<String> = differing
+        .iter()
+        .take(MOST)
+        .map(|&word| {
+            let name = word_name(word);
+            format!(
+                "word {word}, {name}: {}, library's {}",
+                own[word], theirs[word]
+            )
+        })
+        .collect();
+    lines.push(format!("{} words differ", differing.len()));
+    lines
+}
+
+/// The bytes that differ.
+pub fn bytes(name: &str, own: &[u8], theirs: &[u8]) -> Vec<String> {
+    if own == theirs {
+        return Vec::new();
+    }
+    let differing: Vec<usize> = (0..own.len().min(theirs.len()))
+        .filter(|&place| own[place] != theirs[place])
+        .collect();
+    let mut lines: Vec<String> = differing
+        .iter()
+        .take(MOST)
+        .map(|&place| {
+            let (own, theirs) = (own[place], theirs[place]);
+            format!("{name}, byte {place}: {own:02X}, library's {theirs:02X}")
+        })
+        .collect();
+    lines.push(format!("{name}: {} bytes differ", differing.len()));
+    lines
+}
+
+pub fn hex(bytes: &[u8]) -> String {
+    let pairs: Vec<String> = bytes.iter().map(|byte| format!("{byte:02X}")).collect();
+    let lines: Vec<String> = pairs.chunks(32).map(|line| line.join(" ")).collect();
+    lines.join("\n")
+}
+
+/// What differs, then the call and the tables before it.
+pub fn whole(call: &Call, side: Side, before: &Words, differences: &[String]) -> String {
+    let mut text = "differences (second program first):\n".to_string();
+    for line in differences {
+        text += &format!("  {line}\n");
+    }
+    text += &format!("buffers against the guard page at their {side:?}\n");
+    text + &described(call, before)
+}
+
+/// A call and the tables that it gets.
+pub fn described(call: &Call, before: &Words) -> String {
+    let input = call.input();
+    let mut text = match call {
+        Call::LoadFile { file, memory, .. } => format!(
+            "load_file: file {file}, {} bytes, memory {memory:?}\n{}\n",
+            input.len(),
+            hex(input)
+        ),
+        Call::TakeMessage {
+            connection,
+            memory,
+            room,
+            ..
+        } => format!(
+            "take_message: connection {connection}, {} bytes, memory {memory:?}, room {room}\n{}{}\n",
+            input.len(),
+            explained(input),
+            hex(input)
+        ),
+        other => format!("{other:?}\n"),
+    };
+    text += "tables before, records and counts that are not 0:\n";
+    text + &records(before)
+}
+
+/// The header's numbers and the requests of a message, as far as it has any.
+fn explained(message: &[u8]) -> String {
+    match answer(message) {
+        Answer::Dropped(reason) => format!("  to be dropped: {reason:?}\n"),
+        Answer::NotAChain(reason) => {
+            format!(
+                "  not a chain: {:?} at {:02X}\n",
+                reason.why, reason.command
+            )
+        }
+        Answer::Chain(blocks) => {
+            let field = |place| u16::from_le_bytes([message[place], message[place + 1]]);
+            let (tid, pid, uid) = (field(24), field(26), field(28));
+            let mut text = format!("  TID {tid}, PID {pid}, UID {uid}\n");
+            for block in blocks {
+                text += &format!("  {}\n", request(&Request::read(message, &block)));
+            }
+            text
+        }
+    }
+}
+
+fn request(request: &Request) -> String {
+    match request {
+        Request::Locking {
+            fid,
+            kind,
+            unlocks,
+            locks,
+        } => format!(
+            "LOCKING FID {fid}, type {kind:02X}, unlocks {}, locks {}",
+            ranges(unlocks),
+            ranges(locks)
+        ),
+        Request::Write { fid, offset, data } => {
+            format!("WRITE FID {fid}, offset {offset}, length {}", data.len())
+        }
+        other => format!("{other:?}"),
+    }
+}
+
+/// Process, offset and length of each.
+fn ranges(ranges: &Ranges) -> String {
+    let each = ranges.iter();
+    let each = each.map(|asked| (asked.process, asked.range.offset, asked.range.length));
+    format!("{:?}", each.collect::<Vec<_>>())
+}
+
+/// The records, one to a line, that are not all 0.
+fn records(words: &Words) -> String {
+    let mut lines: Vec<(String, Vec<u64>)> = Vec::new();
+    for (word, &value) in words.iter().enumerate() {
+        let name = word_name(word);
+        let record = name.split('.').next().unwrap_or_default();
+        match lines.last_mut() {
+            Some((last, fields)) if last == record => fields.push(value),
+            _ => lines.push((record.to_string(), vec![value])),
+        }
+    }
+    lines.retain(|(_, fields)| fields.iter().any(|&field| field != 0));
+    let lines = lines
+        .iter()
+        .map(|(name, fields)| format!("  {name}: {fields:?}\n"));
+    lines.collect()
+}

@@ -1,0 +1,177 @@
+//! Both programs side by side: the state of each, and a call made on both.
+
+use crate::call::{own, theirs, Call, Places};
+use crate::guarded::{Guarded, Side};
+use crate::report;
+use second::rng::Rng;
+use second::tables::MEMORY_BYTES;
+use second::words::{Words, WORDS};
+
+/// Largest message, contents or odd memory handed over.
+pub const LARGEST: usize = 140_000;
+/// Largest reply room handed over.
+pub const LARGEST_ROOM: usize = 20_000;
+const TABLE_BYTES: usize = 8 * WORDS;
+
+/// The state, what the second program wrote, and the library's places.
+pub struct Sides {
+    pub words: Words,
+    pub memory: Vec<u8>,
+    /// The second program's reply room after the last call.
+    pub room: Vec<u8>,
+    out: Vec<u8>,
+    odd_memory: Vec<u8>,
+    library: Library,
+    /// Bytes that rooms, odd memories and out parameters are prefilled with.
+    pattern: Vec<u8>,
+}
+
+/// What a call gave, the same on both sides.
+#[derive(Clone, Copy, Debug)]
+pub struct Given {
+    pub number: u8,
+    /// The out parameter, where there is one.
+    pub value: usize,
+}
+
+impl Sides {
+    pub fn new(rng: &mut Rng) -> Sides {
+        let memory = rng.bytes(MEMORY_BYTES);
+        Sides {
+            words: [0; WORDS],
+            library: Library::new(&memory),
+            memory,
+            room: Vec::new(),
+            out: Vec::new(),
+            odd_memory: Vec::new(),
+            pattern: rng.bytes(LARGEST + 4096),
+        }
+    }
+
+    /// Makes the call on both sides and compares everything. The error is a
+    /// report. The library's places are against the side; what is prefilled
+    /// is so from place `shift` of the pattern.
+    pub fn make(&mut self, call: &Call, side: Side, shift: usize) -> Result<Given, String> {
+        let before = self.words;
+        self.prefill(call, shift);
+        let their_number = self.make_theirs(call, side);
+        let number = self.make_own(call);
+        let mut differences = self.differences(call, side);
+        if number != their_number {
+            differences.insert(0, format!("number: {number}, library's {their_number}"));
+        } else if !differences.is_empty() && call.room() > 9 {
+            let room = self.library.room.place(call.room(), side);
+            let status = |reply: &[u8]| (reply[5], u16::from_le_bytes([reply[7], reply[8]]));
+            let (own, theirs) = (status(&self.room), status(room));
+            differences.insert(0, format!("status: {own:?}, library's {theirs:?}"));
+        }
+        if !differences.is_empty() {
+            return Err(report::whole(call, side, &before, &differences));
+        }
+        let mut value = [0; 8];
+        value[..self.out.len()].copy_from_slice(&self.out);
+        Ok(Given {
+            number,
+            value: usize::from_ne_bytes(value),
+        })
+    }
+
+    fn prefill(&mut self, call: &Call, shift: usize) {
+        let filling = &self.pattern[shift..];
+        let odd = call.other_memory().unwrap_or(0);
+        for (bytes, length) in [
+            (&mut self.room, call.room()),
+            (&mut self.out, call.out_bytes()),
+            (&mut self.odd_memory, odd),
+        ] {
+            bytes.clear();
+            bytes.extend_from_slice(&filling[..length]);
+        }
+    }
+
+    /// By the library, on copies of what the second program gets.
+    fn make_theirs(&mut self, call: &Call, side: Side) -> u8 {
+        let library = &mut self.library;
+        let tables = library.tables.place(TABLE_BYTES, side);
+        put_words(&self.words, tables);
+        let places = Places {
+            input: library.input.put(call.input(), side),
+            memory: match call.other_memory() {
+                None => library.memory.place(MEMORY_BYTES, side),
+                Some(_) => library.odd_memory.put(&self.odd_memory, side),
+            },
+            room: library.room.put(&self.room, side),
+            out: library.out.put(&self.out, side),
+        };
+        theirs(call, tables, places)
+    }
+
+    fn make_own(&mut self, call: &Call) -> u8 {
+        let places = Places {
+            input: call.input(),
+            memory: match call.other_memory() {
+                None => &mut self.memory,
+                Some(_) => &mut self.odd_memory,
+            },
+            room: &mut self.room,
+            out: &mut self.out,
+        };
+        own(call, &mut self.words, places)
+    }
+
+    /// What differs after a call: tables, out parameter, room and memory, and
+    /// the input, which nobody may write.
+    fn differences(&mut self, call: &Call, side: Side) -> Vec<String> {
+        let library = &mut self.library;
+        let mut words = [0; WORDS];
+        get_words(library.tables.place(TABLE_BYTES, side), &mut words);
+        let mut found = report::words(&self.words, &words);
+        let mut compare = |name, own: &[u8], theirs: &mut Guarded| {
+            found.extend(report::bytes(name, own, theirs.place(own.len(), side)));
+        };
+        compare("out parameter", &self.out, &mut library.out);
+        compare("reply room", &self.room, &mut library.room);
+        compare("file memory", &self.memory, &mut library.memory);
+        compare("odd memory", &self.odd_memory, &mut library.odd_memory);
+        compare("input", call.input(), &mut library.input);
+        found
+    }
+}
+
+/// What is handed to the library.
+struct Library {
+    tables: Guarded,
+    /// Whole pages: against both guards at once. It lives from call to call.
+    memory: Guarded,
+    odd_memory: Guarded,
+    input: Guarded,
+    room: Guarded,
+    out: Guarded,
+}
+
+impl Library {
+    fn new(contents: &[u8]) -> Library {
+        let mut memory = Guarded::new(MEMORY_BYTES);
+        memory.put(contents, Side::Start);
+        Library {
+            tables: Guarded::new(TABLE_BYTES),
+            memory,
+            odd_memory: Guarded::new(LARGEST),
+            input: Guarded::new(LARGEST),
+            room: Guarded::new(LARGEST_ROOM),
+            out: Guarded::new(8),
+        }
+    }
+}
+
+fn put_words(words: &Words, bytes: &mut [u8]) {
+    for (place, word) in bytes.chunks_exact_mut(8).zip(words) {
+        place.copy_from_slice(&word.to_ne_bytes());
+    }
+}
+
+fn get_words(bytes: &[u8], words: &mut Words) {
+    for (word, place) in words.iter_mut().zip(bytes.chunks_exact(8)) {
+        *word = u64::from_ne_bytes(place.try_into().unwrap());
+    }
+}

@@ -1,0 +1,244 @@
+//! Counts what was met, and says what was not met often enough.
+
+use crate::call::Call;
+use crate::sides::Given;
+use second::grammar::SERVED;
+use second::refusals::WireRefusal;
+use std::collections::BTreeMap;
+
+/// Fewest times for a number of a call, and for a refusal on the wire.
+const LEAST: usize = 50;
+/// Fewest times for a refusal of a given command.
+const LEAST_OF_COMMAND: usize = 20;
+
+#[derive(Default)]
+pub struct Tally {
+    pub calls: usize,
+    pub histories: usize,
+    pub damaged: usize,
+    pub damaged_but_sound: usize,
+    numbers: BTreeMap<(&'static str, u8), usize>,
+    /// By command; the header's for 2/22 (as 0) and 2/1.
+    refused: BTreeMap<(WireRefusal, u8), usize>,
+    refused_later: BTreeMap<WireRefusal, usize>,
+    done: BTreeMap<u8, usize>,
+    successions: BTreeMap<(u8, u8), usize>,
+    lengths: BTreeMap<&'static str, usize>,
+    longest: usize,
+    /// Most sessions, trees, opens and locks at a time.
+    most: [u64; 4],
+}
+
+/// Every call's numbers, from "What a call returns".
+const NUMBERS: [(&str, &[u8]); 6] = [
+    ("add_session", &[0, 4, 5]),
+    ("add_tree", &[0, 4, 5, 6, 7]),
+    ("add_open", &[0, 4, 5, 6, 7, 8]),
+    ("load_file", &[0, 2, 4, 7, 9]),
+    ("drop_connection", &[0, 4]),
+    ("take_message", &[0, 1, 2, 4]),
+];
+
+/// Whether a command can be refused so.
+fn possible(refusal: WireRefusal, command: u8) -> bool {
+    let commands: &[u8] = match refusal {
+        WireRefusal::NotServed => &[],
+        WireRefusal::NotASentence | WireRefusal::NoSession => &SERVED,
+        WireRefusal::NoTree => &[0x04, 0x24, 0x2E, 0x2F, 0x71],
+        WireRefusal::NoOpen => &[0x04, 0x24, 0x2E, 0x2F],
+        WireRefusal::Access => &[0x2E, 0x2F],
+        WireRefusal::Conflict => &[0x24, 0x2E, 0x2F],
+        WireRefusal::LockType
+        | WireRefusal::NotLocked
+        | WireRefusal::RangePasses
+        | WireRefusal::NoLockRecord => &[0x24],
+        WireRefusal::FileFull => &[0x2F],
+    };
+    commands.contains(&command)
+}
+
+fn length_class(blocks: usize) -> &'static str {
+    match blocks {
+        1 => "  1",
+        2 => "  2",
+        3 => "  3",
+        4 => "  4",
+        5..=9 => "  5 to 9",
+        10..=99 => " 10 to 99",
+        100..=199 => "100 to 199",
+        _ => "200 and more",
+    }
+}
+
+impl Tally {
+    pub fn count(&mut self, call: &Call, given: Given, reply: &[u8]) {
+        self.calls += 1;
+        *self.numbers.entry((call.name(), given.number)).or_default() += 1;
+        if let (Call::TakeMessage { message, .. }, 0) = (call, given.number) {
+            self.count_reply(message, &reply[..given.value]);
+        }
+    }
+
+    pub fn count_tables(&mut self, words: &[u64]) {
+        for (most, place) in self.most.iter_mut().zip([0, 33, 130, 515]) {
+            *most = words[place].max(*most);
+        }
+    }
+
+    /// Follows the reply's links.
+    fn count_reply(&mut self, message: &[u8], reply: &[u8]) {
+        let mut commands = vec![message[4]];
+        let mut offset = 32;
+        while reply[offset] >= 2 && reply[offset + 1] != 0xFF {
+            let next = reply[offset + 1];
+            self.succession(commands[commands.len() - 1], next);
+            commands.push(next);
+            offset = usize::from(reply[offset + 3]) + 256 * usize::from(reply[offset + 4]);
+        }
+        let status = (reply[5], u16::from_le_bytes([reply[7], reply[8]]));
+        let mut done = &commands[..];
+        if status != (0, 0) {
+            let last = commands[commands.len() - 1];
+            let refusal = WireRefusal::ALL
+                .into_iter()
+                .find(|r| r.class_and_code() == status);
+            let refusal = refusal.expect("a code of the table");
+            let of = if refusal == WireRefusal::NotServed {
+                0
+            } else {
+                last
+            };
+            *self.refused.entry((refusal, of)).or_default() += 1;
+            if commands.len() > 1 {
+                *self.refused_later.entry(refusal).or_default() += 1;
+            }
+            done = &commands[..commands.len() - 1];
+        }
+        for &command in done {
+            *self.done.entry(command).or_default() += 1;
+        }
+        *self
+            .lengths
+            .entry(length_class(commands.len()))
+            .or_default() += 1;
+        self.longest = self.longest.max(commands.len());
+    }
+
+    fn succession(&mut self, first: u8, next: u8) {
+        *self.successions.entry((first, next)).or_default() += 1;
+    }
+
+    /// Prints the counts. False if something was met too seldom.
+    pub fn print(&self) -> bool {
+        println!("calls: {} in {} histories", self.calls, self.histories);
+        println!(
+            "tables damaged before a call: {}, sound all the same: {}",
+            self.damaged, self.damaged_but_sound
+        );
+        println!("most sessions, trees, opens, locks: {:?}", self.most);
+        let full = self.most == [16, 32, 64, 128];
+        if !full {
+            println!("FAILED: some table was never full");
+        }
+        let parts = [
+            full,
+            self.print_numbers(),
+            self.print_refused(),
+            self.print_done(),
+            self.print_chains(),
+        ];
+        parts.into_iter().all(|good| good)
+    }
+
+    fn print_numbers(&self) -> bool {
+        let mut good = true;
+        println!("numbers returned:");
+        for (name, numbers) in NUMBERS {
+            let counts: Vec<String> = self
+                .numbers
+                .iter()
+                .filter(|((of, _), _)| *of == name)
+                .map(|((_, number), count)| format!("{number}: {count}"))
+                .collect();
+            println!("  {name}: {}", counts.join(", "));
+            for &number in numbers {
+                let count = self.numbers.get(&(name, number)).copied().unwrap_or(0);
+                good &= enough(count, LEAST, &format!("{name} giving {number}"));
+            }
+        }
+        good
+    }
+
+    fn print_refused(&self) -> bool {
+        let mut good = true;
+        println!("refused on the wire (all; behind others in a chain; by command):");
+        for refusal in WireRefusal::ALL {
+            let of: Vec<(u8, usize)> = self
+                .refused
+                .iter()
+                .filter(|((of, _), _)| *of == refusal)
+                .map(|((_, command), count)| (*command, *count))
+                .collect();
+            let all: usize = of.iter().map(|(_, count)| count).sum();
+            let later = self.refused_later.get(&refusal).copied().unwrap_or(0);
+            let by: Vec<String> = of.iter().map(|(c, n)| format!("{c:02X}: {n}")).collect();
+            let (class, code) = refusal.class_and_code();
+            println!("  {class}/{code}: {all}; {later}; {}", by.join(", "));
+            good &= enough(all, LEAST, &format!("{class}/{code}"));
+            for command in SERVED {
+                if possible(refusal, command) {
+                    let count = self.refused.get(&(refusal, command)).copied().unwrap_or(0);
+                    let what = format!("{class}/{code} for {command:02X}");
+                    good &= enough(count, LEAST_OF_COMMAND, &what);
+                }
+            }
+        }
+        good
+    }
+
+    fn print_done(&self) -> bool {
+        let mut good = true;
+        println!("commands done:");
+        for command in SERVED {
+            let count = self.done.get(&command).copied().unwrap_or(0);
+            println!("  {command:02X}: {count}");
+            good &= enough(count, LEAST, &format!("{command:02X} done"));
+        }
+        good
+    }
+
+    fn print_chains(&self) -> bool {
+        let mut good = true;
+        println!("blocks in a reply:");
+        for (class, count) in &self.lengths {
+            println!("  {class}: {count}");
+        }
+        println!("  most: {}", self.longest);
+        for blocks in [1, 2, 3, 4, 5, 10, 100, 200] {
+            let class = length_class(blocks);
+            let count = self.lengths.get(class).copied().unwrap_or(0);
+            good &= enough(count, LEAST, &format!("replies of {} blocks", class.trim()));
+        }
+        println!("successions in replies:");
+        for (first, next) in [
+            (0x24, 0x2E),
+            (0x24, 0x2F),
+            (0x2E, 0x04),
+            (0x2F, 0x2F),
+            (0x2F, 0x2E),
+            (0x2F, 0x04),
+        ] {
+            let count = self.successions.get(&(first, next)).copied().unwrap_or(0);
+            println!("  {first:02X} {next:02X}: {count}");
+            good &= enough(count, LEAST, &format!("succession {first:02X} {next:02X}"));
+        }
+        good
+    }
+}
+
+fn enough(count: usize, least: usize, what: &str) -> bool {
+    if count < least {
+        println!("FAILED: met {count} times only: {what}");
+    }
+    count >= least
+}

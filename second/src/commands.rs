@@ -1,0 +1,287 @@
+//! What each request does, from "Locks, reads and writes" of document 01,
+//! with the refusals in the order of "Refusals on the wire". A command that
+//! is refused has changed nothing.
+
+use crate::host::file_bytes_mut;
+use crate::refusals::WireRefusal;
+use crate::request::{OwnedRange, Ranges, Request, TYPE_LARGE, TYPE_SHARED};
+use crate::tables::{Lock, Open, Range, Tables, ACCESS_READ, ACCESS_WRITE, FILE_BYTES, LOCKS};
+
+/// Who asks: the connection, and the header's numbers.
+#[derive(Clone, Copy, Debug, PartialEq, Eq)]
+pub struct Asker {
+    pub connection: u32,
+    pub uid: u16,
+    pub tid: u16,
+    /// "The process number is PIDLow."
+    pub process: u32,
+}
+
+/// What a command that was done has for its reply block.
+#[derive(Clone, Debug, PartialEq, Eq)]
+pub enum Done {
+    /// CLOSE, TREE_DISCONNECT, PROCESS_EXIT: 0 words.
+    Plain,
+    /// LOCKING and LOGOFF: AndX only.
+    Linked,
+    /// READ: where the data stand in the file memory.
+    Read(std::ops::Range<usize>),
+    /// WRITE: how many bytes were written.
+    Written(u16),
+}
+
+/// Carries out one command.
+pub fn carry_out(
+    tables: &mut Tables,
+    memory: &mut [u8],
+    asker: &Asker,
+    request: &Request,
+) -> Result<Done, WireRefusal> {
+    find_session(tables, asker)?;
+    match *request {
+        // "LOGOFF and PROCESS_EXIT stop after 2/91, TREE_DISCONNECT after
+        // 2/5, CLOSE after 1/6."
+        Request::Logoff => Ok(logoff(tables, asker)),
+        Request::ProcessExit => Ok(process_exit(tables, asker)),
+        Request::TreeDisconnect => tree_disconnect(tables, asker),
+        Request::Close { fid } => close(tables, asker, fid),
+        Request::Locking {
+            fid,
+            kind,
+            unlocks,
+            locks,
+        } => locking(tables, asker, fid, kind, unlocks, locks),
+        Request::Read { fid, range } => read(tables, asker, fid, range),
+        Request::Write { fid, offset, data } => write(tables, memory, asker, fid, offset, data),
+    }
+}
+
+/// "2/91 no session of that UID on this connection"
+fn find_session(tables: &Tables, asker: &Asker) -> Result<(), WireRefusal> {
+    match tables.session(asker.uid) {
+        Some(session) if session.connection == asker.connection => Ok(()),
+        _ => Err(WireRefusal::NoSession),
+    }
+}
+
+/// "2/5 no tree of that TID and UID"
+fn find_tree(tables: &Tables, asker: &Asker) -> Result<(), WireRefusal> {
+    match tables.tree(asker.tid, asker.uid) {
+        Some(_) => Ok(()),
+        None => Err(WireRefusal::NoTree),
+    }
+}
+
+/// 2/5, then "1/6 no open of that FID, UID and TID".
+fn find_open(tables: &Tables, asker: &Asker, fid: u16) -> Result<Open, WireRefusal> {
+    find_tree(tables, asker)?;
+    let open = tables.open(fid, asker.uid, asker.tid);
+    open.copied().ok_or(WireRefusal::NoOpen)
+}
+
+fn logoff(tables: &mut Tables, asker: &Asker) -> Done {
+    tables.remove_sessions(|session| session.uid == asker.uid);
+    Done::Linked
+}
+
+/// "the opens of that UID and process", in every tree.
+fn process_exit(tables: &mut Tables, asker: &Asker) -> Done {
+    tables.remove_opens(|open| open.uid == asker.uid && open.process == asker.process);
+    Done::Plain
+}
+
+fn tree_disconnect(tables: &mut Tables, asker: &Asker) -> Result<Done, WireRefusal> {
+    find_tree(tables, asker)?;
+    tables.remove_trees(|tree| tree.tid == asker.tid);
+    Ok(Done::Plain)
+}
+
+fn close(tables: &mut Tables, asker: &Asker, fid: u16) -> Result<Done, WireRefusal> {
+    find_open(tables, asker, fid)?;
+    tables.remove_opens(|open| open.fid == fid);
+    Ok(Done::Plain)
+}
+
+/// The places of the lock table that a request releases: bit n for place n.
+#[derive(Clone, Copy, Default)]
+struct Released(u128);
+
+impl Released {
+    fn contains(self, place: usize) -> bool {
+        self.0 >> place & 1 != 0
+    }
+
+    fn count(self) -> usize {
+        self.0.count_ones() as usize
+    }
+}
+
+/// Judges all ranges of the request against the table as it is, then
+/// alters it.
+fn locking(
+    tables: &mut Tables,
+    asker: &Asker,
+    fid: u16,
+    kind: u8,
+    unlocks: Ranges,
+    locks: Ranges,
+) -> Result<Done, WireRefusal> {
+    let open = find_open(tables, asker, fid)?;
+    if kind & !(TYPE_SHARED | TYPE_LARGE) != 0 {
+        return Err(WireRefusal::LockType);
+    }
+    let released = release(tables, fid, unlocks)?;
+    if locks.iter().any(|asked| asked.range.passes()) {
+        return Err(WireRefusal::RangePasses);
+    }
+    let shared = kind & TYPE_SHARED != 0;
+    let as_lock = |asked: OwnedRange| Lock {
+        fid,
+        process: asked.process,
+        range: asked.range,
+        shared,
+    };
+    if conflicts_with_held(tables, open.file, released, locks.iter().map(as_lock))
+        || conflicts_within(locks, shared)
+    {
+        return Err(WireRefusal::Conflict);
+    }
+    // "1/8 exactly if over 128 would then be held"
+    if tables.locks.count - released.count() + locks.len() > LOCKS {
+        return Err(WireRefusal::NoLockRecord);
+    }
+    replace_locks(tables, released, locks.iter().map(as_lock));
+    Ok(Done::Linked)
+}
+
+/// "Unlocks go first, in order: each removes the earliest listed lock with
+/// equal FID, process, offset and length."
+fn release(tables: &Tables, fid: u16, unlocks: Ranges) -> Result<Released, WireRefusal> {
+    let mut released = Released::default();
+    for unlock in unlocks.iter() {
+        let matching = |(place, lock): (usize, &Lock)| {
+            lock.fid == fid
+                && lock.process == unlock.process
+                && lock.range == unlock.range
+                && !released.contains(place)
+        };
+        let place = tables.locks.in_use().iter().enumerate().position(matching);
+        released.0 |= 1 << place.ok_or(WireRefusal::NotLocked)?;
+    }
+    Ok(released)
+}
+
+/// Whether a lock asked for conflicts with one held and not released, "the
+/// asker's own locks included".
+fn conflicts_with_held(
+    tables: &Tables,
+    file: u8,
+    released: Released,
+    asked: impl Iterator<Item = Lock> + Clone,
+) -> bool {
+    tables.locks_of(file).any(|(place, held)| {
+        !released.contains(place) && asked.clone().any(|asked| asked.conflicts(held))
+    })
+}
+
+/// Whether a lock asked for conflicts with an earlier one of the same
+/// request. All of them are shared, or none is.
+fn conflicts_within(locks: Ranges, shared: bool) -> bool {
+    !shared
+        && locks.iter().enumerate().any(|(place, asked)| {
+            let mut earlier = locks.iter().take(place);
+            earlier.any(|earlier| earlier.range.overlaps(asked.range))
+        })
+}
+
+/// The list without the locks released, then those granted. Places given up
+/// and not taken again become zero.
+fn replace_locks(tables: &mut Tables, released: Released, granted: impl Iterator<Item = Lock>) {
+    if released.count() > 0 {
+        let mut place = 0;
+        tables.locks.retain(|_| {
+            place += 1;
+            !released.contains(place - 1)
+        });
+    }
+    for lock in granted {
+        tables.locks.push(lock);
+    }
+}
+
+/// "A read is refused 1/33 exactly if an exclusive lock of another owner
+/// overlaps offset and max. It yields the file's bytes in the range below its
+/// size."
+fn read(tables: &Tables, asker: &Asker, fid: u16, range: Range) -> Result<Done, WireRefusal> {
+    let open = find_open(tables, asker, fid)?;
+    if open.access == ACCESS_WRITE {
+        return Err(WireRefusal::Access);
+    }
+    let barred = tables
+        .locks_of(open.file)
+        .any(|(_, lock)| !lock.shared && !owns(asker, fid, lock) && lock.range.overlaps(range));
+    if barred {
+        return Err(WireRefusal::Conflict);
+    }
+    let size = u128::from(tables.files[usize::from(open.file)].size);
+    // Both are at most the size, 4,096.
+    let start = range.start().min(size) as usize;
+    let end = range.end().min(size) as usize;
+    let file = usize::from(open.file) * FILE_BYTES;
+    Ok(Done::Read(file + start..file + end))
+}
+
+/// "A write is refused 1/33 exactly if any lock overlaps it save the writer's
+/// own exclusive ones."
+fn write(
+    tables: &mut Tables,
+    memory: &mut [u8],
+    asker: &Asker,
+    fid: u16,
+    offset: u64,
+    data: &[u8],
+) -> Result<Done, WireRefusal> {
+    let open = find_open(tables, asker, fid)?;
+    if open.access == ACCESS_READ {
+        return Err(WireRefusal::Access);
+    }
+    let range = Range {
+        offset,
+        length: data.len() as u64,
+    };
+    let barred = tables
+        .locks_of(open.file)
+        .any(|(_, lock)| (lock.shared || !owns(asker, fid, lock)) && lock.range.overlaps(range));
+    if barred {
+        return Err(WireRefusal::Conflict);
+    }
+    // "Length 0 writes nothing, changes no size and is done at any offset."
+    if !data.is_empty() {
+        if range.end() > FILE_BYTES as u128 {
+            return Err(WireRefusal::FileFull);
+        }
+        put_data(tables, memory, open.file, offset as usize, data);
+    }
+    // DataLength has 16 bits.
+    Ok(Done::Written(data.len() as u16))
+}
+
+/// "Bytes between the old size and the write become 0, and a size below the
+/// write's end becomes that end."
+fn put_data(tables: &mut Tables, memory: &mut [u8], file: u8, start: usize, data: &[u8]) {
+    let bytes = file_bytes_mut(memory, file);
+    let size = &mut tables.files[usize::from(file)].size;
+    let end = start + data.len();
+    let old = *size as usize;
+    if old < start {
+        bytes[old..start].fill(0);
+    }
+    bytes[start..end].copy_from_slice(data);
+    *size = (*size).max(end as u64);
+}
+
+/// "An owner is a FID with a process. Locks: process from the range; reads
+/// and writes: from the header."
+fn owns(asker: &Asker, fid: u16, lock: &Lock) -> bool {
+    lock.fid == fid && lock.process == asker.process
+}

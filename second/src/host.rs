@@ -1,0 +1,97 @@
+//! The host's calls other than taking a message. Each refuses in the order
+//! of "What a call returns": 2, 4, 7, 6, 8, 9, 5.
+
+use crate::refusals::{CallRefusal, Outcome};
+use crate::tables::{
+    exceeds, smallest_free, Open, Session, Tables, Tree, FILES, FILE_BYTES, LARGEST_ACCESS,
+    LARGEST_RIGHT, MEMORY_BYTES,
+};
+
+/// Refuses unless the condition holds.
+pub(crate) fn ensure(condition: bool, refusal: CallRefusal) -> Outcome<()> {
+    if condition {
+        Ok(())
+    } else {
+        Err(refusal)
+    }
+}
+
+/// Adds a session; gives its UID.
+pub fn add_session(tables: &mut Tables, connection: u32) -> Outcome<u16> {
+    ensure(tables.sound(), CallRefusal::NotSound)?;
+    ensure(!tables.sessions.is_full(), CallRefusal::Full)?;
+    let uid = smallest_free(tables.sessions.in_use().iter().map(|s| s.uid));
+    tables.sessions.push(Session { uid, connection });
+    Ok(uid)
+}
+
+/// Adds a tree; gives its TID.
+pub fn add_tree(tables: &mut Tables, uid: u16, right: u8) -> Outcome<u16> {
+    ensure(tables.sound(), CallRefusal::NotSound)?;
+    ensure(right <= LARGEST_RIGHT, CallRefusal::OutOfRange)?;
+    ensure(tables.session(uid).is_some(), CallRefusal::NoSuch)?;
+    ensure(!tables.trees.is_full(), CallRefusal::Full)?;
+    let tid = smallest_free(tables.trees.in_use().iter().map(|t| t.tid));
+    tables.trees.push(Tree { tid, uid, right });
+    Ok(tid)
+}
+
+/// Adds an open; gives its FID.
+pub fn add_open(
+    tables: &mut Tables,
+    uid: u16,
+    tid: u16,
+    process: u32,
+    file: u8,
+    access: u8,
+) -> Outcome<u16> {
+    ensure(tables.sound(), CallRefusal::NotSound)?;
+    ensure(usize::from(file) < FILES, CallRefusal::OutOfRange)?;
+    ensure(access <= LARGEST_ACCESS, CallRefusal::OutOfRange)?;
+    // "no such session, or no such tree of that session": a tree's session
+    // is there.
+    let tree = tables.tree(tid, uid).ok_or(CallRefusal::NoSuch)?;
+    ensure(!exceeds(access, tree.right), CallRefusal::ExceedsRight)?;
+    ensure(!tables.opens.is_full(), CallRefusal::Full)?;
+    let fid = smallest_free(tables.opens.in_use().iter().map(|o| o.fid));
+    tables.opens.push(Open {
+        fid,
+        uid,
+        tid,
+        process,
+        file,
+        access,
+    });
+    Ok(fid)
+}
+
+/// "A load sets the size and puts zeros after the loaded bytes, up to
+/// 4,096."
+pub fn load_file(tables: &mut Tables, file: u8, contents: &[u8], memory: &mut [u8]) -> Outcome<()> {
+    ensure(memory.len() == MEMORY_BYTES, CallRefusal::Room)?;
+    ensure(tables.sound(), CallRefusal::NotSound)?;
+    ensure(usize::from(file) < FILES, CallRefusal::OutOfRange)?;
+    ensure(contents.len() <= FILE_BYTES, CallRefusal::OutOfRange)?;
+    let has_open = tables.opens.in_use().iter().any(|o| o.file == file);
+    ensure(!has_open, CallRefusal::HasOpen)?;
+    let bytes = file_bytes_mut(memory, file);
+    let (loaded, rest) = bytes.split_at_mut(contents.len());
+    loaded.copy_from_slice(contents);
+    rest.fill(0);
+    tables.files[usize::from(file)].size = contents.len() as u64;
+    Ok(())
+}
+
+/// "Dropping an unknown connection is 0 and changes nothing." A known one:
+/// each of its sessions goes as by LOGOFF.
+pub fn drop_connection(tables: &mut Tables, connection: u32) -> Outcome<()> {
+    ensure(tables.sound(), CallRefusal::NotSound)?;
+    tables.remove_sessions(|session| session.connection == connection);
+    Ok(())
+}
+
+/// The 4,096 bytes of a file.
+pub(crate) fn file_bytes_mut(memory: &mut [u8], file: u8) -> &mut [u8] {
+    let start = usize::from(file) * FILE_BYTES;
+    &mut memory[start..start + FILE_BYTES]
+}

@@ -1,0 +1,78 @@
+//! Taking a message: what document 01 says that a message gives.
+
+use crate::commands::{carry_out, Asker};
+use crate::grammar::{blocks, SERVED};
+use crate::host::ensure;
+use crate::listing::dropped;
+use crate::refusals::{CallRefusal, Outcome, WireRefusal};
+use crate::reply::{header_numbers, Reply};
+use crate::request::Request;
+use crate::tables::{Tables, MEMORY_BYTES};
+
+/// Least reply room.
+pub const ROOM_BYTES: usize = 12_292;
+
+/// "reply room under 12,292 bytes, or file memory not 65,536"
+pub(crate) fn check_room(memory: &[u8], room: &[u8]) -> Outcome<()> {
+    ensure(
+        room.len() >= ROOM_BYTES && memory.len() == MEMORY_BYTES,
+        CallRefusal::Room,
+    )
+}
+
+/// Takes a message that came on a connection. On success the reply stands at
+/// the room's start and its length is given; bytes past it are as they were.
+/// A refusal writes nothing. Order: 2, 4, 1.
+pub fn take_message(
+    tables: &mut Tables,
+    connection: u32,
+    message: &[u8],
+    memory: &mut [u8],
+    room: &mut [u8],
+) -> Outcome<usize> {
+    check_room(memory, room)?;
+    ensure(tables.sound(), CallRefusal::NotSound)?;
+    ensure(dropped(message).is_none(), CallRefusal::Dropped)?;
+    let mut reply = Reply::new(room, message);
+    match unreadable(message) {
+        Some(refusal) => reply.refused(message[4], refusal),
+        None => answer_chain(tables, connection, message, memory, &mut reply),
+    }
+    Ok(reply.length())
+}
+
+/// "2/22 and 2/1 come before anything is carried out."
+fn unreadable(message: &[u8]) -> Option<WireRefusal> {
+    if !SERVED.contains(&message[4]) {
+        Some(WireRefusal::NotServed)
+    } else if blocks(message).any(|block| block.is_err()) {
+        Some(WireRefusal::NotASentence)
+    } else {
+        None
+    }
+}
+
+/// Carries out a sentence command by command. "Commands before [one refused]
+/// in the chain stand; those after it aren't begun."
+fn answer_chain(
+    tables: &mut Tables,
+    connection: u32,
+    message: &[u8],
+    memory: &mut [u8],
+    reply: &mut Reply,
+) {
+    let (uid, tid, process) = header_numbers(message);
+    let asker = Asker {
+        connection,
+        uid,
+        tid,
+        process: process.into(),
+    };
+    for block in blocks(message).flatten() {
+        let request = Request::read(message, &block);
+        match carry_out(tables, memory, &asker, &request) {
+            Ok(done) => reply.done(block.command, &done, memory),
+            Err(refusal) => return reply.refused(block.command, refusal),
+        }
+    }
+}

@@ -1,0 +1,98 @@
+//! The two tables of refusals of document 01.
+
+/// "What a call returns": the numbers other than 0.
+#[derive(Clone, Copy, Debug, PartialEq, Eq, PartialOrd, Ord)]
+#[repr(u8)]
+pub enum CallRefusal {
+    /// "message dropped"
+    Dropped = 1,
+    /// "reply room under 12,292 bytes, or file memory not 65,536"
+    Room = 2,
+    /// "tables not sound"
+    NotSound = 4,
+    /// "table full"
+    Full = 5,
+    /// "no such session, or no such tree of that session"
+    NoSuch = 6,
+    /// "number out of range"
+    OutOfRange = 7,
+    /// "open would exceed its tree's right"
+    ExceedsRight = 8,
+    /// "load of a file that has an open"
+    HasOpen = 9,
+}
+
+/// What a call gives: on 0 its value (the reply's length, the new number).
+pub type Outcome<T> = Result<T, CallRefusal>;
+
+/// The number that a call returns.
+pub fn number<T>(outcome: &Outcome<T>) -> u8 {
+    match outcome {
+        Ok(_) => 0,
+        Err(refusal) => *refusal as u8,
+    }
+}
+
+/// "Refusals on the wire", in the order written.
+#[derive(Clone, Copy, Debug, PartialEq, Eq, PartialOrd, Ord)]
+pub enum WireRefusal {
+    /// "header command not served"
+    NotServed,
+    /// "not a sentence"
+    NotASentence,
+    /// "no session of that UID on this connection"
+    NoSession,
+    /// "no tree of that TID and UID"
+    NoTree,
+    /// "no open of that FID, UID and TID"
+    NoOpen,
+    /// "access"
+    Access,
+    /// "lock type bit other than 0x01 and 0x10"
+    LockType,
+    /// "no such lock to release"
+    NotLocked,
+    /// "lock range passes 2^64"
+    RangePasses,
+    /// "lock conflict"
+    Conflict,
+    /// "no lock record free"
+    NoLockRecord,
+    /// "write would end past 4,096"
+    FileFull,
+}
+
+impl WireRefusal {
+    pub const ALL: [WireRefusal; 12] = [
+        WireRefusal::NotServed,
+        WireRefusal::NotASentence,
+        WireRefusal::NoSession,
+        WireRefusal::NoTree,
+        WireRefusal::NoOpen,
+        WireRefusal::Access,
+        WireRefusal::LockType,
+        WireRefusal::NotLocked,
+        WireRefusal::RangePasses,
+        WireRefusal::Conflict,
+        WireRefusal::NoLockRecord,
+        WireRefusal::FileFull,
+    ];
+
+    /// Class and code, decimal as in the paper.
+    pub fn class_and_code(self) -> (u8, u16) {
+        match self {
+            WireRefusal::NotServed => (2, 22),
+            WireRefusal::NotASentence => (2, 1),
+            WireRefusal::NoSession => (2, 91),
+            WireRefusal::NoTree => (2, 5),
+            WireRefusal::NoOpen => (1, 6),
+            WireRefusal::Access => (1, 5),
+            WireRefusal::LockType => (2, 65535),
+            WireRefusal::NotLocked => (1, 158),
+            WireRefusal::RangePasses => (1, 87),
+            WireRefusal::Conflict => (1, 33),
+            WireRefusal::NoLockRecord => (1, 8),
+            WireRefusal::FileFull => (3, 39),
+        }
+    }
+}

@@ -1,0 +1,124 @@
+//! The reply, from "Header" and "Reply blocks" of document 01.
+
+use crate::commands::Done;
+use crate::refusals::WireRefusal;
+use crate::request::u16_at;
+
+/// Places in the header.
+const COMMAND: usize = 4;
+const STATUS: usize = 5;
+const FLAGS: usize = 9;
+const FLAGS2: usize = 10;
+const PID_HIGH: usize = 12;
+const TID: usize = 24;
+const PID_LOW: usize = 26;
+const UID: usize = 28;
+const HEADER: usize = 32;
+
+/// A reply under construction at the start of the room.
+pub struct Reply<'r> {
+    room: &'r mut [u8],
+    length: usize,
+    /// The place of AndX in the last block, if it has one.
+    andx: Option<usize>,
+}
+
+impl<'r> Reply<'r> {
+    /// "A reply copies Command, PIDHigh, TID, PIDLow, UID and MID; Flags is
+    /// 0x80 plus the request's 0x08; Flags2 keeps only 0x0001; the rest is 0
+    /// but for Status."
+    pub fn new(room: &'r mut [u8], request: &[u8]) -> Reply<'r> {
+        let header = &mut room[..HEADER];
+        header.fill(0);
+        header[..4].copy_from_slice(&request[..4]);
+        header[COMMAND] = request[COMMAND];
+        header[FLAGS] = 0x80 | request[FLAGS] & 0x08;
+        header[FLAGS2] = request[FLAGS2] & 0x01;
+        header[PID_HIGH..PID_HIGH + 2].copy_from_slice(&request[PID_HIGH..PID_HIGH + 2]);
+        // TID, PIDLow, UID and MID stand together at the end.
+        header[TID..].copy_from_slice(&request[TID..HEADER]);
+        Reply {
+            room,
+            length: HEADER,
+            andx: None,
+        }
+    }
+
+    /// Adds the block of a command that was done.
+    pub fn done(&mut self, command: u8, done: &Done, memory: &[u8]) {
+        self.link(command);
+        match done {
+            Done::Plain => self.block::<0>([], &[]),
+            Done::Linked => self.andx_block([], &[]),
+            // "AndX, 0xFFFF, 0, 0, length, data offset, ten zero bytes; the
+            // bytes are the data"
+            Done::Read(place) => {
+                let data = &memory[place.clone()];
+                // Behind WordCount, 12 words and ByteCount.
+                let data_offset = (self.length + 1 + 24 + 2) as u16;
+                let length = data.len() as u16;
+                self.andx_block([0xFFFF, 0, 0, length, data_offset, 0, 0, 0, 0, 0], data);
+            }
+            // "AndX, count, 0xFFFF, four zero bytes"
+            Done::Written(count) => self.andx_block([*count, 0xFFFF, 0, 0], &[]),
+        }
+    }
+
+    /// "A refused command or message gives WordCount 0 and ByteCount 0, and
+    /// Status stands in the header." SMBSTATUS is class, 0, code.
+    pub fn refused(&mut self, command: u8, refusal: WireRefusal) {
+        self.link(command);
+        self.block::<0>([], &[]);
+        let (class, code) = refusal.class_and_code();
+        self.room[STATUS] = class;
+        self.room[STATUS + 2..STATUS + 4].copy_from_slice(&code.to_le_bytes());
+    }
+
+    pub fn length(&self) -> usize {
+        self.length
+    }
+
+    /// "AndX names the next block written": its command and its place.
+    fn link(&mut self, command: u8) {
+        if let Some(place) = self.andx.take() {
+            let offset = (self.length as u16).to_le_bytes();
+            self.room[place..place + 4].copy_from_slice(&[command, 0, offset[0], offset[1]]);
+        }
+    }
+
+    /// Adds a block that begins with AndX, "with none it is FF 00 00 00".
+    fn andx_block<const N: usize>(&mut self, words: [u16; N], bytes: &[u8]) {
+        self.put(&[(2 + N) as u8]);
+        self.andx = Some(self.length);
+        self.put(&[0xFF, 0, 0, 0]);
+        self.put_rest(words, bytes);
+    }
+
+    fn block<const N: usize>(&mut self, words: [u16; N], bytes: &[u8]) {
+        self.put(&[N as u8]);
+        self.put_rest(words, bytes);
+    }
+
+    /// The words, ByteCount, the bytes.
+    fn put_rest<const N: usize>(&mut self, words: [u16; N], bytes: &[u8]) {
+        for word in words {
+            self.put(&word.to_le_bytes());
+        }
+        self.put(&(bytes.len() as u16).to_le_bytes());
+        self.put(bytes);
+    }
+
+    fn put(&mut self, bytes: &[u8]) {
+        self.room[self.length..self.length + bytes.len()].copy_from_slice(bytes);
+        self.length += bytes.len();
+    }
+}
+
+/// The header's numbers: UID, TID, PIDLow.
+pub fn header_numbers(message: &[u8]) -> (u16, u16, u16) {
+    (
+        u16_at(message, UID),
+        u16_at(message, TID),
+        u16_at(message, PID_LOW),
+    )
+}

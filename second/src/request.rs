@@ -1,0 +1,190 @@
+//! The requests: what "Words after AndX" of document 01 says stands in a
+//! block that the grammar has accepted.
+
+use crate::grammar::{
+    Block, CLOSE, LOCKING_ANDX, LOGOFF_ANDX, PROCESS_EXIT, READ_ANDX, TREE_DISCONNECT, WRITE_ANDX,
+};
+use crate::tables::Range;
+
+/// "Type bit 0x01 means shared."
+pub const TYPE_SHARED: u8 = 0x01;
+/// Type bit 0x10: ranges of 20 bytes.
+pub const TYPE_LARGE: u8 = 0x10;
+
+#[derive(Clone, Copy, Debug, PartialEq, Eq)]
+pub enum Request<'m> {
+    Close {
+        fid: u16,
+    },
+    ProcessExit,
+    Locking {
+        fid: u16,
+        kind: u8,
+        unlocks: Ranges<'m>,
+        locks: Ranges<'m>,
+    },
+    Read {
+        fid: u16,
+        range: Range,
+    },
+    Write {
+        fid: u16,
+        offset: u64,
+        data: &'m [u8],
+    },
+    TreeDisconnect,
+    Logoff,
+}
+
+/// A part of a LOCKING request's byte area: ranges, still as bytes.
+#[derive(Clone, Copy, Debug, PartialEq, Eq)]
+pub struct Ranges<'m> {
+    bytes: &'m [u8],
+    large: bool,
+}
+
+/// A range with the process that it names.
+#[derive(Clone, Copy, Debug, PartialEq, Eq)]
+pub struct OwnedRange {
+    pub process: u32,
+    pub range: Range,
+}
+
+impl<'m> Ranges<'m> {
+    pub fn len(&self) -> usize {
+        self.bytes.len() / range_bytes(self.large)
+    }
+
+    pub fn is_empty(&self) -> bool {
+        self.bytes.is_empty()
+    }
+
+    pub fn iter(&self) -> impl Iterator<Item = OwnedRange> + Clone + 'm {
+        let read = if self.large { large_range } else { small_range };
+        self.bytes.chunks_exact(range_bytes(self.large)).map(read)
+    }
+}
+
+fn range_bytes(large: bool) -> usize {
+    if large {
+        20
+    } else {
+        10
+    }
+}
+
+/// "process 2, offset 4, length 4"
+fn small_range(bytes: &[u8]) -> OwnedRange {
+    OwnedRange {
+        process: u16_at(bytes, 0).into(),
+        range: Range {
+            offset: u32_at(bytes, 2).into(),
+            length: u32_at(bytes, 6).into(),
+        },
+    }
+}
+
+/// "process 2, pad 2, offset high 4, low 4, length high 4, low 4"
+fn large_range(bytes: &[u8]) -> OwnedRange {
+    OwnedRange {
+        process: u16_at(bytes, 0).into(),
+        range: Range {
+            offset: high_and_low(u32_at(bytes, 4), u32_at(bytes, 8)),
+            length: high_and_low(u32_at(bytes, 12), u32_at(bytes, 16)),
+        },
+    }
+}
+
+impl<'m> Request<'m> {
+    /// The request in a block that the grammar has accepted.
+    pub fn read(message: &'m [u8], block: &Block) -> Request<'m> {
+        let bytes = &message[block.offset..block.offset + block.length];
+        let (words, rest) = bytes[1..].split_at(2 * usize::from(bytes[0]));
+        match block.command {
+            CLOSE => Request::Close {
+                fid: u16_at(words, 0),
+            },
+            PROCESS_EXIT => Request::ProcessExit,
+            // The byte area is behind ByteCount.
+            LOCKING_ANDX => locking(words, &rest[2..]),
+            READ_ANDX => read(words),
+            WRITE_ANDX => write(message, words),
+            TREE_DISCONNECT => Request::TreeDisconnect,
+            LOGOFF_ANDX => Request::Logoff,
+            command => unreachable!("the grammar accepts no command {command:#04X}"),
+        }
+    }
+}
+
+/// "FID 2, type 1, oplock 1, timeout 4, unlocks 2, locks 2; ranges, unlocks
+/// first"
+fn locking<'m>(words: &[u8], area: &'m [u8]) -> Request<'m> {
+    let kind = words[6];
+    let large = kind & TYPE_LARGE != 0;
+    let unlocks = usize::from(u16_at(words, 12));
+    let (unlocks, locks) = area.split_at(unlocks * range_bytes(large));
+    Request::Locking {
+        fid: u16_at(words, 4),
+        kind,
+        unlocks: Ranges {
+            bytes: unlocks,
+            large,
+        },
+        locks: Ranges {
+            bytes: locks,
+            large,
+        },
+    }
+}
+
+/// "FID 2, offset 4, max 2, min 2, timeout 4, remaining 2, offset high 4 if
+/// 12 words"
+fn read(words: &[u8]) -> Request<'static> {
+    Request::Read {
+        fid: u16_at(words, 4),
+        range: Range {
+            offset: high_and_low(high(words, 20), u32_at(words, 6)),
+            length: u16_at(words, 10).into(),
+        },
+    }
+}
+
+/// "FID 2, offset 4, timeout 4, mode 2, remaining 2, reserved 2, length 2,
+/// data offset 2, offset high 4 if 14"
+fn write<'m>(message: &'m [u8], words: &[u8]) -> Request<'m> {
+    let length = usize::from(u16_at(words, 20));
+    // DataOffset is from the header's start.
+    let start = usize::from(u16_at(words, 22));
+    Request::Write {
+        fid: u16_at(words, 4),
+        offset: high_and_low(high(words, 24), u32_at(words, 6)),
+        data: &message[start..start + length],
+    }
+}
+
+/// The upper half of an offset, 0 if the words end before it.
+fn high(words: &[u8], place: usize) -> u32 {
+    if words.len() > place {
+        u32_at(words, place)
+    } else {
+        0
+    }
+}
+
+fn high_and_low(high: u32, low: u32) -> u64 {
+    u64::from(high) << 32 | u64::from(low)
+}
+
+/// The little-endian numbers at a place.
+pub(crate) fn u16_at(bytes: &[u8], place: usize) -> u16 {
+    u16::from_le_bytes([bytes[place], bytes[place + 1]])
+}
+
+fn u32_at(bytes: &[u8], place: usize) -> u32 {
+    u32::from_le_bytes([
+        bytes[place],
+        bytes[place + 1],
+        bytes[place + 2],
+        bytes[place + 3],
+    ])
+}

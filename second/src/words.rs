@@ -1,0 +1,250 @@
+//! The tables as the host hands them over: an array of 1172 words of 64
+//! bits, and every call over it. Any words are legal; a field outside its
+//! width, in use or not, makes the tables not sound. A refused call leaves
+//! every word as it was.
+
+use crate::host;
+use crate::message;
+use crate::refusals::{CallRefusal, Outcome};
+use crate::tables::{
+    File, Lock, Open, Range, Session, Table, Tables, Tree, FILES, LOCKS, MEMORY_BYTES, OPENS,
+    SESSIONS, TREES,
+};
+
+/// The number of words.
+pub const WORDS: usize = 1
+    + SESSIONS * Session::FIELDS
+    + 1
+    + TREES * Tree::FIELDS
+    + 1
+    + OPENS * Open::FIELDS
+    + 1
+    + LOCKS * Lock::FIELDS
+    + FILES * File::FIELDS;
+
+pub type Words = [u64; WORDS];
+
+/// A record that stands in the array as so many fields, one to a word.
+trait Record: Copy + Default {
+    const FIELDS: usize;
+
+    /// None if a field is outside its width.
+    fn from_words(words: &[u64]) -> Option<Self>;
+
+    fn to_words(self, words: &mut [u64]);
+}
+
+fn narrow<T: TryFrom<u64>>(word: u64) -> Option<T> {
+    T::try_from(word).ok()
+}
+
+impl Record for Session {
+    const FIELDS: usize = 2;
+
+    fn from_words(words: &[u64]) -> Option<Self> {
+        Some(Session {
+            uid: narrow(words[0])?,
+            connection: narrow(words[1])?,
+        })
+    }
+
+    fn to_words(self, words: &mut [u64]) {
+        words.copy_from_slice(&[self.uid.into(), self.connection.into()]);
+    }
+}
+
+impl Record for Tree {
+    const FIELDS: usize = 3;
+
+    fn from_words(words: &[u64]) -> Option<Self> {
+        Some(Tree {
+            tid: narrow(words[0])?,
+            uid: narrow(words[1])?,
+            right: narrow(words[2])?,
+        })
+    }
+
+    fn to_words(self, words: &mut [u64]) {
+        words.copy_from_slice(&[self.tid.into(), self.uid.into(), self.right.into()]);
+    }
+}
+
+impl Record for Open {
+    const FIELDS: usize = 6;
+
+    fn from_words(words: &[u64]) -> Option<Self> {
+        Some(Open {
+            fid: narrow(words[0])?,
+            uid: narrow(words[1])?,
+            tid: narrow(words[2])?,
+            process: narrow(words[3])?,
+            file: narrow(words[4])?,
+            access: narrow(words[5])?,
+        })
+    }
+
+    fn to_words(self, words: &mut [u64]) {
+        words.copy_from_slice(&[
+            self.fid.into(),
+            self.uid.into(),
+            self.tid.into(),
+            self.process.into(),
+            self.file.into(),
+            self.access.into(),
+        ]);
+    }
+}
+
+impl Record for Lock {
+    const FIELDS: usize = 5;
+
+    fn from_words(words: &[u64]) -> Option<Self> {
+        Some(Lock {
+            fid: narrow(words[0])?,
+            process: narrow(words[1])?,
+            range: Range {
+                offset: words[2],
+                length: words[3],
+            },
+            shared: match words[4] {
+                0 => false,
+                1 => true,
+                _ => return None,
+            },
+        })
+    }
+
+    fn to_words(self, words: &mut [u64]) {
+        words.copy_from_slice(&[
+            self.fid.into(),
+            self.process.into(),
+            self.range.offset,
+            self.range.length,
+            self.shared.into(),
+        ]);
+    }
+}
+
+impl Record for File {
+    const FIELDS: usize = 1;
+
+    fn from_words(words: &[u64]) -> Option<Self> {
+        Some(File { size: words[0] })
+    }
+
+    fn to_words(self, words: &mut [u64]) {
+        words[0] = self.size;
+    }
+}
+
+/// Reads records from the front of `words`, which moves on behind them.
+fn take_records<T: Record>(records: &mut [T], words: &mut &[u64]) -> Option<()> {
+    let (front, rest) = words.split_at(records.len() * T::FIELDS);
+    *words = rest;
+    for (record, fields) in records.iter_mut().zip(front.chunks_exact(T::FIELDS)) {
+        *record = T::from_words(fields)?;
+    }
+    Some(())
+}
+
+fn take_table<T: Record, const N: usize>(
+    table: &mut Table<T, N>,
+    words: &mut &[u64],
+) -> Option<()> {
+    // A count that is no `usize` is above every limit.
+    table.count = narrow(words[0])?;
+    *words = &words[1..];
+    take_records(&mut table.records, words)
+}
+
+/// The tables in the words; none if a field is outside its width.
+pub fn unpack(words: &Words) -> Option<Tables> {
+    let mut words = &words[..];
+    let mut tables = Tables::empty();
+    take_table(&mut tables.sessions, &mut words)?;
+    take_table(&mut tables.trees, &mut words)?;
+    take_table(&mut tables.opens, &mut words)?;
+    take_table(&mut tables.locks, &mut words)?;
+    take_records(&mut tables.files, &mut words)?;
+    Some(tables)
+}
+
+fn put_records<T: Record>(records: &[T], words: &mut &mut [u64]) {
+    let (front, rest) = std::mem::take(words).split_at_mut(records.len() * T::FIELDS);
+    for (record, fields) in records.iter().zip(front.chunks_exact_mut(T::FIELDS)) {
+        record.to_words(fields);
+    }
+    *words = rest;
+}
+
+fn put_table<T: Record, const N: usize>(table: &Table<T, N>, words: &mut &mut [u64]) {
+    let (count, rest) = std::mem::take(words).split_at_mut(1);
+    count[0] = table.count as u64;
+    *words = rest;
+    put_records(&table.records, words);
+}
+
+/// Puts the tables into the words.
+pub fn pack(tables: &Tables, words: &mut Words) {
+    let mut words = &mut words[..];
+    put_table(&tables.sessions, &mut words);
+    put_table(&tables.trees, &mut words);
+    put_table(&tables.opens, &mut words);
+    put_table(&tables.locks, &mut words);
+    put_records(&tables.files, &mut words);
+}
+
+/// Makes a call on the tables in the words and, when it is done, puts them
+/// back.
+fn on_tables<T>(words: &mut Words, call: impl FnOnce(&mut Tables) -> Outcome<T>) -> Outcome<T> {
+    let mut tables = unpack(words).ok_or(CallRefusal::NotSound)?;
+    let value = call(&mut tables)?;
+    pack(&tables, words);
+    Ok(value)
+}
+
+pub fn add_session(words: &mut Words, connection: u32) -> Outcome<u16> {
+    on_tables(words, |tables| host::add_session(tables, connection))
+}
+
+pub fn add_tree(words: &mut Words, uid: u16, right: u8) -> Outcome<u16> {
+    on_tables(words, |tables| host::add_tree(tables, uid, right))
+}
+
+pub fn add_open(
+    words: &mut Words,
+    uid: u16,
+    tid: u16,
+    process: u32,
+    file: u8,
+    access: u8,
+) -> Outcome<u16> {
+    on_tables(words, |tables| {
+        host::add_open(tables, uid, tid, process, file, access)
+    })
+}
+
+pub fn load_file(words: &mut Words, file: u8, contents: &[u8], memory: &mut [u8]) -> Outcome<()> {
+    // Row 2 comes before row 4, so also before the words are looked at.
+    host::ensure(memory.len() == MEMORY_BYTES, CallRefusal::Room)?;
+    on_tables(words, |tables| {
+        host::load_file(tables, file, contents, memory)
+    })
+}
+
+pub fn drop_connection(words: &mut Words, connection: u32) -> Outcome<()> {
+    on_tables(words, |tables| host::drop_connection(tables, connection))
+}
+
+pub fn take_message(
+    words: &mut Words,
+    connection: u32,
+    message: &[u8],
+    memory: &mut [u8],
+    room: &mut [u8],
+) -> Outcome<usize> {
+    message::check_room(memory, room)?;
+    on_tables(words, |tables| {
+        message::take_message(tables, connection, message, memory, room)
+    })
+}

@@ -1,0 +1,241 @@
+//! Chains: replies worked out by hand, and "Sent one to a message".
+
+mod common;
+
+use common::{hex, lock, read, status, write, World};
+use second::builder::{Ask, Header};
+use second::grammar::{blocks, Block, WRITE_ANDX};
+use second::host;
+use second::rng::Rng;
+
+#[test]
+fn a_chain_of_four() {
+    let mut world = World::with_size(3);
+    let asks = [
+        lock(1, &[(7, 0, 100)]),
+        write(1, 5, &[0xAB]),
+        read(1, 2, 10),
+        Ask::Close { fid: 1 },
+    ];
+    let reply = world.ask(&asks);
+    let mut expected = hex("02 2F002700 0000");
+    expected.extend(hex("06 2E003600 0100 FFFF 00000000 0000"));
+    expected.extend(hex(
+        "0C 04005500 FFFF 0000 0000 0400 5100 00000000000000000000 0400 030000AB",
+    ));
+    expected.extend(hex("00 0000"));
+    assert_eq!(reply[32..], expected);
+    assert_eq!((reply[4], status(&reply)), (0x24, (0, 0)));
+    assert_eq!(world.tables.opens.count, 0);
+    assert_eq!(world.tables.locks.count, 0);
+    assert_eq!(world.tables.files[0].size, 6);
+    assert_eq!(world.memory[..7], [1, 2, 3, 0, 0, 0xAB, 0xEE]);
+}
+
+#[test]
+fn commands_before_a_refused_one_stand() {
+    let mut world = World::with_size(3);
+    let asks = [
+        write(1, 0, &[9]),
+        write(1, 4096, &[9]),
+        Ask::Close { fid: 1 },
+    ];
+    let reply = world.ask(&asks);
+    assert_eq!(reply[4..9], [0x2F, 3, 0, 39, 0]);
+    let expected = hex("06 2F002F00 0100 FFFF 00000000 0000 00 0000");
+    assert_eq!(reply[32..], expected);
+    assert_eq!(world.memory[0], 9);
+    assert_eq!(world.tables.opens.count, 1);
+    // The header's Command is the chain's, though the write is refused.
+    let reply = world.ask(&[lock(1, &[(8, 0, 1)]), write(1, 0, &[9])]);
+    assert_eq!(reply[4..9], [0x24, 1, 0, 33, 0]);
+    assert_eq!(reply[32..], hex("02 2F002700 0000 00 0000"));
+}
+
+#[test]
+fn headers_of_replies() {
+    let mut world = World::with_size(3);
+    let mut message = world.message(&[Ask::ProcessExit]);
+    message[5..24].fill(0xFF);
+    message[9] = 0x7F;
+    message[30..32].copy_from_slice(&[0x12, 0x34]);
+    let reply = world.take(&message).unwrap();
+    let mut expected = hex("FF534D42 11 00000000 88 0100 FFFF");
+    expected.extend([0; 10]);
+    expected.extend(hex("0100 0700 0100 1234 00 0000"));
+    assert_eq!(reply, expected);
+    message[4] = 0x72;
+    message[9] = 0x77;
+    message[10] = 0xFE;
+    let reply = world.take(&message).unwrap();
+    assert_eq!(reply[4..12], hex("72 02 00 1600 80 0000"));
+    assert_eq!(reply[32..], [0, 0, 0]);
+}
+
+/// The message with every byte changed that is in no block and not in the
+/// header, and more bytes at its end.
+fn with_other_free_bytes(message: &[u8], blocks: &[Block]) -> Vec<u8> {
+    let mut other = message.to_vec();
+    for (place, byte) in other.iter_mut().enumerate().skip(32) {
+        let mut parts = blocks.iter().map(|b| b.offset..b.offset + b.length);
+        if !parts.any(|part| part.contains(&place)) {
+            *byte ^= 0xFF;
+        }
+    }
+    other.extend([0x08, 0xFF, 0x00]);
+    other
+}
+
+#[test]
+fn free_bytes_are_free() {
+    let mut rng = Rng::new(4);
+    for _ in 0..500 {
+        let mut world = random_world(&mut rng);
+        let asks = [
+            lock(1, &[(8, rng.below(40) as u64, 3)]),
+            write(1, rng.below(40) as u64, &[7; 5]),
+            read(1, 0, 50),
+        ];
+        let mut gaps = Rng::new(rng.number());
+        let gap = &mut || gaps.below(9);
+        let chain = second::builder::message(world.header, &asks, gap, &mut || 0);
+        let read: Vec<Block> = blocks(&chain).collect::<Result<_, _>>().unwrap();
+        let mut other = World {
+            tables: world.tables.clone(),
+            memory: world.memory.clone(),
+            ..world
+        };
+        let reply = other.take(&with_other_free_bytes(&chain, &read));
+        assert_eq!(world.take(&chain), reply);
+        assert!(world.tables == other.tables && world.memory == other.memory);
+    }
+}
+
+/// The message of one block, as document 01 has it.
+fn alone(message: &[u8], block: &Block) -> Vec<u8> {
+    let mut single = message[..32].to_vec();
+    single[4] = block.command;
+    single.extend(&message[block.offset..block.offset + block.length]);
+    if [0x24, 0x2E, 0x2F, 0x74].contains(&block.command) {
+        single[33] = 0xFF;
+    }
+    if block.command == WRITE_ANDX {
+        let data_offset = u16::from_le_bytes([single[55], single[56]]);
+        let moved = (block.offset - 32) as u16;
+        single[55..57].copy_from_slice(&(data_offset - moved).to_le_bytes());
+    }
+    single
+}
+
+/// What a chain's reply must be, from the replies to its messages.
+fn joined(commands: &[u8], replies: &[Vec<u8>], chain: &[u8]) -> Vec<u8> {
+    let mut reply = replies[replies.len() - 1][..32].to_vec();
+    reply[4] = chain[4];
+    for (index, single) in replies.iter().enumerate() {
+        let start = reply.len();
+        reply.extend(&single[32..]);
+        if let (Some(command), true) = (commands.get(index + 1), index + 1 < replies.len()) {
+            let next = (reply.len() as u16).to_le_bytes();
+            reply[start + 1..start + 5].copy_from_slice(&[*command, 0, next[0], next[1]]);
+        }
+        // A READ's data offset, which counts from the header.
+        if single[32] == 12 {
+            let data = (start + 27) as u16;
+            reply[start + 13..start + 15].copy_from_slice(&data.to_le_bytes());
+        }
+    }
+    reply
+}
+
+fn random_ask(rng: &mut Rng, follows: Option<&Ask>) -> Ask {
+    let fid = 1 + rng.below(4) as u16;
+    let offset = rng.below(40) as u64;
+    let kinds: &[usize] = match follows {
+        None => &[0, 0, 1, 2, 2, 3, 4, 5, 6],
+        Some(Ask::Locking { .. }) => &[1, 2],
+        Some(Ask::Write { .. }) => &[1, 2, 2, 2, 3],
+        _ => &[3],
+    };
+    match rng.pick(kinds) {
+        0 => common::locking(
+            fid,
+            rng.pick(&[0, 1, 0x10, 0x11, 2]),
+            &[(7, offset, 4)][..rng.below(2)],
+            &[(7, offset + 1, 4), (8, offset + 5, 3)][..rng.below(3)],
+        ),
+        1 => read(fid, offset, rng.below(60) as u16),
+        2 => write(
+            fid,
+            rng.pick(&[offset, 4090]),
+            &[rng.byte(); 9][..rng.below(10)],
+        ),
+        3 => Ask::Close { fid },
+        4 => Ask::Logoff,
+        5 => Ask::TreeDisconnect,
+        _ => Ask::ProcessExit,
+    }
+}
+
+fn random_world(rng: &mut Rng) -> World {
+    let mut world = World::with_size(rng.below(60));
+    for access in [2, 2, 0, 1] {
+        let file = rng.below(2) as u8;
+        host::add_open(&mut world.tables, 1, 1, 7, file, access).unwrap();
+    }
+    for _ in 0..rng.below(4) {
+        let fid = 1 + rng.below(4) as u16;
+        let ranges = [(rng.pick(&[7, 8]), rng.below(40) as u64, 4)];
+        world.status(lock(fid, &ranges));
+    }
+    world.header = Header {
+        tid: rng.pick(&[1, 1, 1, 1, 1, 2]),
+        ..world.header
+    };
+    world
+}
+
+#[test]
+fn chains_are_their_messages_in_turn() {
+    let mut rng = Rng::new(3);
+    let mut refused = 0;
+    for _ in 0..4000 {
+        let mut world = random_world(&mut rng);
+        let mut asks = vec![random_ask(&mut rng, None)];
+        while rng.below(5) != 0
+            && matches!(
+                asks[asks.len() - 1],
+                Ask::Locking { .. } | Ask::Read { .. } | Ask::Write { .. }
+            )
+        {
+            asks.push(random_ask(&mut rng, asks.last()));
+        }
+        let mut gaps = Rng::new(rng.number());
+        let mut fill = Rng::new(rng.number());
+        let chain =
+            second::builder::message(world.header, &asks, &mut || gaps.below(3), &mut || {
+                fill.byte()
+            });
+        let read: Vec<Block> = blocks(&chain).collect::<Result<_, _>>().unwrap();
+        assert_eq!(read.len(), asks.len());
+        let mut apart = World {
+            tables: world.tables.clone(),
+            memory: world.memory.clone(),
+            ..world
+        };
+        let mut replies = Vec::new();
+        for block in &read {
+            let reply = apart.take(&alone(&chain, block)).unwrap();
+            let done = status(&reply) == (0, 0);
+            replies.push(reply);
+            if !done {
+                refused += 1;
+                break;
+            }
+        }
+        let reply = world.take(&chain).unwrap();
+        let commands: Vec<u8> = read.iter().map(|block| block.command).collect();
+        assert_eq!(reply, joined(&commands, &replies, &chain));
+        assert!(world.tables == apart.tables && world.memory == apart.memory);
+    }
+    assert!((1000..3500).contains(&refused), "{refused}");
+}

@@ -1,0 +1,137 @@
+//! A small gateway to try messages on.
+#![allow(dead_code)]
+
+use second::builder::{message, Ask, Asked, Header};
+use second::host;
+use second::message::{take_message, ROOM_BYTES};
+use second::refusals::Outcome;
+use second::tables::{Tables, MEMORY_BYTES};
+
+pub const CONNECTION: u32 = 9;
+
+pub struct World {
+    pub tables: Tables,
+    pub memory: Vec<u8>,
+    pub connection: u32,
+    pub header: Header,
+}
+
+impl World {
+    /// UID 1 on connection 9; TID 1, read/write; FID 1 of process 7, file 0,
+    /// access both. File 0 holds `size` bytes 1, 2, 3, ..., the rest 0xEE.
+    pub fn with_size(size: usize) -> World {
+        let mut tables = Tables::empty();
+        let mut memory = vec![0xEE; MEMORY_BYTES];
+        assert_eq!(host::add_session(&mut tables, CONNECTION), Ok(1));
+        assert_eq!(host::add_tree(&mut tables, 1, 1), Ok(1));
+        assert_eq!(host::add_open(&mut tables, 1, 1, 7, 0, 2), Ok(1));
+        tables.files[0].size = size as u64;
+        for (place, byte) in memory[..size].iter_mut().enumerate() {
+            *byte = (place + 1) as u8;
+        }
+        World {
+            tables,
+            memory,
+            connection: CONNECTION,
+            header: Header {
+                tid: 1,
+                pid: 7,
+                uid: 1,
+            },
+        }
+    }
+
+    /// The reply to a message, taken with the least room.
+    pub fn take(&mut self, message: &[u8]) -> Outcome<Vec<u8>> {
+        let mut room = vec![0xA5; ROOM_BYTES];
+        let length = take_message(
+            &mut self.tables,
+            self.connection,
+            message,
+            &mut self.memory,
+            &mut room,
+        )?;
+        assert!(room[length..].iter().all(|&byte| byte == 0xA5));
+        assert!(self.tables.sound());
+        room.truncate(length);
+        Ok(room)
+    }
+
+    pub fn message(&self, asks: &[Ask]) -> Vec<u8> {
+        message(self.header, asks, &mut || 0, &mut || 0)
+    }
+
+    /// The reply to a chain.
+    pub fn ask(&mut self, asks: &[Ask]) -> Vec<u8> {
+        let message = self.message(asks);
+        self.take(&message).unwrap()
+    }
+
+    /// Class and code of the reply to one request. If refused, nothing was
+    /// changed and the block is WordCount 0, ByteCount 0.
+    pub fn status(&mut self, ask: Ask) -> (u8, u16) {
+        let before = (self.tables.clone(), self.memory.clone());
+        let reply = self.ask(&[ask]);
+        let status = status(&reply);
+        if status != (0, 0) {
+            assert_eq!(reply[32..], [0, 0, 0]);
+            assert!(before == (self.tables.clone(), self.memory.clone()));
+        }
+        status
+    }
+}
+
+pub fn status(reply: &[u8]) -> (u8, u16) {
+    assert_eq!(reply[6], 0);
+    (reply[5], u16::from_le_bytes([reply[7], reply[8]]))
+}
+
+/// Locks, exclusive, in ranges of 20 bytes.
+pub fn lock(fid: u16, ranges: &[Asked]) -> Ask {
+    locking(fid, 0x10, &[], ranges)
+}
+
+pub fn share(fid: u16, ranges: &[Asked]) -> Ask {
+    locking(fid, 0x11, &[], ranges)
+}
+
+pub fn unlock(fid: u16, ranges: &[Asked]) -> Ask {
+    locking(fid, 0x10, ranges, &[])
+}
+
+pub fn locking(fid: u16, kind: u8, unlocks: &[Asked], locks: &[Asked]) -> Ask {
+    Ask::Locking {
+        fid,
+        kind,
+        unlocks: unlocks.to_vec(),
+        locks: locks.to_vec(),
+    }
+}
+
+pub fn read(fid: u16, offset: u64, max: u16) -> Ask {
+    Ask::Read {
+        fid,
+        offset,
+        max,
+        long: true,
+    }
+}
+
+pub fn write(fid: u16, offset: u64, data: &[u8]) -> Ask {
+    Ask::Write {
+        fid,
+        offset,
+        data: data.to_vec(),
+        long: true,
+        around: (0, 0),
+    }
+}
+
+/// Bytes from hex digits; spaces are free.
+pub fn hex(digits: &str) -> Vec<u8> {
+    let digits: Vec<u8> = digits.bytes().filter(|&b| b != b' ').collect();
+    digits
+        .chunks(2)
+        .map(|pair| u8::from_str_radix(std::str::from_utf8(pair).unwrap(), 16).unwrap())
+        .collect()
+}
