@@ -1,0 +1,178 @@
+#include "show.h"
+
+#include <ctype.h>
+#include <inttypes.h>
+#include <stdio.h>
+
+#define FIRST_BLOCK 32 /* the first block stands behind the header */
+#define NO_COMMAND 0xFF /* an AndXCommand that ends the chain */
+#define DUMP_WIDTH 16
+
+/* A status as it stands in a header: class at 5, 0, code at 7. */
+struct status {
+    unsigned class, code;
+    const char *words;
+};
+
+static const struct status statuses[] = {
+    {0, 0, "done"},
+    {1, 5, "access refused"},
+    {1, 6, "no open of that FID, UID and TID"},
+    {1, 8, "no lock record free"},
+    {1, 33, "lock conflict"},
+    {1, 87, "lock range passes 2^64"},
+    {1, 158, "no such lock to release"},
+    {2, 1, "not a sentence of the grammar"},
+    {2, 5, "no tree of that TID and UID"},
+    {2, 22, "command not served"},
+    {2, 91, "no session of that UID on this connection"},
+    {2, 65535, "lock type not served"},
+    {3, 39, "write would end past 4,096"},
+};
+
+struct command {
+    unsigned number;
+    const char *name;
+};
+
+static const struct command commands[] = {
+    {0x04, "CLOSE"},      {0x11, "PROCESS_EXIT"},    {0x24, "LOCKING_ANDX"}, {0x2E, "READ_ANDX"},
+    {0x2F, "WRITE_ANDX"}, {0x71, "TREE_DISCONNECT"}, {0x74, "LOGOFF_ANDX"},
+};
+
+const char *number_in_words(uint8_t number)
+{
+    switch (number) {
+    case GATEWAY_DONE:
+        return "done";
+    case GATEWAY_DROPPED:
+        return "message dropped";
+    case GATEWAY_WRONG_ROOM:
+        return "reply room or file memory of the wrong size";
+    case GATEWAY_NOT_SOUND:
+        return "tables not sound";
+    case GATEWAY_FULL:
+        return "table full";
+    case GATEWAY_NO_SUCH:
+        return "no such session or tree";
+    case GATEWAY_OUT_OF_RANGE:
+        return "number out of range";
+    case GATEWAY_EXCEEDS_RIGHT:
+        return "open would exceed its tree's right";
+    case GATEWAY_FILE_OPEN:
+        return "the file has an open";
+    }
+    return "a number that is not defined";
+}
+
+static const char *status_in_words(unsigned class, unsigned code)
+{
+    for (size_t place = 0; place < sizeof statuses / sizeof statuses[0]; place++)
+        if (statuses[place].class == class && statuses[place].code == code)
+            return statuses[place].words;
+    return "a status that is not defined";
+}
+
+static const char *command_name(unsigned number)
+{
+    for (size_t place = 0; place < sizeof commands / sizeof commands[0]; place++)
+        if (commands[place].number == number)
+            return commands[place].name;
+    return "a command that is not served";
+}
+
+static unsigned get_word(const uint8_t *bytes)
+{
+    return bytes[0] | (unsigned)bytes[1] << 8;
+}
+
+static void put_hex(const uint8_t *bytes, size_t length)
+{
+    for (size_t place = 0; place < length; place++)
+        printf(" %02X", bytes[place]);
+}
+
+static void put_text(const uint8_t *bytes, size_t length)
+{
+    for (size_t place = 0; place < length; place++)
+        putchar(isprint(bytes[place]) ? bytes[place] : '.');
+}
+
+static void show_dump(const uint8_t *bytes, size_t length)
+{
+    for (size_t start = 0; start < length; start += DUMP_WIDTH) {
+        size_t width = length - start < DUMP_WIDTH ? length - start : DUMP_WIDTH;
+        printf("    %04zx ", start);
+        put_hex(bytes + start, width);
+        printf("%*s", (int)(3 * (DUMP_WIDTH - width) + 2), "");
+        put_text(bytes + start, width);
+        putchar('\n');
+    }
+}
+
+/* Shows a block and answers where the next one stands: 0 if there is none. A block is WordCount, words, ByteCount, bytes. */
+static size_t show_block(const uint8_t *reply, size_t length, size_t start, unsigned command)
+{
+    size_t words = start < length ? reply[start] : 0;
+    size_t data = start + 1 + 2 * words + 2;
+    size_t bytes = data <= length ? get_word(reply + data - 2) : 0;
+    if (data + bytes > length) {
+        printf("  block at %zu: passes the end of the reply\n", start);
+        return 0;
+    }
+    printf("  block at %zu: %s (%02X), %zu words, %zu bytes\n", start, command_name(command), command, words, bytes);
+    if (words == 0)
+        return 0;
+    printf("    words");
+    put_hex(reply + start + 1, 2 * words);
+    putchar('\n');
+    if (bytes > 0) {
+        printf("    data at %zu: \"", data);
+        put_text(reply + data, bytes);
+        printf("\"\n");
+    }
+    size_t next = get_word(reply + start + 3);
+    return reply[start + 1] != NO_COMMAND && next > start ? next : 0;
+}
+
+/* In a reply every block with words has AndX words, which name the next block's command and place. */
+static void show_blocks(const uint8_t *reply, size_t length)
+{
+    unsigned command = reply[4];
+    size_t start = FIRST_BLOCK;
+    while (start != 0) {
+        size_t next = show_block(reply, length, start, command);
+        if (next != 0)
+            command = reply[start + 1];
+        start = next;
+    }
+}
+
+static void show_tables(const struct gateway_tables *tables)
+{
+    printf("  tables: sessions %" PRIu64 ", trees %" PRIu64 ", opens %" PRIu64 ", locks %" PRIu64 "\n",
+           tables->session_count, tables->tree_count, tables->open_count, tables->lock_count);
+}
+
+void show_frame(unsigned long place, uint32_t connection, uint32_t length)
+{
+    printf("message %lu on connection %" PRIu32 ": %" PRIu32 " bytes\n", place, connection, length);
+}
+
+void show_too_long(void)
+{
+    printf("  too long to be handed on, no reply\n");
+}
+
+void show_taken(uint8_t number, const uint8_t *reply, size_t length, const struct gateway_tables *tables)
+{
+    printf("  returned %u: %s\n", (unsigned)number, number_in_words(number));
+    if (number == GATEWAY_DONE && length >= FIRST_BLOCK) {
+        unsigned class = reply[5], code = get_word(reply + 7);
+        printf("  status %u/%u: %s\n", class, code, status_in_words(class, code));
+        show_blocks(reply, length);
+        printf("  reply, %zu bytes:\n", length);
+        show_dump(reply, length);
+    }
+    show_tables(tables);
+}

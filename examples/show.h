@@ -1,0 +1,19 @@
+/* Prints for a person what came of a message. */
+#ifndef SHOW_H
+#define SHOW_H
+
+#include "gateway.h"
+
+/* What a number returned by a call means. */
+const char *number_in_words(uint8_t number);
+
+/* A frame that was read: which one, on which connection, how long. */
+void show_frame(unsigned long place, uint32_t connection, uint32_t length);
+
+/* The frame's message was too long to be handed to the library. */
+void show_too_long(void);
+
+/* What the library returned, the reply if there is one, and how many records the tables then hold. */
+void show_taken(uint8_t number, const uint8_t *reply, size_t length, const struct gateway_tables *tables);
+
+#endif
