@@ -1,0 +1,37 @@
+//! The library's functions, as its C header declares them.
+
+#[link(name = "gateway", kind = "static")]
+extern "C" {
+    pub fn gateway_empty(tables: *mut u64);
+    pub fn gateway_add_session(tables: *mut u64, connection: u32, uid: *mut u16) -> u8;
+    pub fn gateway_add_tree(tables: *mut u64, uid: u16, right: u8, tid: *mut u16) -> u8;
+    pub fn gateway_add_open(
+        tables: *mut u64,
+        uid: u16,
+        tid: u16,
+        process: u32,
+        file: u8,
+        access: u8,
+        fid: *mut u16,
+    ) -> u8;
+    pub fn gateway_load_file(
+        tables: *mut u64,
+        file: u8,
+        contents: *const u8,
+        contents_length: usize,
+        memory: *mut u8,
+        memory_length: usize,
+    ) -> u8;
+    pub fn gateway_drop_connection(tables: *mut u64, connection: u32) -> u8;
+    pub fn gateway_take_message(
+        tables: *mut u64,
+        connection: u32,
+        message: *const u8,
+        message_length: usize,
+        memory: *mut u8,
+        memory_length: usize,
+        room: *mut u8,
+        room_length: usize,
+        reply_length: *mut usize,
+    ) -> u8;
+}

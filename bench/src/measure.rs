@@ -1,0 +1,230 @@
+//! What a call costs.
+//!
+//! Each measured call starts from the same tables: they are copied from the
+//! scene's before each call, and the cost of that copy, measured by itself in
+//! the same rounds, is taken off. The file memory is not restored: what a
+//! request writes is the same bytes each time, inside the file's size, so the
+//! first call leaves it as every later one finds it.
+//!
+//! The programs and the bare copies take turns in each round, a batch of calls
+//! at a time, so that whatever else the machine does falls on all of them. What
+//! is taken is the processor's time for this thread, which does not run while
+//! another process has the processor. The result is the median of the rounds.
+
+use crate::clock::thread_time;
+use crate::gateway;
+use crate::requests::Request;
+use crate::scene::Scene;
+use second::message::{take_message, ROOM_BYTES};
+use second::words::{self, Words};
+use std::hint::black_box;
+
+/// Least time of a batch, in nanoseconds.
+const BATCH: u64 = 300_000;
+
+/// Nanoseconds for a message, without the restoring of tables.
+pub struct Cost {
+    /// The library.
+    pub library: f64,
+    /// The second program over the same words.
+    pub words: f64,
+    /// The second program over its own tables.
+    pub own: f64,
+}
+
+/// Something that is done so many times.
+type Batch<'a> = Box<dyn FnMut(usize) + 'a>;
+
+/// What a call is lent besides the tables.
+struct Lent {
+    memory: Vec<u8>,
+    room: Vec<u8>,
+}
+
+impl Lent {
+    fn new(scene: &Scene) -> Lent {
+        Lent {
+            memory: scene.memory.clone(),
+            room: vec![0; ROOM_BYTES],
+        }
+    }
+}
+
+/// A call of the library: its number and the reply's length.
+pub fn by_library(
+    words: &mut Words,
+    connection: u32,
+    message: &[u8],
+    memory: &mut [u8],
+    room: &mut [u8],
+) -> (u8, usize) {
+    let mut length = 0;
+    // SAFETY: pointers and lengths are of slices that do not overlap.
+    let number = unsafe {
+        gateway::gateway_take_message(
+            words.as_mut_ptr(),
+            connection,
+            message.as_ptr(),
+            message.len(),
+            memory.as_mut_ptr(),
+            memory.len(),
+            room.as_mut_ptr(),
+            room.len(),
+            &mut length,
+        )
+    };
+    (number, length)
+}
+
+/// So many calls of the library, the tables restored before each.
+fn library_calls<'a>(scene: &'a Scene, message: &'a [u8]) -> impl FnMut(usize) + 'a {
+    let (mut words, mut lent) = (scene.words, Lent::new(scene));
+    move |calls| {
+        for _ in 0..calls {
+            words.copy_from_slice(black_box(&scene.words));
+            let (connection, message) = (scene.asker.connection, black_box(message));
+            let Lent { memory, room } = &mut lent;
+            black_box(by_library(&mut words, connection, message, memory, room));
+        }
+    }
+}
+
+/// So many calls of the second program over the words.
+fn words_calls<'a>(scene: &'a Scene, message: &'a [u8]) -> impl FnMut(usize) + 'a {
+    let (mut words, mut lent) = (scene.words, Lent::new(scene));
+    move |calls| {
+        for _ in 0..calls {
+            words.copy_from_slice(black_box(&scene.words));
+            let (connection, message) = (scene.asker.connection, black_box(message));
+            let Lent { memory, room } = &mut lent;
+            let taken = words::take_message(&mut words, connection, message, memory, room);
+            black_box(taken).unwrap();
+        }
+    }
+}
+
+/// So many calls of the second program over its own tables.
+fn own_calls<'a>(scene: &'a Scene, message: &'a [u8]) -> impl FnMut(usize) + 'a {
+    let (start, mut tables, mut lent) = (scene.tables(), scene.tables(), Lent::new(scene));
+    move |calls| {
+        for _ in 0..calls {
+            tables.clone_from(black_box(&start));
+            let (connection, message) = (scene.asker.connection, black_box(message));
+            let Lent { memory, room } = &mut lent;
+            let taken = take_message(&mut tables, connection, message, memory, room);
+            black_box(taken).unwrap();
+        }
+    }
+}
+
+/// So many times the words restored, and nothing else.
+fn words_restored(scene: &Scene) -> impl FnMut(usize) + '_ {
+    let mut words = scene.words;
+    move |calls| {
+        for _ in 0..calls {
+            words.copy_from_slice(black_box(&scene.words));
+            black_box(&mut words);
+        }
+    }
+}
+
+/// So many times the second program's tables restored, and nothing else.
+fn own_restored(scene: &Scene) -> impl FnMut(usize) {
+    let (start, mut tables) = (scene.tables(), scene.tables());
+    move |calls| {
+        for _ in 0..calls {
+            tables.clone_from(black_box(&start));
+            black_box(&mut tables);
+        }
+    }
+}
+
+fn time(batch: &mut dyn FnMut(usize), calls: usize) -> u64 {
+    let start = thread_time();
+    batch(calls);
+    thread_time() - start
+}
+
+/// So many calls that a batch takes long enough to be timed.
+fn calls_in_batch(batch: &mut dyn FnMut(usize)) -> usize {
+    let mut calls = 1;
+    while time(batch, calls) < BATCH {
+        calls *= 2;
+    }
+    calls
+}
+
+fn median(mut times: Vec<f64>) -> f64 {
+    times.sort_by(f64::total_cmp);
+    times[times.len() / 2]
+}
+
+/// The median time of each, in nanoseconds for one call.
+fn in_turns(rounds: usize, batches: Vec<Batch>) -> Vec<f64> {
+    let prepared = batches.into_iter().map(|mut batch| {
+        let calls = calls_in_batch(&mut batch);
+        (calls, batch, Vec::new())
+    });
+    let mut batches: Vec<_> = prepared.collect();
+    for _ in 0..rounds {
+        for (calls, batch, times) in &mut batches {
+            times.push(time(batch, *calls) as f64 / *calls as f64);
+        }
+    }
+    let times = batches.into_iter().map(|(_, _, times)| median(times));
+    times.collect()
+}
+
+/// The programs agree on the request, and its answer is the one that is to be
+/// measured.
+fn check(scene: &Scene, request: &Request) {
+    let (connection, message) = (scene.asker.connection, &request.bytes);
+    let (
+        mut words,
+        Lent {
+            mut memory,
+            mut room,
+        },
+    ) = (scene.words, Lent::new(scene));
+    let given = by_library(&mut words, connection, message, &mut memory, &mut room);
+    let (mut own, mut lent) = (scene.words, Lent::new(scene));
+    let Lent { memory: m, room: r } = &mut lent;
+    let length = words::take_message(&mut own, connection, message, m, r).unwrap();
+    let same = given == (0, length) && (words, memory, &room) == (own, lent.memory, &lent.room);
+    assert!(same, "the programs differ: {}", request.name);
+    let status = (room[5], u16::from_le_bytes([room[7], room[8]]));
+    assert_eq!(status, request.status, "{}", request.name);
+}
+
+/// A request by each program.
+pub fn cost(scene: &Scene, request: &Request, rounds: usize) -> Cost {
+    check(scene, request);
+    let message = &request.bytes;
+    let batches: Vec<Batch> = vec![
+        Box::new(library_calls(scene, message)),
+        Box::new(words_calls(scene, message)),
+        Box::new(own_calls(scene, message)),
+        Box::new(words_restored(scene)),
+        Box::new(own_restored(scene)),
+    ];
+    let times = in_turns(rounds, batches);
+    Cost {
+        library: times[0] - times[3],
+        words: times[1] - times[3],
+        own: times[2] - times[4],
+    }
+}
+
+/// Several requests by the library and by the second program over the same
+/// words, all in the same rounds, so that they can be set against each other.
+pub fn costs(scene: &Scene, requests: &[Request], rounds: usize) -> Vec<(f64, f64)> {
+    let mut batches: Vec<Batch> = vec![Box::new(words_restored(scene))];
+    for request in requests {
+        check(scene, request);
+        batches.push(Box::new(library_calls(scene, &request.bytes)));
+        batches.push(Box::new(words_calls(scene, &request.bytes)));
+    }
+    let times = in_turns(rounds, batches);
+    let net = |pair: &[f64]| (pair[0] - times[0], pair[1] - times[0]);
+    times[1..].chunks_exact(2).map(net).collect()
+}

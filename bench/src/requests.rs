@@ -1,0 +1,121 @@
+//! The requests that are measured.
+
+use crate::scene::Scene;
+use second::builder::{message, Ask, Asked};
+
+const LARGEST: usize = 8192;
+
+/// Stands in every byte that document 01 does not look at.
+const FILL: u8 = 0x5B;
+
+/// A message, and the status (class, code) with which it is answered.
+pub struct Request {
+    pub name: String,
+    pub bytes: Vec<u8>,
+    pub status: (u8, u16),
+}
+
+impl Request {
+    fn new(name: &str, scene: &Scene, asks: &[Ask]) -> Request {
+        let bytes = message(scene.asker.header, asks, &mut || 0, &mut || FILL);
+        assert!(bytes.len() <= LARGEST);
+        Request {
+            name: name.to_string(),
+            bytes,
+            status: (0, 0),
+        }
+    }
+}
+
+fn locking(scene: &Scene, unlocks: Vec<Asked>, locks: Vec<Asked>) -> Ask {
+    Ask::Locking {
+        fid: scene.asker.fid,
+        kind: 0,
+        unlocks,
+        locks,
+    }
+}
+
+/// A lock of ten bytes; where no lock record is free, one is released first.
+fn lock(scene: &Scene) -> Ask {
+    let wanted = (scene.asker.header.pid, 10, 10);
+    locking(scene, scene.to_release.into_iter().collect(), vec![wanted])
+}
+
+fn read(scene: &Scene) -> Ask {
+    Ask::Read {
+        fid: scene.asker.fid,
+        offset: 0,
+        max: 64,
+        long: false,
+    }
+}
+
+fn write(scene: &Scene, length: usize) -> Ask {
+    Ask::Write {
+        fid: scene.asker.fid,
+        offset: 0,
+        data: vec![b'w'; length],
+        long: false,
+        around: (0, 0),
+    }
+}
+
+fn close(scene: &Scene) -> Ask {
+    Ask::Close {
+        fid: scene.asker.fid,
+    }
+}
+
+/// A chain of writes of so many bytes each.
+pub fn writes(scene: &Scene, blocks: usize, length: usize) -> Request {
+    Request::new("WRITE chain", scene, &vec![write(scene, length); blocks])
+}
+
+/// The chain of most blocks that a message can hold: 303 in 8,187 bytes.
+fn longest(scene: &Scene) -> Request {
+    let mut asks = vec![locking(scene, Vec::new(), Vec::new())];
+    asks.extend(vec![write(scene, 0); 301]);
+    asks.push(close(scene));
+    Request::new("longest chain, 303 blocks", scene, &asks)
+}
+
+/// The request of most ranges: 814. Each is looked at, against every lock
+/// held and every range before it, and then there are not records enough.
+fn most_ranges(scene: &Scene) -> Request {
+    let pid = scene.asker.header.pid;
+    let ranges = (0..814).map(|place| (pid, 10_000 + 20 * place, 10));
+    let asks = [locking(scene, Vec::new(), ranges.collect())];
+    Request {
+        status: (1, 8),
+        ..Request::new("LOCKING, 814 ranges (refused 1/8)", scene, &asks)
+    }
+}
+
+/// Refused 2/1 at its last block, after all of them were read.
+fn spoilt(scene: &Scene) -> Request {
+    let mut request = longest(scene);
+    request.name = "longest chain, last block spoilt (2/1)".to_string();
+    let last = request.bytes.len() - 9;
+    request.bytes[last] = 1;
+    request.status = (2, 1);
+    request
+}
+
+pub fn all(scene: &Scene) -> Vec<Request> {
+    let (lock, read, write) = (lock(scene), read(scene), write(scene, 64));
+    let made = |name: &str, asks: &[Ask]| Request::new(name, scene, asks);
+    vec![
+        made("LOCKING", std::slice::from_ref(&lock)),
+        made("READ, 64 bytes", std::slice::from_ref(&read)),
+        made("WRITE, 64 bytes", &[write]),
+        made("CLOSE", &[close(scene)]),
+        made("LOGOFF", &[Ask::Logoff]),
+        made("TREE_DISCONNECT", &[Ask::TreeDisconnect]),
+        made("PROCESS_EXIT", &[Ask::ProcessExit]),
+        made("LOCKING + READ", &[lock, read]),
+        longest(scene),
+        spoilt(scene),
+        most_ranges(scene),
+    ]
+}

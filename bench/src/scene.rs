@@ -1,0 +1,148 @@
+//! The states that requests are measured on. In each the one who asks is the
+//! last terminal added, so that a search for its records goes through all of
+//! them.
+
+use second::builder::{message, Ask, Asked, Header};
+use second::tables::{Tables, FILES, FILE_BYTES, MEMORY_BYTES};
+use second::words::{
+    add_open, add_session, add_tree, load_file, take_message, unpack, Words, WORDS,
+};
+
+const PROCESS: u16 = 7;
+
+/// An open and who has it.
+#[derive(Clone, Copy, Default)]
+pub struct Asker {
+    pub connection: u32,
+    pub header: Header,
+    pub fid: u16,
+}
+
+pub struct Scene {
+    pub name: &'static str,
+    pub words: Words,
+    pub memory: Vec<u8>,
+    pub asker: Asker,
+    /// A lock that the asker holds, if the lock table is full.
+    pub to_release: Option<Asked>,
+    room: Vec<u8>,
+}
+
+impl Scene {
+    /// Every file full, no record.
+    fn new(name: &'static str) -> Scene {
+        let mut scene = Scene {
+            name,
+            words: [0; WORDS],
+            memory: vec![0; MEMORY_BYTES],
+            asker: Asker::default(),
+            to_release: None,
+            room: vec![0; 12_292],
+        };
+        for file in 0..FILES as u8 {
+            let contents = vec![b'a' + file; FILE_BYTES];
+            load_file(&mut scene.words, file, &contents, &mut scene.memory).unwrap();
+        }
+        scene
+    }
+
+    pub fn tables(&self) -> Tables {
+        unpack(&self.words).unwrap()
+    }
+
+    fn session(&mut self, connection: u32) {
+        self.asker.connection = connection;
+        self.asker.header.uid = add_session(&mut self.words, connection).unwrap();
+        self.asker.header.pid = PROCESS;
+    }
+
+    fn tree(&mut self) {
+        self.asker.header.tid = add_tree(&mut self.words, self.asker.header.uid, 1).unwrap();
+    }
+
+    fn open(&mut self, file: u8) {
+        let Header { uid, tid, pid } = self.asker.header;
+        self.asker.fid = add_open(&mut self.words, uid, tid, pid.into(), file, 2).unwrap();
+    }
+
+    /// Takes exclusive locks through the asker's open.
+    fn lock(&mut self, locks: Vec<Asked>) {
+        let ask = Ask::Locking {
+            fid: self.asker.fid,
+            kind: 0,
+            unlocks: Vec::new(),
+            locks,
+        };
+        let message = message(self.asker.header, &[ask], &mut || 0, &mut || 0);
+        let (words, memory) = (&mut self.words, &mut self.memory);
+        take_message(
+            words,
+            self.asker.connection,
+            &message,
+            memory,
+            &mut self.room,
+        )
+        .unwrap();
+        assert_eq!(self.room[5..9], [0; 4], "a lock of the scene was refused");
+    }
+}
+
+/// Ten bytes at a place of their own, above those that requests touch.
+fn range(place: u64) -> Asked {
+    (PROCESS, 1000 + 20 * place, 10)
+}
+
+/// One terminal that holds no lock.
+fn empty() -> Scene {
+    let mut scene = Scene::new("empty");
+    scene.session(100);
+    scene.tree();
+    scene.open(0);
+    scene
+}
+
+/// Four terminals. Each has a file of its own open and file 0, in which it
+/// holds three locks.
+fn typical() -> Scene {
+    let mut scene = Scene::new("typical");
+    for terminal in 0..4 {
+        scene.session(100 + terminal);
+        scene.tree();
+        scene.open(1 + terminal as u8);
+        scene.open(0);
+        let first = 3 * u64::from(terminal);
+        scene.lock((first..first + 3).map(range).collect());
+    }
+    scene
+}
+
+/// Every table full: 16 sessions with two trees each, two opens to a tree,
+/// two locks to an open; four opens and eight locks to a file.
+fn full() -> Scene {
+    let mut scene = Scene::new("full");
+    for open in 0..64 {
+        if open % 4 == 0 {
+            scene.session(100 + open / 4);
+        }
+        if open % 2 == 0 {
+            scene.tree();
+        }
+        scene.open((open % 16) as u8);
+        let first = 2 * u64::from(open);
+        scene.lock(vec![range(first), range(first + 1)]);
+    }
+    scene.to_release = Some(range(127));
+    scene
+}
+
+pub fn all() -> [Scene; 3] {
+    let scenes = [empty(), typical(), full()];
+    let counts = scenes.each_ref().map(|scene| {
+        let tables = scene.tables();
+        let (sessions, trees) = (tables.sessions.count, tables.trees.count);
+        (sessions, trees, tables.opens.count, tables.locks.count)
+    });
+    let expected = [(1, 1, 1, 0), (4, 4, 8, 12), (16, 32, 64, 128)];
+    assert_eq!(counts, expected, "sessions, trees, opens, locks");
+    scenes
+}
