@@ -2,6 +2,7 @@
 // files.
 
 use locks::answer::answering;
+use locks::range::overlap;
 use locks::range::passes_end;
 use locks::types::Ask;
 use locks::types::Purpose;
@@ -53,10 +54,13 @@ fn asked_of(m: Lock) -> Ask
     }
 }
 
-// Whether two locks may stand together.
+// Whether two locks may stand together. The overlap is tested first: of 128 locks there are 8,128 pairs, and most do not touch.
 fn agreeing(files: &[u8; 65], l: Lock, m: Lock) -> bool
     ensures { λ r. ⌜ r ≡ agree (fileIn (now (files .entry))) l m ⌝ }
 {
+    if !overlap(l.offset, l.length, m.offset, m.length) {
+        return true;
+    }
     !answering(files, asked_of(m), l)
 }
 
