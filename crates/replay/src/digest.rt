@@ -1,0 +1,53 @@
+// A digest of numbers: a polynomial in 257, modulo the largest prime below 2^32.
+
+use records::Tables;
+use words::pack::pack;
+ghost use mathlib.Core.Path.{_≡_};
+ghost use Prim.Native.Nat.{_<_};
+ghost use Rattle.words.specs.Words.{packed};
+ghost use Rattle.replay.specs.Digest.{digest};
+
+const PRIME: u64 = 4294967291;
+
+// Numbers added to a digest.
+fn digest_words(start: u64, words: &[u64]) -> u64
+    requires { ⌜ start < 4294967291 ⌝ }
+    ensures { λ r. ⌜ (r ≡ digest start (now (words .entry))) × (r < 4294967291) ⌝ }
+{
+    let mut d = start;
+    let mut i: usize = 0;
+    while i < words.len() {
+        d = (d * 257 + words[i] % PRIME + 1) % PRIME;
+        i += 1;
+    }
+    d
+}
+
+fn wide(x: u8) -> u64
+    ensures { λ r. ⌜ r ≡ x ⌝ }
+{
+    x as u64
+}
+
+// Bytes added to a digest.
+fn digest_bytes(start: u64, bytes: &[u8]) -> u64
+    requires { ⌜ start < 4294967291 ⌝ }
+    ensures { λ r. ⌜ r ≡ digest start (now (bytes .entry)) ⌝ }
+{
+    let mut d = start;
+    let mut i: usize = 0;
+    while i < bytes.len() {
+        d = (d * 257 + wide(bytes[i]) % PRIME + 1) % PRIME;
+        i += 1;
+    }
+    d
+}
+
+// The words of the tables, then the file memory.
+pub(crate) fn state_digest(tables: Tables, memory: &[u8]) -> u64
+    ensures { λ r. ⌜ r ≡ digest (digest 0 (packed tables)) (now (memory .entry)) ⌝ }
+{
+    let mut words = [0u64; 1172];
+    pack(tables, &mut words);
+    digest_bytes(digest_words(0, &words), memory)
+}

@@ -1,0 +1,152 @@
+// One call of a history. It begins with its kind; numbers are little-endian:
+//   1 add a session: connection 4
+//   2 add a tree: UID 2, right 1
+//   3 add an open: UID 2, TID 2, process 4, file 1, access 1
+//   4 load a file: file 1, length 2, the bytes
+//   5 drop a connection: connection 4
+//   6 take a message: connection 4, length 2, the bytes
+// Any other byte is passed over. What stands behind the end reads as 0, and bytes are cut there.
+
+use crate::digest::state_digest;
+use crate::line::put_line;
+use host::add::add_open;
+use host::add::add_session;
+use host::add::add_tree;
+use host::answer::Answer;
+use host::drop::drop_connection;
+use host::load::load_file;
+use numbers::number::at_most;
+use records::Tables;
+use server::call::take_message;
+use wire::byte_at;
+use wire::le16_at;
+use wire::le32_at;
+ghost use mathlib.Core.Path.{_≡_};
+ghost use Prim.Native.Nat.{_≤_, _<_};
+ghost use lib.ListN.{length};
+
+// What a call left: the tables, where the next one stands, and how long its line is.
+pub(crate) struct Step {
+    pub tables: Tables,
+    pub next: usize,
+    pub length: usize,
+}
+
+// A host call carried out, and its line.
+fn host_step(a: Answer, next: usize, memory: &[u8], text: &mut [u8]) -> Step
+    ensures { λ r. ⌜ (r .next ≡ next) × (r .length ≤ length (now (text .exit))) ⌝ }
+{
+    let left = a.tables;
+    let digest = state_digest(left, memory) as usize;
+    let length = put_line(text, a.number, a.id as usize, b"", digest);
+    Step {
+        tables: left,
+        next,
+        length,
+    }
+}
+
+// A load: the file's number, then its bytes.
+fn load_step(s: &[u8], at: usize, tables: Tables, memory: &mut [u8], text: &mut [u8]) -> Step
+    requires { ⌜ at < length (now s) ⌝ }
+    requires { ⌜ length (now s) ≤ 262144 ⌝ }
+    ensures { λ r. ⌜ (at < r .next) × (r .length ≤ length (now (text .exit))) ⌝ }
+{
+    let next = at + 4 + le16_at(s, at + 2) as usize;
+    let to = at_most(next, s.len());
+    let from = at_most(at + 4, to);
+    let a = load_file(tables, byte_at(s, at + 1), &s[from..to], memory);
+    host_step(a, next, memory, text)
+}
+
+// A message: its connection, then its bytes.
+fn message_step(
+    s: &[u8],
+    at: usize,
+    tables: Tables,
+    memory: &mut [u8],
+    room: &mut [u8],
+    text: &mut [u8],
+) -> Step
+    requires { ⌜ at < length (now s) ⌝ }
+    requires { ⌜ length (now s) ≤ 262144 ⌝ }
+    ensures { λ r. ⌜ (at < r .next) × (r .length ≤ length (now (text .exit))) ⌝ }
+{
+    let next = at + 7 + le16_at(s, at + 5) as usize;
+    let to = at_most(next, s.len());
+    let from = at_most(at + 7, to);
+    let taken = take_message(le32_at(s, at + 1), &s[from..to], tables, memory, room);
+    let left = taken.tables;
+    let digest = state_digest(left, memory) as usize;
+    let size = at_most(taken.length, room.len());
+    let length = put_line(text, taken.number, taken.length, &room[..size], digest);
+    Step {
+        tables: left,
+        next,
+        length,
+    }
+}
+
+// An open: UID, TID, process, file and access.
+fn open_step(s: &[u8], at: usize, tables: Tables, memory: &[u8], text: &mut [u8]) -> Step
+    requires { ⌜ at < length (now s) ⌝ }
+    requires { ⌜ length (now s) ≤ 262144 ⌝ }
+    ensures { λ r. ⌜ (at < r .next) × (r .length ≤ length (now (text .exit))) ⌝ }
+{
+    let uid = le16_at(s, at + 1);
+    let tid = le16_at(s, at + 3);
+    let process = le32_at(s, at + 5);
+    let a = add_open(
+        tables,
+        uid,
+        tid,
+        process,
+        byte_at(s, at + 9),
+        byte_at(s, at + 10),
+    );
+    host_step(a, at + 11, memory, text)
+}
+
+// The call that stands at a place of the history.
+pub(crate) fn play(
+    s: &[u8],
+    at: usize,
+    tables: Tables,
+    memory: &mut [u8],
+    room: &mut [u8],
+    text: &mut [u8],
+) -> Step
+    requires { ⌜ at < length (now s) ⌝ }
+    requires { ⌜ length (now s) ≤ 262144 ⌝ }
+    ensures { λ r. ⌜ (at < r .next) × (r .length ≤ length (now (text .exit))) ⌝ }
+{
+    let kind = byte_at(s, at);
+    match kind {
+        1 => host_step(
+            add_session(tables, le32_at(s, at + 1)),
+            at + 5,
+            memory,
+            text,
+        ),
+        2 => host_step(
+            add_tree(tables, le16_at(s, at + 1), byte_at(s, at + 3)),
+            at + 4,
+            memory,
+            text,
+        ),
+        3 => open_step(s, at, tables, memory, text),
+        4 => load_step(s, at, tables, memory, text),
+        5 => host_step(
+            drop_connection(tables, le32_at(s, at + 1)),
+            at + 5,
+            memory,
+            text,
+        ),
+        6 => message_step(s, at, tables, memory, room, text),
+        _ => Step {
+            tables,
+            next: at + 1,
+            length: 0,
+        },
+    }
+}

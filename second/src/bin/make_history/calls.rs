@@ -1,0 +1,255 @@
+//! A call, its bytes in a history, and the line of its answer.
+
+use second::message::ROOM_BYTES;
+use second::refusals::{number, Outcome};
+use second::tables::MEMORY_BYTES;
+use second::words::{self, Words, WORDS};
+
+/// The digest counts modulo this prime.
+const P: u64 = 4_294_967_291;
+
+#[derive(Clone, Debug, PartialEq, Eq)]
+pub enum Call {
+    AddSession {
+        connection: u32,
+    },
+    AddTree {
+        uid: u16,
+        right: u8,
+    },
+    AddOpen {
+        uid: u16,
+        tid: u16,
+        process: u32,
+        file: u8,
+        access: u8,
+    },
+    Load {
+        file: u8,
+        contents: Vec<u8>,
+    },
+    Drop {
+        connection: u32,
+    },
+    Take {
+        connection: u32,
+        message: Vec<u8>,
+    },
+}
+
+impl Call {
+    /// Puts the call's bytes behind a history.
+    pub fn encode(&self, history: &mut Vec<u8>) {
+        match self {
+            Call::AddSession { connection } => {
+                history.push(1);
+                history.extend(connection.to_le_bytes());
+            }
+            Call::AddTree { uid, right } => {
+                history.push(2);
+                history.extend(uid.to_le_bytes());
+                history.push(*right);
+            }
+            Call::AddOpen {
+                uid,
+                tid,
+                process,
+                file,
+                access,
+            } => {
+                history.push(3);
+                history.extend(uid.to_le_bytes());
+                history.extend(tid.to_le_bytes());
+                history.extend(process.to_le_bytes());
+                history.extend([*file, *access]);
+            }
+            Call::Load { file, contents } => {
+                history.extend([4, *file]);
+                put_counted(history, contents);
+            }
+            Call::Drop { connection } => {
+                history.push(5);
+                history.extend(connection.to_le_bytes());
+            }
+            Call::Take {
+                connection,
+                message,
+            } => {
+                history.push(6);
+                history.extend(connection.to_le_bytes());
+                put_counted(history, message);
+            }
+        }
+    }
+
+    /// Reads a call from the front of a history, which moves on behind it.
+    pub fn decode(history: &mut &[u8]) -> Option<Call> {
+        let [kind] = take_array(history)?;
+        Some(match kind {
+            1 => Call::AddSession {
+                connection: take_u32(history)?,
+            },
+            2 => Call::AddTree {
+                uid: take_u16(history)?,
+                right: take_u8(history)?,
+            },
+            3 => Call::AddOpen {
+                uid: take_u16(history)?,
+                tid: take_u16(history)?,
+                process: take_u32(history)?,
+                file: take_u8(history)?,
+                access: take_u8(history)?,
+            },
+            4 => Call::Load {
+                file: take_u8(history)?,
+                contents: take_counted(history)?,
+            },
+            5 => Call::Drop {
+                connection: take_u32(history)?,
+            },
+            6 => Call::Take {
+                connection: take_u32(history)?,
+                message: take_counted(history)?,
+            },
+            _ => return None,
+        })
+    }
+}
+
+/// A 16-bit length, then the bytes.
+fn put_counted(history: &mut Vec<u8>, bytes: &[u8]) {
+    let length = u16::try_from(bytes.len()).expect("a length of 16 bits");
+    history.extend(length.to_le_bytes());
+    history.extend(bytes);
+}
+
+fn take_array<const N: usize>(history: &mut &[u8]) -> Option<[u8; N]> {
+    let (front, rest) = history.split_first_chunk()?;
+    *history = rest;
+    Some(*front)
+}
+
+fn take_u8(history: &mut &[u8]) -> Option<u8> {
+    take_array(history).map(u8::from_le_bytes)
+}
+
+fn take_u16(history: &mut &[u8]) -> Option<u16> {
+    take_array(history).map(u16::from_le_bytes)
+}
+
+fn take_u32(history: &mut &[u8]) -> Option<u32> {
+    take_array(history).map(u32::from_le_bytes)
+}
+
+fn take_counted(history: &mut &[u8]) -> Option<Vec<u8>> {
+    let length = usize::from(take_u16(history)?);
+    let (front, rest) = history.split_at_checked(length)?;
+    *history = rest;
+    Some(front.to_vec())
+}
+
+/// What a call gave.
+#[derive(Clone, Debug, PartialEq, Eq)]
+pub struct Answer {
+    /// The number returned.
+    pub number: u8,
+    /// The number given out by an add, or the reply's length; else 0.
+    pub value: usize,
+    pub reply: Vec<u8>,
+}
+
+impl Answer {
+    fn of_add(outcome: Outcome<u16>) -> Answer {
+        Answer {
+            number: number(&outcome),
+            value: outcome.map_or(0, usize::from),
+            reply: Vec::new(),
+        }
+    }
+
+    fn of_other(outcome: Outcome<()>) -> Answer {
+        Answer {
+            number: number(&outcome),
+            value: 0,
+            reply: Vec::new(),
+        }
+    }
+
+    fn of_message(outcome: Outcome<usize>, room: &[u8]) -> Answer {
+        let number = number(&outcome);
+        let value = outcome.unwrap_or(0);
+        Answer {
+            number,
+            value,
+            reply: room[..value].to_vec(),
+        }
+    }
+}
+
+/// All that is carried from call to call.
+#[derive(Clone)]
+pub struct State {
+    pub words: Words,
+    pub memory: Vec<u8>,
+    room: Vec<u8>,
+}
+
+impl State {
+    /// Empty tables and zeros.
+    pub fn new() -> State {
+        State {
+            words: [0; WORDS],
+            memory: vec![0; MEMORY_BYTES],
+            room: vec![0; ROOM_BYTES],
+        }
+    }
+
+    pub fn make(&mut self, call: &Call) -> Answer {
+        let State {
+            words,
+            memory,
+            room,
+        } = self;
+        match *call {
+            Call::AddSession { connection } => {
+                Answer::of_add(words::add_session(words, connection))
+            }
+            Call::AddTree { uid, right } => Answer::of_add(words::add_tree(words, uid, right)),
+            Call::AddOpen {
+                uid,
+                tid,
+                process,
+                file,
+                access,
+            } => Answer::of_add(words::add_open(words, uid, tid, process, file, access)),
+            Call::Load { file, ref contents } => {
+                Answer::of_other(words::load_file(words, file, contents, memory))
+            }
+            Call::Drop { connection } => {
+                Answer::of_other(words::drop_connection(words, connection))
+            }
+            Call::Take {
+                connection,
+                ref message,
+            } => {
+                let outcome = words::take_message(words, connection, message, memory, room);
+                Answer::of_message(outcome, room)
+            }
+        }
+    }
+
+    /// The digest of the words and the file memory.
+    pub fn digest(&self) -> u64 {
+        let bytes = self.memory.iter().map(|&byte| u64::from(byte));
+        let all = self.words.iter().copied().chain(bytes);
+        all.fold(0, |d, x| (d * 257 + x % P + 1) % P)
+    }
+
+    /// The line of an answer, this being the state after it: `NUMBER VALUE
+    /// REPLYHEX DIGEST`, the reply in upper-case hex, the others decimal.
+    pub fn line(&self, answer: &Answer) -> String {
+        let hex: String = answer.reply.iter().map(|b| format!("{b:02X}")).collect();
+        let Answer { number, value, .. } = answer;
+        format!("{number} {value} {hex} {}\n", self.digest())
+    }
+}

@@ -1,0 +1,233 @@
+//! Makes the calls one by one, keeping the history and its lines.
+
+use crate::calls::{Answer, Call, State};
+use crate::tally::{status, Tally};
+use second::builder::{self, Ask, Asked, Header};
+use second::refusals::WireRefusal;
+use second::rng::Rng;
+use second::tables::Tables;
+use second::words::unpack;
+
+/// Who sends a message: its connection and the header's numbers.
+#[derive(Clone, Copy, Debug, PartialEq, Eq)]
+pub struct User {
+    pub connection: u32,
+    pub uid: u16,
+    pub tid: u16,
+    pub pid: u16,
+}
+
+pub struct Maker {
+    state: State,
+    pub rng: Rng,
+    pub history: Vec<u8>,
+    pub lines: String,
+    pub calls: usize,
+    pub tally: Tally,
+    /// What went otherwise than the plan says.
+    pub complaints: Vec<String>,
+}
+
+impl Maker {
+    pub fn new() -> Maker {
+        Maker {
+            state: State::new(),
+            rng: Rng::new(0x5348_4946_5431),
+            history: Vec::new(),
+            lines: String::new(),
+            calls: 0,
+            tally: Tally::default(),
+            complaints: Vec::new(),
+        }
+    }
+
+    /// The tables as they are now.
+    pub fn tables(&self) -> Tables {
+        unpack(&self.state.words).expect("sound tables")
+    }
+
+    /// Makes a call and keeps it with its line.
+    pub fn call(&mut self, call: Call) -> Answer {
+        let before = (self.tables(), self.state.memory.clone());
+        let answer = self.state.make(&call);
+        call.encode(&mut self.history);
+        self.lines += &self.state.line(&answer);
+        self.calls += 1;
+        let after = self.tables();
+        if !after.sound() {
+            self.complain("tables not sound", &call, &answer);
+        }
+        let unchanged = before.0 == after && before.1 == self.state.memory;
+        // A reply of 35 bytes with a Status is that of a first command.
+        let refused = status(&answer.reply) != (0, 0) && answer.value == 35;
+        if (answer.number != 0 || refused) && !unchanged {
+            self.complain("a refusal changed something", &call, &answer);
+        }
+        self.tally
+            .note(&call, &answer, &before.0, &after, unchanged);
+        answer
+    }
+
+    fn complain(&mut self, text: &str, call: &Call, answer: &Answer) {
+        let number = self.calls;
+        let answer = (answer.number, answer.value, status(&answer.reply));
+        self.complaints
+            .push(format!("{text}: call {number}, {call:?}, {answer:?}"));
+    }
+
+    /// Makes a host's call that must return the number.
+    pub fn host(&mut self, call: Call, number: u8) -> u16 {
+        let answer = self.call(call.clone());
+        if answer.number != number {
+            self.complain("another number", &call, &answer);
+        }
+        answer.value as u16
+    }
+
+    pub fn session(&mut self, connection: u32) -> u16 {
+        self.host(Call::AddSession { connection }, 0)
+    }
+
+    pub fn tree(&mut self, uid: u16, right: u8) -> u16 {
+        self.host(Call::AddTree { uid, right }, 0)
+    }
+
+    /// A new session with a new tree.
+    pub fn user(&mut self, connection: u32, right: u8, pid: u16) -> User {
+        let uid = self.session(connection);
+        User {
+            connection,
+            uid,
+            tid: self.tree(uid, right),
+            pid,
+        }
+    }
+
+    /// A new open of the user's process.
+    pub fn open(&mut self, user: User, file: u8, access: u8) -> u16 {
+        let process = user.pid.into();
+        self.host(open_call(user, process, file, access), 0)
+    }
+
+    pub fn load(&mut self, file: u8, size: usize) {
+        let contents = self.rng.bytes(size);
+        self.host(Call::Load { file, contents }, 0);
+    }
+
+    pub fn drop_connection(&mut self, connection: u32) {
+        self.host(Call::Drop { connection }, 0);
+    }
+
+    pub fn take(&mut self, connection: u32, message: Vec<u8>) -> Answer {
+        self.call(Call::Take {
+            connection,
+            message,
+        })
+    }
+
+    /// A message of the user, with free bytes between the blocks and free
+    /// fields of any content.
+    pub fn message(&mut self, user: User, asks: &[Ask]) -> Vec<u8> {
+        let mut gaps = Rng::new(self.rng.number());
+        let mut fill = Rng::new(self.rng.number());
+        let numbers = Header {
+            tid: user.tid,
+            pid: user.pid,
+            uid: user.uid,
+        };
+        let mut gap = || gaps.below(3) * gaps.below(3);
+        builder::message(numbers, asks, &mut gap, &mut || fill.byte())
+    }
+
+    /// Sends a message whose answer is not foretold.
+    pub fn send(&mut self, user: User, asks: &[Ask]) -> Answer {
+        let message = self.message(user, asks);
+        self.take(user.connection, message)
+    }
+
+    /// Sends a message that must be done whole.
+    pub fn done(&mut self, user: User, asks: &[Ask]) -> Answer {
+        let message = self.message(user, asks);
+        self.take_for(user.connection, message, (0, 0))
+    }
+
+    /// Sends a message that must be refused so.
+    pub fn refused(&mut self, user: User, asks: &[Ask], refusal: WireRefusal) -> Answer {
+        let message = self.message(user, asks);
+        self.take_for(user.connection, message, refusal.class_and_code())
+    }
+
+    /// Takes a message whose reply must have the Status.
+    pub fn take_for(&mut self, connection: u32, message: Vec<u8>, wanted: (u8, u16)) -> Answer {
+        let answer = self.take(connection, message.clone());
+        if answer.number != 0 || status(&answer.reply) != wanted {
+            let call = Call::Take {
+                connection,
+                message,
+            };
+            self.complain(&format!("not {wanted:?}"), &call, &answer);
+        }
+        answer
+    }
+
+    /// Takes a message that must be dropped.
+    pub fn dropped(&mut self, connection: u32, message: Vec<u8>) {
+        let call = Call::Take {
+            connection,
+            message,
+        };
+        self.host(call, 1);
+    }
+}
+
+pub fn open_call(user: User, process: u32, file: u8, access: u8) -> Call {
+    Call::AddOpen {
+        uid: user.uid,
+        tid: user.tid,
+        process,
+        file,
+        access,
+    }
+}
+
+pub fn locking(fid: u16, kind: u8, unlocks: &[Asked], locks: &[Asked]) -> Ask {
+    Ask::Locking {
+        fid,
+        kind,
+        unlocks: unlocks.to_vec(),
+        locks: locks.to_vec(),
+    }
+}
+
+/// 12 words if the offset needs them, else 10.
+pub fn read(fid: u16, offset: u64, max: u16) -> Ask {
+    Ask::Read {
+        fid,
+        offset,
+        max,
+        long: offset >> 32 != 0,
+    }
+}
+
+/// 14 words if the offset needs them, else 12.
+pub fn write(fid: u16, offset: u64, data: &[u8]) -> Ask {
+    Ask::Write {
+        fid,
+        offset,
+        data: data.to_vec(),
+        long: offset >> 32 != 0,
+        around: (0, 0),
+    }
+}
+
+/// The same with the longer form of words or ranges.
+pub fn lengthened(ask: &Ask) -> Ask {
+    let mut ask = ask.clone();
+    match &mut ask {
+        Ask::Locking { kind, .. } => *kind |= 0x10,
+        Ask::Read { long, .. } => *long = true,
+        Ask::Write { long, around, .. } => (*long, *around) = (true, (3, 2)),
+        _ => {}
+    }
+    ask
+}

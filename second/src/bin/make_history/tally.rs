@@ -1,0 +1,354 @@
+//! Counts what a history reaches, and tells what it must reach.
+
+use crate::calls::{Answer, Call};
+use second::grammar::{
+    Block, Why, CLOSE, LOCKING_ANDX, LOGOFF_ANDX, PROCESS_EXIT, READ_ANDX, SERVED, TREE_DISCONNECT,
+    WRITE_ANDX,
+};
+use second::listing::{self, Dropped};
+use second::refusals::WireRefusal;
+use second::reply::header_numbers;
+use second::request::Request;
+use second::tables::{Tables, FILE_BYTES, LOCKS, OPENS, SESSIONS, TREES};
+use std::collections::{BTreeMap, BTreeSet};
+
+/// The successions of "May be followed by".
+pub const SUCCESSIONS: [(u8, u8); 6] = [
+    (LOCKING_ANDX, READ_ANDX),
+    (LOCKING_ANDX, WRITE_ANDX),
+    (READ_ANDX, CLOSE),
+    (WRITE_ANDX, WRITE_ANDX),
+    (WRITE_ANDX, READ_ANDX),
+    (WRITE_ANDX, CLOSE),
+];
+
+/// The numbers that these calls can return, on sound tables.
+const NUMBERS: [u8; 7] = [0, 1, 5, 6, 7, 8, 9];
+
+/// Single things to be reached, with the least count.
+const SINGLE: [(&str, usize); 31] = [
+    ("add a session: 5", 3),
+    ("add a tree: 5", 3),
+    ("add a tree: 6", 3),
+    ("add a tree: 7", 3),
+    ("add an open: 5", 3),
+    ("add an open: 6", 3),
+    ("add an open: 7", 3),
+    ("add an open: 8", 3),
+    ("load a file: 0", 10),
+    ("load a file: 7", 3),
+    ("load a file: 9", 3),
+    ("drop a known connection: 0", 3),
+    ("drop an unknown connection: 0", 3),
+    ("UID used again", 5),
+    ("TID used again", 5),
+    ("FID used again", 20),
+    ("16 sessions held", 1),
+    ("32 trees held", 1),
+    ("64 opens held", 1),
+    ("128 locks held", 5),
+    ("read of 0 bytes", 3),
+    ("read of fewer bytes than asked", 5),
+    ("read of 4096 bytes", 1),
+    ("write of 0 bytes", 5),
+    ("write over a gap", 3),
+    ("write that ends at 4096", 3),
+    ("lock of length 0", 5),
+    ("lock that ends at 2^64", 3),
+    ("locks removed with an open", 5),
+    ("open left by process exit for its high half", 1),
+    ("chain refused behind a command that stands", 10),
+];
+
+#[derive(Default)]
+pub struct Tally {
+    counts: BTreeMap<String, usize>,
+    /// The numbers given out so far, by kind of number.
+    given: BTreeSet<(&'static str, usize)>,
+}
+
+impl Tally {
+    fn count(&mut self, thing: impl Into<String>) {
+        *self.counts.entry(thing.into()).or_default() += 1;
+    }
+
+    fn count_if(&mut self, holds: bool, thing: &str) {
+        if holds {
+            self.count(thing);
+        }
+    }
+
+    /// Counts what a call reached.
+    pub fn note(
+        &mut self,
+        call: &Call,
+        answer: &Answer,
+        before: &Tables,
+        after: &Tables,
+        unchanged: bool,
+    ) {
+        self.count(format!("number {}", answer.number));
+        self.note_full(after);
+        match call {
+            Call::AddSession { .. } => self.note_add("a session", "UID", answer),
+            Call::AddTree { right, .. } => {
+                self.note_add("a tree", "TID", answer);
+                self.count_if(answer.number == 0, &format!("tree of right {right}"));
+            }
+            Call::AddOpen { access, .. } => {
+                self.note_add("an open", "FID", answer);
+                self.count_if(answer.number == 0, &format!("open of access {access}"));
+            }
+            Call::Load { .. } => self.count(format!("load a file: {}", answer.number)),
+            Call::Drop { connection } => {
+                let mut sessions = before.sessions.in_use().iter();
+                let known = sessions.any(|session| session.connection == *connection);
+                let which = if known { "a known" } else { "an unknown" };
+                self.count(format!("drop {which} connection: {}", answer.number));
+            }
+            Call::Take { message, .. } => {
+                self.note_message(message, answer, before, after, unchanged)
+            }
+        }
+    }
+
+    fn note_full(&mut self, after: &Tables) {
+        self.count_if(after.sessions.count == SESSIONS, "16 sessions held");
+        self.count_if(after.trees.count == TREES, "32 trees held");
+        self.count_if(after.opens.count == OPENS, "64 opens held");
+        self.count_if(after.locks.count == LOCKS, "128 locks held");
+    }
+
+    fn note_add(&mut self, what: &str, number: &'static str, answer: &Answer) {
+        self.count(format!("add {what}: {}", answer.number));
+        if answer.number == 0 && !self.given.insert((number, answer.value)) {
+            self.count(format!("{number} used again"));
+        }
+    }
+
+    fn note_message(
+        &mut self,
+        message: &[u8],
+        answer: &Answer,
+        before: &Tables,
+        after: &Tables,
+        unchanged: bool,
+    ) {
+        match listing::answer(message) {
+            listing::Answer::Dropped(reason) => self.count(format!("dropped: {reason:?}")),
+            listing::Answer::NotAChain(reason) => {
+                self.count(format!("not a chain: {:?}", reason.why));
+                self.count(refusal_name(status(&answer.reply)));
+            }
+            listing::Answer::Chain(blocks) => {
+                self.note_chain(message, &blocks, &answer.reply, !unchanged);
+                self.note_first(message, &blocks[0], &answer.reply, before);
+                self.note_hanging(&blocks, before, after);
+            }
+        }
+    }
+
+    /// The commands and successions, done or refused.
+    fn note_chain(&mut self, message: &[u8], blocks: &[Block], reply: &[u8], changed: bool) {
+        let status = status(reply);
+        let places = reply_blocks(reply);
+        let last = places.len() - 1;
+        for (index, (block, &place)) in blocks.iter().zip(&places).enumerate() {
+            let name = name(block.command);
+            if status != (0, 0) && index == last {
+                self.count(refusal_name(status));
+                self.count(format!("{name} {}", refusal_name(status)));
+                self.count_if(
+                    index > 0 && changed,
+                    "chain refused behind a command that stands",
+                );
+            } else {
+                self.note_done(message, block, &reply[place..]);
+            }
+            if index > 0 {
+                let before = self::name(blocks[index - 1].command);
+                let end = if status == (0, 0) { "done" } else { "refused" };
+                self.count(format!("{before} then {name}, chain {end}"));
+            }
+        }
+        self.count_if(
+            blocks.len() == 1 && status == (0, 0),
+            &format!("{} alone done", name(blocks[0].command)),
+        );
+    }
+
+    /// The forms of a command done, and what its reply block says.
+    fn note_done(&mut self, message: &[u8], block: &Block, reply: &[u8]) {
+        let words = message[block.offset];
+        self.count(format!("{} of {words} words done", name(block.command)));
+        match Request::read(message, block) {
+            Request::Locking {
+                kind,
+                locks,
+                unlocks,
+                ..
+            } => {
+                let ends = |end: u128| locks.iter().any(|asked| asked.range.end() == end);
+                self.count_if(ends(1 << 64), "lock that ends at 2^64");
+                let empty = locks.iter().any(|asked| asked.range.length == 0);
+                self.count_if(empty, "lock of length 0");
+                self.count_if(
+                    !locks.is_empty(),
+                    &format!("locks of type {kind:#04X} done"),
+                );
+                self.count_if(
+                    !unlocks.is_empty(),
+                    &format!("unlocks of type {kind:#04X} done"),
+                );
+            }
+            Request::Read { range, .. } => {
+                let length = u16_at(reply, 11);
+                self.count_if(length == 0, "read of 0 bytes");
+                let fewer = u64::from(length) < range.length;
+                self.count_if(fewer, "read of fewer bytes than asked");
+                self.count_if(length == FILE_BYTES as u16, "read of 4096 bytes");
+            }
+            Request::Write { offset, data, .. } => {
+                self.count_if(data.is_empty(), "write of 0 bytes");
+                let end = offset.checked_add(data.len() as u64);
+                let ends = !data.is_empty() && end == Some(FILE_BYTES as u64);
+                self.count_if(ends, "write that ends at 4096");
+            }
+            _ => {}
+        }
+    }
+
+    /// A first write that begins past the size.
+    fn note_first(&mut self, message: &[u8], block: &Block, reply: &[u8], before: &Tables) {
+        let (uid, tid, _) = header_numbers(message);
+        let Request::Write { fid, offset, data } = Request::read(message, block) else {
+            return;
+        };
+        let Some(open) = before.open(fid, uid, tid) else {
+            return;
+        };
+        let past = offset > before.files[usize::from(open.file)].size;
+        let gap = reply[32] == 6 && past && !data.is_empty();
+        self.count_if(gap, "write over a gap");
+    }
+
+    /// What a removal took with it or left.
+    fn note_hanging(&mut self, blocks: &[Block], before: &Tables, after: &Tables) {
+        let fewer = after.opens.count < before.opens.count;
+        let unlocked = after.locks.count < before.locks.count;
+        self.count_if(fewer && unlocked, "locks removed with an open");
+        let exit = fewer && blocks[0].command == PROCESS_EXIT;
+        let high = after.opens.in_use().iter().any(|o| o.process > 0xFFFF);
+        self.count_if(exit && high, "open left by process exit for its high half");
+    }
+
+    /// What was not reached often enough.
+    pub fn missing(&self) -> Vec<String> {
+        let count = |thing: &String| self.counts.get(thing).copied().unwrap_or(0);
+        required()
+            .into_iter()
+            .filter(|(thing, least)| count(thing) < *least)
+            .map(|(thing, least)| format!("{thing}: {} times, not {least}", count(&thing)))
+            .collect()
+    }
+
+    pub fn summary(&self) -> String {
+        let line = |(thing, count)| format!("{thing}: {count}\n");
+        self.counts.iter().map(line).collect()
+    }
+}
+
+/// Everything that a history must reach, with the least count.
+fn required() -> Vec<(String, usize)> {
+    let mut all: Vec<_> = SINGLE
+        .map(|(thing, least)| (thing.to_string(), least))
+        .into();
+    all.extend(NUMBERS.map(|number| (format!("number {number}"), 3)));
+    all.extend(Dropped::ALL.map(|reason| (format!("dropped: {reason:?}"), 2)));
+    all.extend(Why::ALL.map(|why| (format!("not a chain: {why:?}"), 2)));
+    all.extend(WireRefusal::ALL.map(|r| (refusal_name(r.class_and_code()), 5)));
+    all.extend([0, 1].map(|right| (format!("tree of right {right}"), 3)));
+    all.extend([0, 1, 2].map(|access| (format!("open of access {access}"), 5)));
+    all.extend(SERVED.map(|command| (format!("{} alone done", name(command)), 5)));
+    for (command, words) in [(READ_ANDX, [10, 12]), (WRITE_ANDX, [12, 14])] {
+        all.extend(words.map(|words| (format!("{} of {words} words done", name(command)), 10)));
+    }
+    for kind in [0x00, 0x01, 0x10, 0x11] {
+        all.push((format!("locks of type {kind:#04X} done"), 5));
+        all.push((format!("unlocks of type {kind:#04X} done"), 2));
+    }
+    for (before, behind) in SUCCESSIONS.map(|(one, next)| (name(one), name(next))) {
+        all.push((format!("{before} then {behind}, chain done"), 5));
+        all.push((format!("{before} then {behind}, chain refused"), 2));
+    }
+    all.extend(refusals_by_command());
+    all
+}
+
+/// Each command with each refusal that it can get.
+fn refusals_by_command() -> Vec<(String, usize)> {
+    use WireRefusal::*;
+    let (locking, read, write) = (LOCKING_ANDX, READ_ANDX, WRITE_ANDX);
+    let with_open = [locking, read, write, CLOSE];
+    let with_tree = [locking, read, write, CLOSE, TREE_DISCONNECT];
+    let commands: [(WireRefusal, &[u8]); 10] = [
+        (NoSession, &SERVED),
+        (NoTree, &with_tree),
+        (NoOpen, &with_open),
+        (Access, &[read, write]),
+        (LockType, &[locking]),
+        (NotLocked, &[locking]),
+        (RangePasses, &[locking]),
+        (Conflict, &[locking, read, write]),
+        (NoLockRecord, &[locking]),
+        (FileFull, &[write]),
+    ];
+    let thing = |refusal: WireRefusal, command: u8| {
+        let refusal = refusal_name(refusal.class_and_code());
+        (format!("{} {refusal}", name(command)), 2)
+    };
+    commands
+        .into_iter()
+        .flat_map(|(refusal, of)| of.iter().map(move |&command| thing(refusal, command)))
+        .collect()
+}
+
+fn refusal_name((class, code): (u8, u16)) -> String {
+    format!("refused {class}/{code}")
+}
+
+fn name(command: u8) -> &'static str {
+    match command {
+        CLOSE => "CLOSE",
+        PROCESS_EXIT => "PROCESS_EXIT",
+        LOCKING_ANDX => "LOCKING",
+        READ_ANDX => "READ",
+        WRITE_ANDX => "WRITE",
+        TREE_DISCONNECT => "TREE_DISCONNECT",
+        LOGOFF_ANDX => "LOGOFF",
+        _ => "not served",
+    }
+}
+
+/// Class and code of a reply; none of a call without one.
+pub fn status(reply: &[u8]) -> (u8, u16) {
+    if reply.is_empty() {
+        return (0, 0);
+    }
+    (reply[5], u16_at(reply, 7))
+}
+
+/// The places of a reply's blocks.
+fn reply_blocks(reply: &[u8]) -> Vec<usize> {
+    let mut places = vec![32];
+    let mut place = 32;
+    while reply[place] > 0 && reply[place + 1] != 0xFF {
+        place = usize::from(u16_at(reply, place + 3));
+        places.push(place);
+    }
+    places
+}
+
+fn u16_at(bytes: &[u8], place: usize) -> u16 {
+    u16::from_le_bytes([bytes[place], bytes[place + 1]])
+}
