@@ -14,7 +14,8 @@ words-fit-requires c κs = search needs
 
 returns : tie.Need-returns
 returns c =
-    let k = unfit (c .before .before .before .before .args .tables .now) (c .before .before .before .before .args .tid .now) (treeAdded (c .before .before .before .before .args .tables .now) (c .before .before .before .before .args .uid) (c .before .before .before .before .args .right)) (sym (c .before .words-fit .ensures) ∙ not-true (c .before .words-fit .result) (c .if1 .taken)) in (k .number, (k .words, k .given))
+    let args = c .before .before .before .before .args in
+    let k = unfit (args .tables .now) (args .tid .now) (treeAdded (args .tables .now) (args .uid) (args .right)) (sym (c .before .words-fit .ensures) ∙ not-true (c .before .words-fit .result) (c .if1 .taken)) in (k .number, (k .words, k .given))
 
 unpack-requires : tie.Need-unpack-requires
 unpack-requires c κs = search needs
@@ -25,7 +26,9 @@ add-tree-requires c κs = search needs
 returns-2 : tie.Need-returns-2
 unfolding treeAdded
 returns-2 c =
-    let k = refused-leaves (c .before .before .before .before .before .before .before .before .before .args .tables .now) (c .before .before .before .before .before .before .before .before .before .args .tid .now) (treeAdded (c .before .before .before .before .before .before .before .before .before .args .tables .now) (c .before .before .before .before .before .before .before .before .before .args .uid) (c .before .before .before .before .before .before .before .before .before .args .right)) (c .before .add-tree .result) (c .before .add-tree .ensures ∙ ap (λ (t : Tables). addTree t (c .before .before .before .before .before .before .before .before .before .args .uid) (c .before .before .before .before .before .before .before .before .before .args .right)) (c .before .before .unpack .ensures)) (sym (c .before .before .before .before .before .before .words-fit .ensures) ∙ not-false (c .before .before .before .before .before .before .words-fit .result) (c .before .before .before .before .before .if1 .left)) (c .if2 .taken) in (k .number, (k .words, k .given))
+    let args = c .before .before .before .before .before .before .before .before .before .args in
+    let words-fit = c .before .before .before .before .before .before .words-fit in
+    let k = refused-leaves (args .tables .now) (args .tid .now) (treeAdded (args .tables .now) (args .uid) (args .right)) (c .before .add-tree .result) (c .before .add-tree .ensures ∙ ap (λ (t : Tables). addTree t (args .uid) (args .right)) (c .before .before .unpack .ensures)) (sym (words-fit .ensures) ∙ not-false (words-fit .result) (c .before .before .before .before .before .if1 .left)) (c .if2 .taken) in (k .number, (k .words, k .given))
 
 pack-requires : tie.Need-pack-requires
 pack-requires c κs = search needs
@@ -33,7 +36,11 @@ pack-requires c κs = search needs
 returns-3 : tie.Need-returns-3
 unfolding treeAdded
 returns-3 c =
-    let k = done-leaves (c .before .before .before .before .before .before .before .before .before .before .before .before .args .tables .now) (c .before .before .before .before .before .before .before .before .before .before .before .before .args .tid .now) (treeAdded (c .before .before .before .before .before .before .before .before .before .before .before .before .args .tables .now) (c .before .before .before .before .before .before .before .before .before .before .before .before .args .uid) (c .before .before .before .before .before .before .before .before .before .before .before .before .args .right)) (c .before .before .before .before .add-tree .result) (c .before .before .before .before .add-tree .ensures ∙ ap (λ (t : Tables). addTree t (c .before .before .before .before .before .before .before .before .before .before .before .before .args .uid) (c .before .before .before .before .before .before .before .before .before .before .before .before .args .right)) (c .before .before .before .before .before .unpack .ensures)) (sym (c .before .before .before .before .before .before .before .before .before .words-fit .ensures) ∙ not-false (c .before .before .before .before .before .before .before .before .before .words-fit .result) (c .before .before .before .before .before .before .before .before .if1 .left)) (c .before .before .before .if2 .left) in (k .number, (c .pack .ensures ∙ k .words, k .given))
+    let args = c .before .before .before .before .before .before .before .before .before .before .before .before .args in
+    let words-fit = c .before .before .before .before .before .before .before .before .before .words-fit in
+    let if1 = c .before .before .before .before .before .before .before .before .if1 in
+    let add-tree = c .before .before .before .before .add-tree in
+    let k = done-leaves (args .tables .now) (args .tid .now) (treeAdded (args .tables .now) (args .uid) (args .right)) (add-tree .result) (add-tree .ensures ∙ ap (λ (t : Tables). addTree t (args .uid) (args .right)) (c .before .before .before .before .before .unpack .ensures)) (sym (words-fit .ensures) ∙ not-false (words-fit .result) (if1 .left)) (c .before .before .before .if2 .left) in (k .number, (c .pack .ensures ∙ k .words, k .given))
 
 pub gateway-add-tree-spec : {M : Type 1} → statement M
 gateway-add-tree-spec =

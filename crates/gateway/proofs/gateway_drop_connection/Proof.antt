@@ -14,7 +14,8 @@ words-fit-requires c κs = search needs
 
 returns : tie.Need-returns
 returns c =
-    let k = unfit (c .before .before .before .before .args .tables .now) 0 (connectionDropped (c .before .before .before .before .args .tables .now) (c .before .before .before .before .args .connection)) (sym (c .before .words-fit .ensures) ∙ not-true (c .before .words-fit .result) (c .if1 .taken)) in (k .number, k .words)
+    let args = c .before .before .before .before .args in
+    let k = unfit (args .tables .now) 0 (connectionDropped (args .tables .now) (args .connection)) (sym (c .before .words-fit .ensures) ∙ not-true (c .before .words-fit .result) (c .if1 .taken)) in (k .number, k .words)
 
 unpack-requires : tie.Need-unpack-requires
 unpack-requires c κs = search needs
@@ -25,7 +26,9 @@ drop-connection-requires c κs = search needs
 returns-2 : tie.Need-returns-2
 unfolding connectionDropped
 returns-2 c =
-    let k = refused-leaves (c .before .before .before .before .before .before .before .before .before .args .tables .now) 0 (connectionDropped (c .before .before .before .before .before .before .before .before .before .args .tables .now) (c .before .before .before .before .before .before .before .before .before .args .connection)) (c .before .drop-connection .result) (c .before .drop-connection .ensures ∙ ap (λ (t : Tables). dropConnection t (c .before .before .before .before .before .before .before .before .before .args .connection)) (c .before .before .unpack .ensures)) (sym (c .before .before .before .before .before .before .words-fit .ensures) ∙ not-false (c .before .before .before .before .before .before .words-fit .result) (c .before .before .before .before .before .if1 .left)) (c .if2 .taken) in (k .number, k .words)
+    let args = c .before .before .before .before .before .before .before .before .before .args in
+    let words-fit = c .before .before .before .before .before .before .words-fit in
+    let k = refused-leaves (args .tables .now) 0 (connectionDropped (args .tables .now) (args .connection)) (c .before .drop-connection .result) (c .before .drop-connection .ensures ∙ ap (λ (t : Tables). dropConnection t (args .connection)) (c .before .before .unpack .ensures)) (sym (words-fit .ensures) ∙ not-false (words-fit .result) (c .before .before .before .before .before .if1 .left)) (c .if2 .taken) in (k .number, k .words)
 
 pack-requires : tie.Need-pack-requires
 pack-requires c κs = search needs
@@ -33,7 +36,11 @@ pack-requires c κs = search needs
 returns-3 : tie.Need-returns-3
 unfolding connectionDropped
 returns-3 c =
-    let k = done-leaves (c .before .before .before .before .before .before .before .before .before .before .before .before .args .tables .now) 0 (connectionDropped (c .before .before .before .before .before .before .before .before .before .before .before .before .args .tables .now) (c .before .before .before .before .before .before .before .before .before .before .before .before .args .connection)) (c .before .before .before .before .drop-connection .result) (c .before .before .before .before .drop-connection .ensures ∙ ap (λ (t : Tables). dropConnection t (c .before .before .before .before .before .before .before .before .before .before .before .before .args .connection)) (c .before .before .before .before .before .unpack .ensures)) (sym (c .before .before .before .before .before .before .before .before .before .words-fit .ensures) ∙ not-false (c .before .before .before .before .before .before .before .before .before .words-fit .result) (c .before .before .before .before .before .before .before .before .if1 .left)) (c .before .before .before .if2 .left) in (k .number, c .pack .ensures ∙ k .words)
+    let args = c .before .before .before .before .before .before .before .before .before .before .before .before .args in
+    let words-fit = c .before .before .before .before .before .before .before .before .before .words-fit in
+    let if1 = c .before .before .before .before .before .before .before .before .if1 in
+    let drop-connection = c .before .before .before .before .drop-connection in
+    let k = done-leaves (args .tables .now) 0 (connectionDropped (args .tables .now) (args .connection)) (drop-connection .result) (drop-connection .ensures ∙ ap (λ (t : Tables). dropConnection t (args .connection)) (c .before .before .before .before .before .unpack .ensures)) (sym (words-fit .ensures) ∙ not-false (words-fit .result) (if1 .left)) (c .before .before .before .if2 .left) in (k .number, c .pack .ensures ∙ k .words)
 
 pub gateway-drop-connection-spec : {M : Type 1} → statement M
 gateway-drop-connection-spec =

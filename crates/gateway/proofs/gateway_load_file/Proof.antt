@@ -11,14 +11,16 @@ use Rattle.gateway.specs.BoundaryLaws.{unfit, refused-leaves, done-leave
 
 returns : tie.Need-returns
 returns c =
-    (wrong-number (c .before .before .before .args .tables .now) (c .before .before .before .args .file) (c .before .before .before .args .contents .now) (c .before .before .before .args .memory .now) (c .if1 .taken), (wrong-words (c .before .before .before .args .tables .now) (c .before .before .before .args .file) (c .before .before .before .args .contents .now) (c .before .before .before .args .memory .now) (c .if1 .taken), wrong-memory (c .before .before .before .args .tables .now) (c .before .before .before .args .file) (c .before .before .before .args .contents .now) (c .before .before .before .args .memory .now) (c .if1 .taken)))
+    let args = c .before .before .before .args in
+    (wrong-number (args .tables .now) (args .file) (args .contents .now) (args .memory .now) (c .if1 .taken), (wrong-words (args .tables .now) (args .file) (args .contents .now) (args .memory .now) (c .if1 .taken), wrong-memory (args .tables .now) (args .file) (args .contents .now) (args .memory .now) (c .if1 .taken)))
 
 words-fit-requires : tie.Need-words-fit-requires
 words-fit-requires c κs = search needs
 
 returns-2 : tie.Need-returns-2
 returns-2 c =
-    let k = unfit (c .before .before .before .before .before .before .before .args .tables .now) 0 (fileLoaded (c .before .before .before .before .before .before .before .args .tables .now) (c .before .before .before .before .before .before .before .args .file) (c .before .before .before .before .before .before .before .args .contents .now) (c .before .before .before .before .before .before .before .args .memory .now)) (sym (c .before .words-fit .ensures) ∙ not-true (c .before .words-fit .result) (c .if2 .taken)) in (right-number (c .before .before .before .before .before .before .before .args .tables .now) (c .before .before .before .before .before .before .before .args .file) (c .before .before .before .before .before .before .before .args .contents .now) (c .before .before .before .before .before .before .before .args .memory .now) 4 (c .before .before .before .before .if1 .left) (k .number), (k .words, unfit-memory (c .before .before .before .before .before .before .before .args .tables .now) (c .before .before .before .before .before .before .before .args .file) (c .before .before .before .before .before .before .before .args .contents .now) (c .before .before .before .before .before .before .before .args .memory .now) (sym (c .before .words-fit .ensures) ∙ not-true (c .before .words-fit .result) (c .if2 .taken))))
+    let args = c .before .before .before .before .before .before .before .args in
+    let k = unfit (args .tables .now) 0 (fileLoaded (args .tables .now) (args .file) (args .contents .now) (args .memory .now)) (sym (c .before .words-fit .ensures) ∙ not-true (c .before .words-fit .result) (c .if2 .taken)) in (right-number (args .tables .now) (args .file) (args .contents .now) (args .memory .now) 4 (c .before .before .before .before .if1 .left) (k .number), (k .words, unfit-memory (args .tables .now) (args .file) (args .contents .now) (args .memory .now) (sym (c .before .words-fit .ensures) ∙ not-true (c .before .words-fit .result) (c .if2 .taken))))
 
 unpack-requires : tie.Need-unpack-requires
 unpack-requires c κs = search needs
@@ -32,7 +34,13 @@ same-length c = search needs
 returns-3 : tie.Need-returns-3
 unfolding fileLoaded
 returns-3 c =
-    let k = refused-leaves (c .before .before .before .before .before .before .before .before .before .before .before .before .before .before .before .args .tables .now) 0 (fileLoaded (c .before .before .before .before .before .before .before .before .before .before .before .before .before .before .before .args .tables .now) (c .before .before .before .before .before .before .before .before .before .before .before .before .before .before .before .args .file) (c .before .before .before .before .before .before .before .before .before .before .before .before .before .before .before .args .contents .now) (c .before .before .before .before .before .before .before .before .before .before .before .before .before .before .before .args .memory .now)) (c .before .before .before .load-file .result) (c .before .before .before .load-file .ensures .0 ∙ ap (λ (t : Tables). loadFile t (c .before .before .before .before .before .before .before .before .before .before .before .before .before .before .before .args .file) (c .before .before .before .before .before .before .before .before .before .before .before .before .before .before .before .args .contents .now) (c .before .before .before .before .before .before .before .before .before .before .before .before .before .before .before .args .memory .now)) (c .before .before .before .before .before .unpack .ensures)) (sym (c .before .before .before .before .before .before .before .before .before .words-fit .ensures) ∙ not-false (c .before .before .before .before .before .before .before .before .before .words-fit .result) (c .before .before .before .before .before .before .before .before .if2 .left)) (c .if3 .taken) in (right-number (c .before .before .before .before .before .before .before .before .before .before .before .before .before .before .before .args .tables .now) (c .before .before .before .before .before .before .before .before .before .before .before .before .before .before .before .args .file) (c .before .before .before .before .before .before .before .before .before .before .before .before .before .before .before .args .contents .now) (c .before .before .before .before .before .before .before .before .before .before .before .before .before .before .before .args .memory .now) (c .before .before .before .load-file .result .number) (c .before .before .before .before .before .before .before .before .before .before .before .before .if1 .left) (k .number), (k .words, c .before .before .before .load-file .ensures .1 ∙ ap (λ (t : Tables). loadMemory t (c .before .before .before .before .before .before .before .before .before .before .before .before .before .before .before .args .file) (c .before .before .before .before .before .before .before .before .before .before .before .before .before .before .before .args .contents .now) (c .before .before .before .before .before .before .before .before .before .before .before .before .before .before .before .args .memory .now)) (c .before .before .before .before .before .unpack .ensures) ∙ fit-memory (c .before .before .before .before .before .before .before .before .before .before .before .before .before .before .before .args .tables .now) (c .before .before .before .before .before .before .before .before .before .before .before .before .before .before .before .args .file) (c .before .before .before .before .before .before .before .before .before .before .before .before .before .before .before .args .contents .now) (c .before .before .before .before .before .before .before .before .before .before .before .before .before .before .before .args .memory .now) (sym (c .before .before .before .before .before .before .before .before .before .words-fit .ensures) ∙ not-false (c .before .before .before .before .before .before .before .before .before .words-fit .result) (c .before .before .before .before .before .before .before .before .if2 .left))))
+    let args = c .before .before .before .before .before .before .before .before .before .before .before .before .before .before .before .args in
+    let if1 = c .before .before .before .before .before .before .before .before .before .before .before .before .if1 in
+    let words-fit = c .before .before .before .before .before .before .before .before .before .words-fit in
+    let if2 = c .before .before .before .before .before .before .before .before .if2 in
+    let unpack = c .before .before .before .before .before .unpack in
+    let load-file = c .before .before .before .load-file in
+    let k = refused-leaves (args .tables .now) 0 (fileLoaded (args .tables .now) (args .file) (args .contents .now) (args .memory .now)) (load-file .result) (load-file .ensures .0 ∙ ap (λ (t : Tables). loadFile t (args .file) (args .contents .now) (args .memory .now)) (unpack .ensures)) (sym (words-fit .ensures) ∙ not-false (words-fit .result) (if2 .left)) (c .if3 .taken) in (right-number (args .tables .now) (args .file) (args .contents .now) (args .memory .now) (load-file .result .number) (if1 .left) (k .number), (k .words, load-file .ensures .1 ∙ ap (λ (t : Tables). loadMemory t (args .file) (args .contents .now) (args .memory .now)) (unpack .ensures) ∙ fit-memory (args .tables .now) (args .file) (args .contents .now) (args .memory .now) (sym (words-fit .ensures) ∙ not-false (words-fit .result) (if2 .left))))
 
 pack-requires : tie.Need-pack-requires
 pack-requires c κs = search needs
@@ -43,7 +51,13 @@ same-length-2 c = search needs
 returns-4 : tie.Need-returns-4
 unfolding fileLoaded
 returns-4 c =
-    let k = done-leaves (c .before .before .before .before .before .before .before .before .before .before .before .before .before .before .before .before .before .before .args .tables .now) 0 (fileLoaded (c .before .before .before .before .before .before .before .before .before .before .before .before .before .before .before .before .before .before .args .tables .now) (c .before .before .before .before .before .before .before .before .before .before .before .before .before .before .before .before .before .before .args .file) (c .before .before .before .before .before .before .before .before .before .before .before .before .before .before .before .before .before .before .args .contents .now) (c .before .before .before .before .before .before .before .before .before .before .before .before .before .before .before .before .before .before .args .memory .now)) (c .before .before .before .before .before .before .load-file .result) (c .before .before .before .before .before .before .load-file .ensures .0 ∙ ap (λ (t : Tables). loadFile t (c .before .before .before .before .before .before .before .before .before .before .before .before .before .before .before .before .before .before .args .file) (c .before .before .before .before .before .before .before .before .before .before .before .before .before .before .before .before .before .before .args .contents .now) (c .before .before .before .before .before .before .before .before .before .before .before .before .before .before .before .before .before .before .args .memory .now)) (c .before .before .before .before .before .before .before .before .unpack .ensures)) (sym (c .before .before .before .before .before .before .before .before .before .before .before .before .words-fit .ensures) ∙ not-false (c .before .before .before .before .before .before .before .before .before .before .before .before .words-fit .result) (c .before .before .before .before .before .before .before .before .before .before .before .if2 .left)) (c .before .before .before .if3 .left) in (right-number (c .before .before .before .before .before .before .before .before .before .before .before .before .before .before .before .before .before .before .args .tables .now) (c .before .before .before .before .before .before .before .before .before .before .before .before .before .before .before .before .before .before .args .file) (c .before .before .before .before .before .before .before .before .before .before .before .before .before .before .before .before .before .before .args .contents .now) (c .before .before .before .before .before .before .before .before .before .before .before .before .before .before .before .before .before .before .args .memory .now) 0 (c .before .before .before .before .before .before .before .before .before .before .before .before .before .before .before .if1 .left) (k .number), (c .pack .ensures ∙ k .words, c .before .before .before .before .before .before .load-file .ensures .1 ∙ ap (λ (t : Tables). loadMemory t (c .before .before .before .before .before .before .before .before .before .before .before .before .before .before .before .before .before .before .args .file) (c .before .before .before .before .before .before .before .before .before .before .before .before .before .before .before .before .before .before .args .contents .now) (c .before .before .before .before .before .before .before .before .before .before .before .before .before .before .before .before .before .before .args .memory .now)) (c .before .before .before .before .before .before .before .before .unpack .ensures) ∙ fit-memory (c .before .before .before .before .before .before .before .before .before .before .before .before .before .before .before .before .before .before .args .tables .now) (c .before .before .before .before .before .before .before .before .before .before .before .before .before .before .before .before .before .before .args .file) (c .before .before .before .before .before .before .before .before .before .before .before .before .before .before .before .before .before .before .args .contents .now) (c .before .before .before .before .before .before .before .before .before .before .before .before .before .before .before .before .before .before .args .memory .now) (sym (c .before .before .before .before .before .before .before .before .before .before .before .before .words-fit .ensures) ∙ not-false (c .before .before .before .before .before .before .before .before .before .before .before .before .words-fit .result) (c .before .before .before .before .before .before .before .before .before .before .before .if2 .left))))
+    let args = c .before .before .before .before .before .before .before .before .before .before .before .before .before .before .before .before .before .before .args in
+    let if1 = c .before .before .before .before .before .before .before .before .before .before .before .before .before .before .before .if1 in
+    let words-fit = c .before .before .before .before .before .before .before .before .before .before .before .before .words-fit in
+    let if2 = c .before .before .before .before .before .before .before .before .before .before .before .if2 in
+    let unpack = c .before .before .before .before .before .before .before .before .unpack in
+    let load-file = c .before .before .before .before .before .before .load-file in
+    let k = done-leaves (args .tables .now) 0 (fileLoaded (args .tables .now) (args .file) (args .contents .now) (args .memory .now)) (load-file .result) (load-file .ensures .0 ∙ ap (λ (t : Tables). loadFile t (args .file) (args .contents .now) (args .memory .now)) (unpack .ensures)) (sym (words-fit .ensures) ∙ not-false (words-fit .result) (if2 .left)) (c .before .before .before .if3 .left) in (right-number (args .tables .now) (args .file) (args .contents .now) (args .memory .now) 0 (if1 .left) (k .number), (c .pack .ensures ∙ k .words, load-file .ensures .1 ∙ ap (λ (t : Tables). loadMemory t (args .file) (args .contents .now) (args .memory .now)) (unpack .ensures) ∙ fit-memory (args .tables .now) (args .file) (args .contents .now) (args .memory .now) (sym (words-fit .ensures) ∙ not-false (words-fit .result) (if2 .left))))
 
 pub gateway-load-file-spec : {M : Type 1} → statement M
 gateway-load-file-spec =

@@ -13,18 +13,21 @@ use Rattle.gateway.specs.MessageLaws.{left-is, room-short, memory-wrong,
 
 returns : tie.Need-returns
 returns c =
-    left-is 2 (c .before .before .before .before .args .tables .now) (c .before .before .before .before .args .memory .now) (c .before .before .before .before .args .room .now) (c .before .before .before .before .args .written .now) (messageLeft (c .before .before .before .before .args .connection) (c .before .before .before .before .args .message .now) (c .before .before .before .before .args .tables .now) (c .before .before .before .before .args .memory .now) (c .before .before .before .before .args .room .now) (c .before .before .before .before .args .written .now)) (wrong-left (c .before .before .before .before .args .connection) (c .before .before .before .before .args .message .now) (c .before .before .before .before .args .tables .now) (c .before .before .before .before .args .memory .now) (c .before .before .before .before .args .room .now) (c .before .before .before .before .args .written .now) (room-short (c .before .before .before .before .args .memory .now) (c .before .before .before .before .args .room .now) (c .if1 .taken)))
+    let args = c .before .before .before .before .args in
+    left-is 2 (args .tables .now) (args .memory .now) (args .room .now) (args .written .now) (messageLeft (args .connection) (args .message .now) (args .tables .now) (args .memory .now) (args .room .now) (args .written .now)) (wrong-left (args .connection) (args .message .now) (args .tables .now) (args .memory .now) (args .room .now) (args .written .now) (room-short (args .memory .now) (args .room .now) (c .if1 .taken)))
 
 returns-2 : tie.Need-returns-2
 returns-2 c =
-    left-is 2 (c .before .before .before .before .before .args .tables .now) (c .before .before .before .before .before .args .memory .now) (c .before .before .before .before .before .args .room .now) (c .before .before .before .before .before .args .written .now) (messageLeft (c .before .before .before .before .before .args .connection) (c .before .before .before .before .before .args .message .now) (c .before .before .before .before .before .args .tables .now) (c .before .before .before .before .before .args .memory .now) (c .before .before .before .before .before .args .room .now) (c .before .before .before .before .before .args .written .now)) (wrong-left (c .before .before .before .before .before .args .connection) (c .before .before .before .before .before .args .message .now) (c .before .before .before .before .before .args .tables .now) (c .before .before .before .before .before .args .memory .now) (c .before .before .before .before .before .args .room .now) (c .before .before .before .before .before .args .written .now) (memory-wrong (c .before .before .before .before .before .args .memory .now) (c .before .before .before .before .before .args .room .now) (c .if2 .taken)))
+    let args = c .before .before .before .before .before .args in
+    left-is 2 (args .tables .now) (args .memory .now) (args .room .now) (args .written .now) (messageLeft (args .connection) (args .message .now) (args .tables .now) (args .memory .now) (args .room .now) (args .written .now)) (wrong-left (args .connection) (args .message .now) (args .tables .now) (args .memory .now) (args .room .now) (args .written .now) (memory-wrong (args .memory .now) (args .room .now) (c .if2 .taken)))
 
 words-fit-requires : tie.Need-words-fit-requires
 words-fit-requires c κs = search needs
 
 returns-3 : tie.Need-returns-3
 returns-3 c =
-    left-is 4 (c .before .before .before .before .before .before .before .before .before .args .tables .now) (c .before .before .before .before .before .before .before .before .before .args .memory .now) (c .before .before .before .before .before .before .before .before .before .args .room .now) (c .before .before .before .before .before .before .before .before .before .args .written .now) (messageLeft (c .before .before .before .before .before .before .before .before .before .args .connection) (c .before .before .before .before .before .before .before .before .before .args .message .now) (c .before .before .before .before .before .before .before .before .before .args .tables .now) (c .before .before .before .before .before .before .before .before .before .args .memory .now) (c .before .before .before .before .before .before .before .before .before .args .room .now) (c .before .before .before .before .before .before .before .before .before .args .written .now)) (unfit-left (c .before .before .before .before .before .before .before .before .before .args .connection) (c .before .before .before .before .before .before .before .before .before .args .message .now) (c .before .before .before .before .before .before .before .before .before .args .tables .now) (c .before .before .before .before .before .before .before .before .before .args .memory .now) (c .before .before .before .before .before .before .before .before .before .args .room .now) (c .before .before .before .before .before .before .before .before .before .args .written .now) (room-right (c .before .before .before .before .before .before .before .before .before .args .memory .now) (c .before .before .before .before .before .before .before .before .before .args .room .now) (c .before .before .before .before .before .if1 .left) (c .before .before .before .before .if2 .left)) (sym (c .before .words-fit .ensures) ∙ not-true (c .before .words-fit .result) (c .if3 .taken)))
+    let args = c .before .before .before .before .before .before .before .before .before .args in
+    left-is 4 (args .tables .now) (args .memory .now) (args .room .now) (args .written .now) (messageLeft (args .connection) (args .message .now) (args .tables .now) (args .memory .now) (args .room .now) (args .written .now)) (unfit-left (args .connection) (args .message .now) (args .tables .now) (args .memory .now) (args .room .now) (args .written .now) (room-right (args .memory .now) (args .room .now) (c .before .before .before .before .before .if1 .left) (c .before .before .before .before .if2 .left)) (sym (c .before .words-fit .ensures) ∙ not-true (c .before .words-fit .result) (c .if3 .taken)))
 
 unpack-requires : tie.Need-unpack-requires
 unpack-requires c κs = search needs
@@ -41,7 +44,14 @@ same-length-2 c = search needs
 returns-4 : tie.Need-returns-4
 unfolding takenOf
 returns-4 c =
-    left-is (c .before .before .before .before .before .take-message .result .number) (c .before .before .before .before .before .before .before .before .before .before .before .before .before .before .before .before .before .before .before .before .args .tables .now) (c .before .before .before .before .before .take-message .last .1 .1 .1 .0) (c .before .before .before .before .before .take-message .last .1 .1 .1 .1 .0) (c .before .before .before .before .before .before .before .before .before .before .before .before .before .before .before .before .before .before .before .before .args .written .now) (messageLeft (c .before .before .before .before .before .before .before .before .before .before .before .before .before .before .before .before .before .before .before .before .args .connection) (c .before .before .before .before .before .before .before .before .before .before .before .before .before .before .before .before .before .before .before .before .args .message .now) (c .before .before .before .before .before .before .before .before .before .before .before .before .before .before .before .before .before .before .before .before .args .tables .now) (c .before .before .before .before .before .before .before .before .before .before .before .before .before .before .before .before .before .before .before .before .args .memory .now) (c .before .before .before .before .before .before .before .before .before .before .before .before .before .before .before .before .before .before .before .before .args .room .now) (c .before .before .before .before .before .before .before .before .before .before .before .before .before .before .before .before .before .before .before .before .args .written .now)) (refused-left (c .before .before .before .before .before .before .before .before .before .before .before .before .before .before .before .before .before .before .before .before .args .connection) (c .before .before .before .before .before .before .before .before .before .before .before .before .before .before .before .before .before .before .before .before .args .message .now) (c .before .before .before .before .before .before .before .before .before .before .before .before .before .before .before .before .before .before .before .before .args .tables .now) (c .before .before .before .before .before .before .before .before .before .before .before .before .before .before .before .before .before .before .before .before .args .memory .now) (c .before .before .before .before .before .before .before .before .before .before .before .before .before .before .before .before .before .before .before .before .args .room .now) (c .before .before .before .before .before .before .before .before .before .before .before .before .before .before .before .before .before .before .before .before .args .written .now) (room-right (c .before .before .before .before .before .before .before .before .before .before .before .before .before .before .before .before .before .before .before .before .args .memory .now) (c .before .before .before .before .before .before .before .before .before .before .before .before .before .before .before .before .before .before .before .before .args .room .now) (c .before .before .before .before .before .before .before .before .before .before .before .before .before .before .before .before .if1 .left) (c .before .before .before .before .before .before .before .before .before .before .before .before .before .before .before .if2 .left)) (sym (c .before .before .before .before .before .before .before .before .before .before .before .before .words-fit .ensures) ∙ not-false (c .before .before .before .before .before .before .before .before .before .before .before .before .words-fit .result) (c .before .before .before .before .before .before .before .before .before .before .before .if3 .left)) (takenOf (c .before .before .before .before .before .take-message .result) (c .before .before .before .before .before .take-message .last .1 .1 .1 .0) (c .before .before .before .before .before .take-message .last .1 .1 .1 .1 .0)) (c .before .before .before .before .before .take-message .ensures ∙ ap (λ (t : Tables). take-message (c .before .before .before .before .before .before .before .before .before .before .before .before .before .before .before .before .before .before .before .before .args .connection) (c .before .before .before .before .before .before .before .before .before .before .before .before .before .before .before .before .before .before .before .before .args .message .now) t (c .before .before .before .before .before .before .before .before .before .before .before .before .before .before .before .before .before .before .before .before .args .memory .now) (c .before .before .before .before .before .before .before .before .before .before .before .before .before .before .before .before .before .before .before .before .args .room .now)) (c .before .before .before .before .before .before .before .before .unpack .ensures)) (c .if4 .taken))
+    let args = c .before .before .before .before .before .before .before .before .before .before .before .before .before .before .before .before .before .before .before .before .args in
+    let if1 = c .before .before .before .before .before .before .before .before .before .before .before .before .before .before .before .before .if1 in
+    let if2 = c .before .before .before .before .before .before .before .before .before .before .before .before .before .before .before .if2 in
+    let words-fit = c .before .before .before .before .before .before .before .before .before .before .before .before .words-fit in
+    let if3 = c .before .before .before .before .before .before .before .before .before .before .before .if3 in
+    let unpack = c .before .before .before .before .before .before .before .before .unpack in
+    let take-message′ = c .before .before .before .before .before .take-message in
+    left-is (take-message′ .result .number) (args .tables .now) (take-message′ .last .1 .1 .1 .0) (take-message′ .last .1 .1 .1 .1 .0) (args .written .now) (messageLeft (args .connection) (args .message .now) (args .tables .now) (args .memory .now) (args .room .now) (args .written .now)) (refused-left (args .connection) (args .message .now) (args .tables .now) (args .memory .now) (args .room .now) (args .written .now) (room-right (args .memory .now) (args .room .now) (if1 .left) (if2 .left)) (sym (words-fit .ensures) ∙ not-false (words-fit .result) (if3 .left)) (takenOf (take-message′ .result) (take-message′ .last .1 .1 .1 .0) (take-message′ .last .1 .1 .1 .1 .0)) (take-message′ .ensures ∙ ap (λ (t : Tables). take-message (args .connection) (args .message .now) t (args .memory .now) (args .room .now)) (unpack .ensures)) (c .if4 .taken))
 
 pack-requires : tie.Need-pack-requires
 pack-requires c κs = search needs
@@ -55,7 +65,14 @@ same-length-4 c = search needs
 returns-5 : tie.Need-returns-5
 unfolding takenOf
 returns-5 c =
-    let p = left-is 0 (packed (c .before .before .before .before .before .before .before .before .take-message .result .tables)) (c .before .before .before .before .before .before .before .before .take-message .last .1 .1 .1 .0) (c .before .before .before .before .before .before .before .before .take-message .last .1 .1 .1 .1 .0) (c .before .before .before .before .before .before .before .before .take-message .result .length) (messageLeft (c .before .before .before .before .before .before .before .before .before .before .before .before .before .before .before .before .before .before .before .before .before .before .before .args .connection) (c .before .before .before .before .before .before .before .before .before .before .before .before .before .before .before .before .before .before .before .before .before .before .before .args .message .now) (c .before .before .before .before .before .before .before .before .before .before .before .before .before .before .before .before .before .before .before .before .before .before .before .args .tables .now) (c .before .before .before .before .before .before .before .before .before .before .before .before .before .before .before .before .before .before .before .before .before .before .before .args .memory .now) (c .before .before .before .before .before .before .before .before .before .before .before .before .before .before .before .before .before .before .before .before .before .before .before .args .room .now) (c .before .before .before .before .before .before .before .before .before .before .before .before .before .before .before .before .before .before .before .before .before .before .before .args .written .now)) (done-left (c .before .before .before .before .before .before .before .before .before .before .before .before .before .before .before .before .before .before .before .before .before .before .before .args .connection) (c .before .before .before .before .before .before .before .before .before .before .before .before .before .before .before .before .before .before .before .before .before .before .before .args .message .now) (c .before .before .before .before .before .before .before .before .before .before .before .before .before .before .before .before .before .before .before .before .before .before .before .args .tables .now) (c .before .before .before .before .before .before .before .before .before .before .before .before .before .before .before .before .before .before .before .before .before .before .before .args .memory .now) (c .before .before .before .before .before .before .before .before .before .before .before .before .before .before .before .before .before .before .before .before .before .before .before .args .room .now) (c .before .before .before .before .before .before .before .before .before .before .before .before .before .before .before .before .before .before .before .before .before .before .before .args .written .now) (room-right (c .before .before .before .before .before .before .before .before .before .before .before .before .before .before .before .before .before .before .before .before .before .before .before .args .memory .now) (c .before .before .before .before .before .before .before .before .before .before .before .before .before .before .before .before .before .before .before .before .before .before .before .args .room .now) (c .before .before .before .before .before .before .before .before .before .before .before .before .before .before .before .before .before .before .before .if1 .left) (c .before .before .before .before .before .before .before .before .before .before .before .before .before .before .before .before .before .before .if2 .left)) (sym (c .before .before .before .before .before .before .before .before .before .before .before .before .before .before .before .words-fit .ensures) ∙ not-false (c .before .before .before .before .before .before .before .before .before .before .before .before .before .before .before .words-fit .result) (c .before .before .before .before .before .before .before .before .before .before .before .before .before .before .if3 .left)) (takenOf (c .before .before .before .before .before .before .before .before .take-message .result) (c .before .before .before .before .before .before .before .before .take-message .last .1 .1 .1 .0) (c .before .before .before .before .before .before .before .before .take-message .last .1 .1 .1 .1 .0)) (c .before .before .before .before .before .before .before .before .take-message .ensures ∙ ap (λ (t : Tables). take-message (c .before .before .before .before .before .before .before .before .before .before .before .before .before .before .before .before .before .before .before .before .before .before .before .args .connection) (c .before .before .before .before .before .before .before .before .before .before .before .before .before .before .before .before .before .before .before .before .before .before .before .args .message .now) t (c .before .before .before .before .before .before .before .before .before .before .before .before .before .before .before .before .before .before .before .before .before .before .before .args .memory .now) (c .before .before .before .before .before .before .before .before .before .before .before .before .before .before .before .before .before .before .before .before .before .before .before .args .room .now)) (c .before .before .before .before .before .before .before .before .before .before .before .unpack .ensures)) (c .before .before .before .if4 .left)) in (p .0, (c .pack .ensures ∙ p .1 .0, p .1 .1))
+    let args = c .before .before .before .before .before .before .before .before .before .before .before .before .before .before .before .before .before .before .before .before .before .before .before .args in
+    let if1 = c .before .before .before .before .before .before .before .before .before .before .before .before .before .before .before .before .before .before .before .if1 in
+    let if2 = c .before .before .before .before .before .before .before .before .before .before .before .before .before .before .before .before .before .before .if2 in
+    let words-fit = c .before .before .before .before .before .before .before .before .before .before .before .before .before .before .before .words-fit in
+    let if3 = c .before .before .before .before .before .before .before .before .before .before .before .before .before .before .if3 in
+    let unpack = c .before .before .before .before .before .before .before .before .before .before .before .unpack in
+    let take-message′ = c .before .before .before .before .before .before .before .before .take-message in
+    let p = left-is 0 (packed (take-message′ .result .tables)) (take-message′ .last .1 .1 .1 .0) (take-message′ .last .1 .1 .1 .1 .0) (take-message′ .result .length) (messageLeft (args .connection) (args .message .now) (args .tables .now) (args .memory .now) (args .room .now) (args .written .now)) (done-left (args .connection) (args .message .now) (args .tables .now) (args .memory .now) (args .room .now) (args .written .now) (room-right (args .memory .now) (args .room .now) (if1 .left) (if2 .left)) (sym (words-fit .ensures) ∙ not-false (words-fit .result) (if3 .left)) (takenOf (take-message′ .result) (take-message′ .last .1 .1 .1 .0) (take-message′ .last .1 .1 .1 .1 .0)) (take-message′ .ensures ∙ ap (λ (t : Tables). take-message (args .connection) (args .message .now) t (args .memory .now) (args .room .now)) (unpack .ensures)) (c .before .before .before .if4 .left)) in (p .0, (c .pack .ensures ∙ p .1 .0, p .1 .1))
 
 pub gateway-take-message-spec : {M : Type 1} → statement M
 gateway-take-message-spec =

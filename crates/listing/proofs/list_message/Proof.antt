@@ -22,7 +22,10 @@ same-length c = search needs
 
 returns : tie.Need-returns
 unfolding droppedLine
-returns c = rw (listing-dropped (c .before .before .before .before .before .before .before .before .before .args .s .now) (sym (c .before .before .before .before .before .before .is-dropped .ensures) ∙ c .before .before .before .before .before .if1 .taken)) (c .before .before .put-text .ensures)
+returns c =
+    let args = c .before .before .before .before .before .before .before .before .before .args in
+    let is-dropped = c .before .before .before .before .before .before .is-dropped in
+    rw (listing-dropped (args .s .now) (sym (is-dropped .ensures) ∙ c .before .before .before .before .before .if1 .taken)) (c .before .before .put-text .ensures)
 
 byte-at-requires : tie.Need-byte-at-requires
 byte-at-requires c κs = search needs
@@ -47,16 +50,31 @@ same-length-2 c = search needs
 
 returns-2 : tie.Need-returns-2
 unfolding notChain
-returns-2 c = rw (listing-none (c .before .before .before .before .before .before .before .before .before .before .before .before .before .args .s .now) (c .before .before .before .before .before .before .before .before .byte-at .result) (c .before .before .before .before .before .before .before .before .byte-at .ensures) (sym (c .before .before .before .before .before .before .before .before .before .before .is-dropped .ensures) ∙ c .before .before .before .before .before .before .before .before .before .if1 .left) (sym (c .before .before .before .before .before .enum-told2 .given .1) ∙ c .before .before .before .before .before .before .before .read-chain .ensures)) (c .before .before .put-text2 .ensures)
+returns-2 c =
+    let args = c .before .before .before .before .before .before .before .before .before .before .before .before .before .args in
+    let is-dropped = c .before .before .before .before .before .before .before .before .before .before .is-dropped in
+    let if1 = c .before .before .before .before .before .before .before .before .before .if1 in
+    let byte-at = c .before .before .before .before .before .before .before .before .byte-at in
+    let read-chain = c .before .before .before .before .before .before .before .read-chain in
+    rw (listing-none (args .s .now) (byte-at .result) (byte-at .ensures) (sym (is-dropped .ensures) ∙ if1 .left) (sym (c .before .before .before .before .before .enum-told2 .given .1) ∙ read-chain .ensures)) (c .before .before .put-text2 .ensures)
 
 put-blocks-requires : tie.Need-put-blocks-requires
-put-blocks-requires c κs = (omega arith, sentence-read (c .before .before .before .before .before .before .before .before .before .args .s .now) (c .before .before .before .before .byte-at .result) (c .before .before .before .before .byte-at .ensures) _ (sym (c .before .enum-told .given .1) ∙ c .before .before .before .read-chain .ensures))
+put-blocks-requires c κs =
+    let args = c .before .before .before .before .before .before .before .before .before .args in
+    let byte-at = c .before .before .before .before .byte-at in
+    (omega arith, sentence-read (args .s .now) (byte-at .result) (byte-at .ensures) _ (sym (c .before .enum-told .given .1) ∙ c .before .before .before .read-chain .ensures))
 
 same-length-3 : tie.Need-same-length-3
 same-length-3 c = search needs
 
 returns-3 : tie.Need-returns-3
-returns-3 c = rw (listing-lines (c .before .before .before .before .before .before .before .before .before .before .before .before .args .s .now) (c .before .before .before .before .before .before .before .byte-at .result) (c .before .before .before .before .before .before .before .byte-at .ensures) _ (sym (c .before .before .before .before .enum-told .given .1) ∙ c .before .before .before .before .before .before .read-chain .ensures) (sym (c .before .before .before .before .before .before .before .before .before .is-dropped .ensures) ∙ c .before .before .before .before .before .before .before .before .if1 .left)) (c .before .before .put-blocks .ensures)
+returns-3 c =
+    let args = c .before .before .before .before .before .before .before .before .before .before .before .before .args in
+    let is-dropped = c .before .before .before .before .before .before .before .before .before .is-dropped in
+    let if1 = c .before .before .before .before .before .before .before .before .if1 in
+    let byte-at = c .before .before .before .before .before .before .before .byte-at in
+    let read-chain = c .before .before .before .before .before .before .read-chain in
+    rw (listing-lines (args .s .now) (byte-at .result) (byte-at .ensures) _ (sym (c .before .before .before .before .enum-told .given .1) ∙ read-chain .ensures) (sym (is-dropped .ensures) ∙ if1 .left)) (c .before .before .put-blocks .ensures)
 
 pub list-message-spec : {M : Type 1} → statement M
 list-message-spec =

@@ -36,13 +36,20 @@ same-length c = search needs
 returns : tie.Need-returns
 unfolding line
 returns c =
-    written-then (c .before .before .before .before .before .before .before .before .before .before .before .before .before .before .before .before .before .before .before .before .before .before .before .before .before .before .before .before .before .before .put-decimal .ensures)
-    (written-then (c .before .before .before .before .before .before .before .before .before .before .before .before .before .before .before .before .before .before .before .before .before .before .before .before .before .before .put-byte .ensures)
-    (written-then (c .before .before .before .before .before .before .before .before .before .before .before .before .before .before .before .before .before .before .before .before .before .before .put-hex .ensures)
-    (written-then (c .before .before .before .before .before .before .before .before .before .before .before .before .before .before .before .before .before .before .put-byte2 .ensures)
-    (written-then (c .before .before .before .before .before .before .before .before .before .before .before .before .before .before .put-decimal2 .ensures)
-    (written-then (c .before .before .before .before .before .before .before .before .before .before .put-byte3 .ensures)
-    (written-then (c .before .before .before .before .before .before .put-decimal3 .ensures) (c .before .before .put-byte4 .ensures)))))))
+    let put-decimal = c .before .before .before .before .before .before .before .before .before .before .before .before .before .before .before .before .before .before .before .before .before .before .before .before .before .before .before .before .before .before .put-decimal in
+    let put-byte = c .before .before .before .before .before .before .before .before .before .before .before .before .before .before .before .before .before .before .before .before .before .before .before .before .before .before .put-byte in
+    let put-hex = c .before .before .before .before .before .before .before .before .before .before .before .before .before .before .before .before .before .before .before .before .before .before .put-hex in
+    let put-byte2 = c .before .before .before .before .before .before .before .before .before .before .before .before .before .before .before .before .before .before .put-byte2 in
+    let put-decimal2 = c .before .before .before .before .before .before .before .before .before .before .before .before .before .before .put-decimal2 in
+    let put-byte3 = c .before .before .before .before .before .before .before .before .before .before .put-byte3 in
+    let put-decimal3 = c .before .before .before .before .before .before .put-decimal3 in
+    written-then (put-decimal .ensures)
+    (written-then (put-byte .ensures)
+    (written-then (put-hex .ensures)
+    (written-then (put-byte2 .ensures)
+    (written-then (put-decimal2 .ensures)
+    (written-then (put-byte3 .ensures)
+    (written-then (put-decimal3 .ensures) (c .before .before .put-byte4 .ensures)))))))
 
 pub put-line-spec : {M : Type 1} → statement M
 put-line-spec =

@@ -37,13 +37,22 @@ lock-stays-requires : tie.Need-lock-stays-requires Inv-loop μ-loop
 lock-stays-requires c κs = search needs
 
 mul-list-2 : tie.Need-mul-list-2 Inv-loop μ-loop
-mul-list-2 c = let long : length (c .before .before .before .before .before .before .args .locks) ≡ 128 = search needs in let most = keeping-most noLock (lockStays (c .before .before .before .before .before .before .args .fids .now)) (c .before .before .before .before .before .before .args .locks) (c .before .before .before .before .loop .i) (c .before .before .before .before .loop .list) (c .before .before .before .before .loop .count) (c .before .before .before .before .loop .inv .1) (omega arith) in omega arith
+mul-list-2 c =
+    let args = c .before .before .before .before .before .before .args in
+    let loop = c .before .before .before .before .loop in
+    let long : length (args .locks) ≡ 128 = search needs in let most = keeping-most noLock (lockStays (args .fids .now)) (args .locks) (loop .i) (loop .list) (loop .count) (loop .inv .1) (omega arith) in omega arith
 
 array-set-from-list-2 : tie.Need-array-set-from-list-2 Inv-loop μ-loop
-array-set-from-list-2 c = let long : length (c .before .before .before .before .before .before .args .locks) ≡ 128 = search needs in let most = keeping-most noLock (lockStays (c .before .before .before .before .before .before .args .fids .now)) (c .before .before .before .before .before .before .args .locks) (c .before .before .before .before .loop .i) (c .before .before .before .before .loop .list) (c .before .before .before .before .loop .count) (c .before .before .before .before .loop .inv .1) (omega arith) in omega arith
+array-set-from-list-2 c =
+    let args = c .before .before .before .before .before .before .args in
+    let loop = c .before .before .before .before .loop in
+    let long : length (args .locks) ≡ 128 = search needs in let most = keeping-most noLock (lockStays (args .fids .now)) (args .locks) (loop .i) (loop .list) (loop .count) (loop .inv .1) (omega arith) in omega arith
 
 add-count : tie.Need-add-count Inv-loop μ-loop
-add-count c = let long : length (c .before .before .before .before .before .before .args .locks) ≡ 128 = search needs in let most = keeping-most noLock (lockStays (c .before .before .before .before .before .before .args .fids .now)) (c .before .before .before .before .before .before .args .locks) (c .before .before .before .before .loop .i) (c .before .before .before .before .loop .list) (c .before .before .before .before .loop .count) (c .before .before .before .before .loop .inv .1) (omega arith) in omega arith
+add-count c =
+    let args = c .before .before .before .before .before .before .args in
+    let loop = c .before .before .before .before .loop in
+    let long : length (args .locks) ≡ 128 = search needs in let most = keeping-most noLock (lockStays (args .fids .now)) (args .locks) (loop .i) (loop .list) (loop .count) (loop .inv .1) (omega arith) in omega arith
 
 add-i : tie.Need-add-i Inv-loop μ-loop
 add-i c = omega arith
@@ -53,11 +62,13 @@ loop-less c = omega arith
 
 loop-again : tie.Need-loop-again Inv-loop μ-loop
 loop-again c =
-    let long : length (c .before .before .before .before .before .before .args .locks) ≡ 128 = search needs in
-    let below : (c .before .before .before .before .loop .i) < length (c .before .before .before .before .before .before .args .locks) = omega arith in (
+    let args = c .before .before .before .before .before .before .args in
+    let loop = c .before .before .before .before .loop in
+    let long : length (args .locks) ≡ 128 = search needs in
+    let below : (loop .i) < length (args .locks) = omega arith in (
       omega arith,
-      ⊎-elim (λ w. rw (w .1, w .2) (keeping-yes noLock (lockStays (c .before .before .before .before .before .before .args .fids .now)) (c .before .before .before .before .before .before .args .locks) (c .before .before .before .before .loop .i) (c .before .before .before .before .loop .list) (c .before .before .before .before .loop .count) (c .before .before .before .before .loop .inv .1) noLock below (sym (c .before .lock-stays .ensures) ∙ w .0 .taken)))
-          (λ w. rw (w .1, w .2) (keeping-no noLock (lockStays (c .before .before .before .before .before .before .args .fids .now)) (c .before .before .before .before .before .before .args .locks) (c .before .before .before .before .loop .i) (c .before .before .before .before .loop .list) (c .before .before .before .before .loop .count) (c .before .before .before .before .loop .inv .1) noLock below (sym (c .before .lock-stays .ensures) ∙ w .0 .left)))
+      ⊎-elim (λ w. rw (w .1, w .2) (keeping-yes noLock (lockStays (args .fids .now)) (args .locks) (loop .i) (loop .list) (loop .count) (loop .inv .1) noLock below (sym (c .before .lock-stays .ensures) ∙ w .0 .taken)))
+          (λ w. rw (w .1, w .2) (keeping-no noLock (lockStays (args .fids .now)) (args .locks) (loop .i) (loop .list) (loop .count) (loop .inv .1) noLock below (sym (c .before .lock-stays .ensures) ∙ w .0 .left)))
           (c .if1 .came),
     )
 

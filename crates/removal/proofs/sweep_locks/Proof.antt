@@ -31,7 +31,10 @@ array-share-prefix-numbers : tie.Need-array-share-prefix-numbers
 array-share-prefix-numbers c = search needs
 
 slice-aggregate-keep-locks : tie.Need-slice-aggregate-keep-locks
-slice-aggregate-keep-locks c = let m : (c .before .before .before .at-most .result) ≤ 64 = omega arith in let long : length (c .before .before .before .before .fids .result) ≡ 64 = search needs in sym (length-take-le (c .before .before .before .at-most .result) (c .before .before .before .before .fids .result) (omega arith))
+slice-aggregate-keep-locks c =
+    let fids = c .before .before .before .before .fids in
+    let at-most = c .before .before .before .at-most in
+    let m : (at-most .result) ≤ 64 = omega arith in let long : length (fids .result) ≡ 64 = search needs in sym (length-take-le (at-most .result) (fids .result) (omega arith))
 
 keep-locks-requires : tie.Need-keep-locks-requires
 keep-locks-requires c κs = search needs
@@ -39,8 +42,12 @@ keep-locks-requires c κs = search needs
 returns : tie.Need-returns
 unfolding sweepLocks withLocks
 returns c =
-    let front = column-front fidOf (c .before .before .before .before .before .before .before .before .args .t .opens) (c .before .before .before .before .before .before .before .before .args .t .nopens) 64 (c .before .before .before .before .before .at-most .result) (c .before .before .before .before .before .before .fids .result) (search length-mapped) (c .before .before .before .before .before .before .fids .ensures) (c .before .before .before .before .before .at-most .ensures) in
-    let s = swept noLock (lockStays (map fidOf (take (c .before .before .before .before .before .before .before .before .args .t .nopens) (c .before .before .before .before .before .before .before .before .args .t .opens)))) (c .before .before .before .before .before .before .before .before .args .t .locks) (c .before .before .before .before .before .before .before .before .args .t .nlocks) 128 (c .before .before .before .at-most2 .result) (c .before .keep-locks .result .list) (c .before .keep-locks .result .count) (search length-mapped) (c .before .before .before .at-most2 .ensures) (c .before .keep-locks .ensures .0 ∙ ap (λ (l : List ℕ). kept noLock (lockStays l) (c .before .before .before .before .before .before .before .before .args .t .locks) (c .before .before .before .at-most2 .result)) front) (c .before .keep-locks .ensures .1 ∙ ap (λ (l : List ℕ). length (keep (lockStays l) (take (c .before .before .before .at-most2 .result) (c .before .before .before .before .before .before .before .before .args .t .locks)))) front) in
+    let args = c .before .before .before .before .before .before .before .before .args in
+    let fids = c .before .before .before .before .before .before .fids in
+    let at-most = c .before .before .before .before .before .at-most in
+    let at-most2 = c .before .before .before .at-most2 in
+    let front = column-front fidOf (args .t .opens) (args .t .nopens) 64 (at-most .result) (fids .result) (search length-mapped) (fids .ensures) (at-most .ensures) in
+    let s = swept noLock (lockStays (map fidOf (take (args .t .nopens) (args .t .opens)))) (args .t .locks) (args .t .nlocks) 128 (at-most2 .result) (c .before .keep-locks .result .list) (c .before .keep-locks .result .count) (search length-mapped) (at-most2 .ensures) (c .before .keep-locks .ensures .0 ∙ ap (λ (l : List ℕ). kept noLock (lockStays l) (args .t .locks) (at-most2 .result)) front) (c .before .keep-locks .ensures .1 ∙ ap (λ (l : List ℕ). length (keep (lockStays l) (take (at-most2 .result) (args .t .locks)))) front) in
     rw (s .array, s .counted)
 
 pub sweep-locks-spec : {M : Type 1} → statement M

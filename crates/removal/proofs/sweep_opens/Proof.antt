@@ -31,7 +31,10 @@ array-share-prefix-numbers : tie.Need-array-share-prefix-numbers
 array-share-prefix-numbers c = search needs
 
 slice-aggregate-keep-opens : tie.Need-slice-aggregate-keep-opens
-slice-aggregate-keep-opens c = let m : (c .before .before .before .at-most .result) ≤ 32 = omega arith in let long : length (c .before .before .before .before .tids .result) ≡ 32 = search needs in sym (length-take-le (c .before .before .before .at-most .result) (c .before .before .before .before .tids .result) (omega arith))
+slice-aggregate-keep-opens c =
+    let tids = c .before .before .before .before .tids in
+    let at-most = c .before .before .before .at-most in
+    let m : (at-most .result) ≤ 32 = omega arith in let long : length (tids .result) ≡ 32 = search needs in sym (length-take-le (at-most .result) (tids .result) (omega arith))
 
 keep-opens-requires : tie.Need-keep-opens-requires
 keep-opens-requires c κs = search needs
@@ -39,8 +42,12 @@ keep-opens-requires c κs = search needs
 returns : tie.Need-returns
 unfolding sweepOpens withOpens
 returns c =
-    let front = column-front tidOf (c .before .before .before .before .before .before .before .before .args .t .trees) (c .before .before .before .before .before .before .before .before .args .t .ntrees) 32 (c .before .before .before .before .before .at-most .result) (c .before .before .before .before .before .before .tids .result) (search length-mapped) (c .before .before .before .before .before .before .tids .ensures) (c .before .before .before .before .before .at-most .ensures) in
-    let s = swept noOpen (openStays (c .before .before .before .before .before .before .before .before .args .gone) (map tidOf (take (c .before .before .before .before .before .before .before .before .args .t .ntrees) (c .before .before .before .before .before .before .before .before .args .t .trees)))) (c .before .before .before .before .before .before .before .before .args .t .opens) (c .before .before .before .before .before .before .before .before .args .t .nopens) 64 (c .before .before .before .at-most2 .result) (c .before .keep-opens .result .list) (c .before .keep-opens .result .count) (search length-mapped) (c .before .before .before .at-most2 .ensures) (c .before .keep-opens .ensures .0 ∙ ap (λ (l : List ℕ). kept noOpen (openStays (c .before .before .before .before .before .before .before .before .args .gone) l) (c .before .before .before .before .before .before .before .before .args .t .opens) (c .before .before .before .at-most2 .result)) front) (c .before .keep-opens .ensures .1 ∙ ap (λ (l : List ℕ). length (keep (openStays (c .before .before .before .before .before .before .before .before .args .gone) l) (take (c .before .before .before .at-most2 .result) (c .before .before .before .before .before .before .before .before .args .t .opens)))) front) in
+    let args = c .before .before .before .before .before .before .before .before .args in
+    let tids = c .before .before .before .before .before .before .tids in
+    let at-most = c .before .before .before .before .before .at-most in
+    let at-most2 = c .before .before .before .at-most2 in
+    let front = column-front tidOf (args .t .trees) (args .t .ntrees) 32 (at-most .result) (tids .result) (search length-mapped) (tids .ensures) (at-most .ensures) in
+    let s = swept noOpen (openStays (args .gone) (map tidOf (take (args .t .ntrees) (args .t .trees)))) (args .t .opens) (args .t .nopens) 64 (at-most2 .result) (c .before .keep-opens .result .list) (c .before .keep-opens .result .count) (search length-mapped) (at-most2 .ensures) (c .before .keep-opens .ensures .0 ∙ ap (λ (l : List ℕ). kept noOpen (openStays (args .gone) l) (args .t .opens) (at-most2 .result)) front) (c .before .keep-opens .ensures .1 ∙ ap (λ (l : List ℕ). length (keep (openStays (args .gone) l) (take (at-most2 .result) (args .t .opens)))) front) in
     rw (s .array, s .counted)
 
 pub sweep-opens-spec : {M : Type 1} → statement M

@@ -18,7 +18,8 @@ keep-sessions-requires c κs = search needs
 returns : tie.Need-returns
 unfolding sweepSessions withSessions
 returns c =
-    let s = swept noSession (sessionStays (c .before .before .before .before .args .gone)) (c .before .before .before .before .args .t .sessions) (c .before .before .before .before .args .t .nsessions) 16 (c .before .before .at-most .result) (c .before .keep-sessions .result .list) (c .before .keep-sessions .result .count) (search length-mapped) (c .before .before .at-most .ensures) (c .before .keep-sessions .ensures .0) (c .before .keep-sessions .ensures .1) in
+    let args = c .before .before .before .before .args in
+    let s = swept noSession (sessionStays (args .gone)) (args .t .sessions) (args .t .nsessions) 16 (c .before .before .at-most .result) (c .before .keep-sessions .result .list) (c .before .keep-sessions .result .count) (search length-mapped) (c .before .before .at-most .ensures) (c .before .keep-sessions .ensures .0) (c .before .keep-sessions .ensures .1) in
     rw (s .array, s .counted)
 
 pub sweep-sessions-spec : {M : Type 1} → statement M

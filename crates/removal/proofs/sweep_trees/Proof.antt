@@ -31,7 +31,10 @@ array-share-prefix-numbers : tie.Need-array-share-prefix-numbers
 array-share-prefix-numbers c = search needs
 
 slice-aggregate-keep-trees : tie.Need-slice-aggregate-keep-trees
-slice-aggregate-keep-trees c = let m : (c .before .before .before .at-most .result) ≤ 16 = omega arith in let long : length (c .before .before .before .before .uids .result) ≡ 16 = search needs in sym (length-take-le (c .before .before .before .at-most .result) (c .before .before .before .before .uids .result) (omega arith))
+slice-aggregate-keep-trees c =
+    let uids = c .before .before .before .before .uids in
+    let at-most = c .before .before .before .at-most in
+    let m : (at-most .result) ≤ 16 = omega arith in let long : length (uids .result) ≡ 16 = search needs in sym (length-take-le (at-most .result) (uids .result) (omega arith))
 
 keep-trees-requires : tie.Need-keep-trees-requires
 keep-trees-requires c κs = search needs
@@ -39,8 +42,12 @@ keep-trees-requires c κs = search needs
 returns : tie.Need-returns
 unfolding sweepTrees withTrees
 returns c =
-    let front = column-front uidOf (c .before .before .before .before .before .before .before .before .args .t .sessions) (c .before .before .before .before .before .before .before .before .args .t .nsessions) 16 (c .before .before .before .before .before .at-most .result) (c .before .before .before .before .before .before .uids .result) (search length-mapped) (c .before .before .before .before .before .before .uids .ensures) (c .before .before .before .before .before .at-most .ensures) in
-    let s = swept noTree (treeStays (c .before .before .before .before .before .before .before .before .args .gone) (map uidOf (take (c .before .before .before .before .before .before .before .before .args .t .nsessions) (c .before .before .before .before .before .before .before .before .args .t .sessions)))) (c .before .before .before .before .before .before .before .before .args .t .trees) (c .before .before .before .before .before .before .before .before .args .t .ntrees) 32 (c .before .before .before .at-most2 .result) (c .before .keep-trees .result .list) (c .before .keep-trees .result .count) (search length-mapped) (c .before .before .before .at-most2 .ensures) (c .before .keep-trees .ensures .0 ∙ ap (λ (l : List ℕ). kept noTree (treeStays (c .before .before .before .before .before .before .before .before .args .gone) l) (c .before .before .before .before .before .before .before .before .args .t .trees) (c .before .before .before .at-most2 .result)) front) (c .before .keep-trees .ensures .1 ∙ ap (λ (l : List ℕ). length (keep (treeStays (c .before .before .before .before .before .before .before .before .args .gone) l) (take (c .before .before .before .at-most2 .result) (c .before .before .before .before .before .before .before .before .args .t .trees)))) front) in
+    let args = c .before .before .before .before .before .before .before .before .args in
+    let uids = c .before .before .before .before .before .before .uids in
+    let at-most = c .before .before .before .before .before .at-most in
+    let at-most2 = c .before .before .before .at-most2 in
+    let front = column-front uidOf (args .t .sessions) (args .t .nsessions) 16 (at-most .result) (uids .result) (search length-mapped) (uids .ensures) (at-most .ensures) in
+    let s = swept noTree (treeStays (args .gone) (map uidOf (take (args .t .nsessions) (args .t .sessions)))) (args .t .trees) (args .t .ntrees) 32 (at-most2 .result) (c .before .keep-trees .result .list) (c .before .keep-trees .result .count) (search length-mapped) (at-most2 .ensures) (c .before .keep-trees .ensures .0 ∙ ap (λ (l : List ℕ). kept noTree (treeStays (args .gone) l) (args .t .trees) (at-most2 .result)) front) (c .before .keep-trees .ensures .1 ∙ ap (λ (l : List ℕ). length (keep (treeStays (args .gone) l) (take (at-most2 .result) (args .t .trees)))) front) in
     rw (s .array, s .counted)
 
 pub sweep-trees-spec : {M : Type 1} → statement M

@@ -27,11 +27,15 @@ returns-5 c = rw (c .before .before .if4 .taken, ne-eqb (c .before .before .befo
 
 returns-6 : tie.Need-returns-6
 unfolding mayFollow
-returns-6 c = rw (c .before .before .if4 .taken, ne-eqb (c .before .before .before .before .before .args .next) 47 (c .before .if5 .left), ne-eqb (c .before .before .before .before .before .args .next) 46 (c .if6 .left))
+returns-6 c =
+    let args = c .before .before .before .before .before .args in
+    rw (c .before .before .if4 .taken, ne-eqb (args .next) 47 (c .before .if5 .left), ne-eqb (args .next) 46 (c .if6 .left))
 
 returns-7 : tie.Need-returns-7
 unfolding mayFollow
-returns-7 c = rw (ne-eqb (c .before .before .before .args .command) 36 (c .before .before .if1 .left), ne-eqb (c .before .before .before .args .command) 46 (c .before .if3 .left), ne-eqb (c .before .before .before .args .command) 47 (c .if4 .left))
+returns-7 c =
+    let args = c .before .before .before .args in
+    rw (ne-eqb (args .command) 36 (c .before .before .if1 .left), ne-eqb (args .command) 46 (c .before .if3 .left), ne-eqb (args .command) 47 (c .if4 .left))
 
 pub may-follow-spec : {M : Type 1} → statement M
 may-follow-spec =

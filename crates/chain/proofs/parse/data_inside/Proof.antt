@@ -46,10 +46,12 @@ add-if1-2 c = search needs
 returns : tie.Need-returns
 unfolding dataInside
 returns c =
-    let offset : c .before .before .before .le16-at .result ≡ dataOffset (c .before .before .before .before .before .args .s .now) (c .before .before .before .before .before .args .at) = c .before .before .before .le16-at .ensures in
-    let words : c .before .byte-at .result ≡ wordCount (c .before .before .before .before .before .args .s .now) (c .before .before .before .before .before .args .at) = c .before .byte-at .ensures in
-    let early : dataOffset (c .before .before .before .before .before .args .s .now) (c .before .before .before .before .before .args .at) < byteArea (c .before .before .before .before .before .args .s .now) (c .before .before .before .before .before .args .at) = omega arith in
-    rw (lt-leb (byteArea (c .before .before .before .before .before .args .s .now) (c .before .before .before .before .before .args .at)) (dataOffset (c .before .before .before .before .before .args .s .now) (c .before .before .before .before .before .args .at)) early)
+    let args = c .before .before .before .before .before .args in
+    let le16-at = c .before .before .before .le16-at in
+    let offset : le16-at .result ≡ dataOffset (args .s .now) (args .at) = le16-at .ensures in
+    let words : c .before .byte-at .result ≡ wordCount (args .s .now) (args .at) = c .before .byte-at .ensures in
+    let early : dataOffset (args .s .now) (args .at) < byteArea (args .s .now) (args .at) = omega arith in
+    rw (lt-leb (byteArea (args .s .now) (args .at)) (dataOffset (args .s .now) (args .at)) early)
 
 add-result : tie.Need-add-result
 add-result c = search needs
@@ -60,10 +62,12 @@ block-end-requires c κs = search needs
 returns-2 : tie.Need-returns-2
 unfolding dataInside
 returns-2 c =
-    let offset : c .before .before .before .before .le16-at .result ≡ dataOffset (c .before .before .before .before .before .before .args .s .now) (c .before .before .before .before .before .before .args .at) = c .before .before .before .before .le16-at .ensures in
-    let words : c .before .before .byte-at .result ≡ wordCount (c .before .before .before .before .before .before .args .s .now) (c .before .before .before .before .before .before .args .at) = c .before .before .byte-at .ensures in
-    let late : byteArea (c .before .before .before .before .before .before .args .s .now) (c .before .before .before .before .before .before .args .at) ≤ dataOffset (c .before .before .before .before .before .before .args .s .now) (c .before .before .before .before .before .before .args .at) = omega arith in
-    rw (le-leb (byteArea (c .before .before .before .before .before .before .args .s .now) (c .before .before .before .before .before .before .args .at)) (dataOffset (c .before .before .before .before .before .before .args .s .now) (c .before .before .before .before .before .before .args .at)) late, c .block-end .ensures, c .before .before .before .before .le16-at .ensures, c .before .before .before .le16-at2 .ensures)
+    let args = c .before .before .before .before .before .before .args in
+    let le16-at = c .before .before .before .before .le16-at in
+    let offset : le16-at .result ≡ dataOffset (args .s .now) (args .at) = le16-at .ensures in
+    let words : c .before .before .byte-at .result ≡ wordCount (args .s .now) (args .at) = c .before .before .byte-at .ensures in
+    let late : byteArea (args .s .now) (args .at) ≤ dataOffset (args .s .now) (args .at) = omega arith in
+    rw (le-leb (byteArea (args .s .now) (args .at)) (dataOffset (args .s .now) (args .at)) late, c .block-end .ensures, le16-at .ensures, c .before .before .before .le16-at2 .ensures)
 
 pub data-inside-spec : {M : Type 1} → statement M
 data-inside-spec =

@@ -69,16 +69,20 @@ range-size-requires c κs = search needs
 
 mul-result : tie.Need-mul-result
 mul-result c =
-    let few : c .before .before .before .le16-at .result + c .before .before .le16-at2 .result < 2 ^ 17 = omega (arith, c .before .before .before .le16-at .ok, c .before .before .le16-at2 .ok) in
-    let small : (c .before .before .before .le16-at .result + c .before .before .le16-at2 .result) * c .range-size .result ≤ 2621440 = rw (c .range-size .ensures) (place-small _ (c .before .before .before .le16-at .result + c .before .before .le16-at2 .result) few) in
+    let le16-at = c .before .before .before .le16-at in
+    let le16-at2 = c .before .before .le16-at2 in
+    let few : le16-at .result + le16-at2 .result < 2 ^ 17 = omega (arith, le16-at .ok, le16-at2 .ok) in
+    let small : (le16-at .result + le16-at2 .result) * c .range-size .result ≤ 2621440 = rw (c .range-size .ensures) (place-small _ (le16-at .result + le16-at2 .result) few) in
     omega arith
 
 returns-2 : tie.Need-returns-2
 unfolding lockingFits isLarge
 returns-2 c =
-    let words : wordCount (c .before .before .before .before .before .before .before .before .args .s .now) (c .before .before .before .before .before .before .before .before .args .at) ≡ 8 = shaped-words (c .before .before .before .before .before .before .before .before .args .s .now) (c .before .before .before .before .before .before .before .before .args .at) 8 (fits (c .before .before .before .before .before)) in
-    let place : c .before .before .before .before .before .before .before .before .args .at + 1 + 2 * wordCount (c .before .before .before .before .before .before .before .before .args .s .now) (c .before .before .before .before .before .before .before .before .args .at) ≡ c .before .before .before .before .before .before .before .before .args .at + 17 = omega arith in
-    rw (fits (c .before .before .before .before .before), place, c .range-size .ensures, c .before .before .before .le16-at .ensures, c .before .before .le16-at2 .ensures, c .before .le16-at3 .ensures, c .before .before .before .before .byte-at .ensures)
+    let args = c .before .before .before .before .before .before .before .before .args in
+    let before = c .before .before .before .before .before in
+    let words : wordCount (args .s .now) (args .at) ≡ 8 = shaped-words (args .s .now) (args .at) 8 (fits (before)) in
+    let place : args .at + 1 + 2 * wordCount (args .s .now) (args .at) ≡ args .at + 17 = omega arith in
+    rw (fits (before), place, c .range-size .ensures, c .before .before .before .le16-at .ensures, c .before .before .le16-at2 .ensures, c .before .le16-at3 .ensures, c .before .before .before .before .byte-at .ensures)
 
 pub locking-fits-spec : {M : Type 1} → statement M
 locking-fits-spec =

@@ -57,7 +57,9 @@ returns-7 c = rw (c .before .match .keys7) (c .parse-empty2 .ensures)
 
 returns-8 : tie.Need-returns-8
 unfolding parse
-returns-8 c = rw (ne-eqb (c .before .before .args .command) 36 (c .match .rest .0 .0 .0 .0 .0 .0 .1), ne-eqb (c .before .before .args .command) 46 (c .match .rest .0 .0 .0 .0 .0 .1), ne-eqb (c .before .before .args .command) 47 (c .match .rest .0 .0 .0 .0 .1), ne-eqb (c .before .before .args .command) 4 (c .match .rest .0 .0 .0 .1), ne-eqb (c .before .before .args .command) 116 (c .match .rest .0 .0 .1), ne-eqb (c .before .before .args .command) 113 (c .match .rest .0 .1), ne-eqb (c .before .before .args .command) 17 (c .match .rest .1))
+returns-8 c =
+    let args = c .before .before .args in
+    rw (ne-eqb (args .command) 36 (c .match .rest .0 .0 .0 .0 .0 .0 .1), ne-eqb (args .command) 46 (c .match .rest .0 .0 .0 .0 .0 .1), ne-eqb (args .command) 47 (c .match .rest .0 .0 .0 .0 .1), ne-eqb (args .command) 4 (c .match .rest .0 .0 .0 .1), ne-eqb (args .command) 116 (c .match .rest .0 .0 .1), ne-eqb (args .command) 113 (c .match .rest .0 .1), ne-eqb (args .command) 17 (c .match .rest .1))
 
 pub parse-block-spec : {M : Type 1} → statement M
 parse-block-spec =

@@ -34,7 +34,9 @@ whole-requires c κs = omega (arith, inside (c .before))
 
 returns-2 : tie.Need-returns-2
 unfolding parseClose
-returns-2 c = rw (c .whole .ensures, c .before .le16-at .ensures, ← (c .before .before .before .is-bare .ensures), not-false (c .before .before .before .is-bare .result) (c .before .before .if1 .left))
+returns-2 c =
+    let is-bare = c .before .before .before .is-bare in
+    rw (c .whole .ensures, c .before .le16-at .ensures, ← (is-bare .ensures), not-false (is-bare .result) (c .before .before .if1 .left))
 
 pub parse-close-spec : {M : Type 1} → statement M
 parse-close-spec =

@@ -28,7 +28,9 @@ link-fits-requires c κs = omega (arith, inside c)
 
 returns-2 : tie.Need-returns-2
 unfolding parseLogoff answer
-returns-2 c = rw (← (c .before .before .before .is-bare .ensures), not-false (c .before .before .before .is-bare .result) (c .before .before .if1 .left), ← (c .before .link-fits .ensures), not-true (c .before .link-fits .result) (c .if2 .taken))
+returns-2 c =
+    let is-bare = c .before .before .before .is-bare in
+    rw (← (is-bare .ensures), not-false (is-bare .result) (c .before .before .if1 .left), ← (c .before .link-fits .ensures), not-true (c .before .link-fits .result) (c .if2 .taken))
 
 link-at-requires : tie.Need-link-at-requires
 link-at-requires c κs = omega (arith, inside (c .before .before))
@@ -38,7 +40,10 @@ whole-requires c κs = omega (arith, inside (c .before .before .before))
 
 returns-3 : tie.Need-returns-3
 unfolding parseLogoff
-returns-3 c = rw (c .whole .ensures, c .before .link-at .ensures, ← (c .before .before .before .before .before .is-bare .ensures), not-false (c .before .before .before .before .before .is-bare .result) (c .before .before .before .before .if1 .left), ← (c .before .before .before .link-fits .ensures), not-false (c .before .before .before .link-fits .result) (c .before .before .if2 .left))
+returns-3 c =
+    let is-bare = c .before .before .before .before .before .is-bare in
+    let link-fits = c .before .before .before .link-fits in
+    rw (c .whole .ensures, c .before .link-at .ensures, ← (is-bare .ensures), not-false (is-bare .result) (c .before .before .before .before .if1 .left), ← (link-fits .ensures), not-false (link-fits .result) (c .before .before .if2 .left))
 
 pub parse-logoff-spec : {M : Type 1} → statement M
 parse-logoff-spec =

@@ -28,7 +28,9 @@ link-fits-requires c κs = omega (arith, inside c)
 
 returns-2 : tie.Need-returns-2
 unfolding parseRead answer
-returns-2 c = rw (← (c .before .before .before .read-fits .ensures), not-false (c .before .before .before .read-fits .result) (c .before .before .if1 .left), ← (c .before .link-fits .ensures), not-true (c .before .link-fits .result) (c .if2 .taken))
+returns-2 c =
+    let read-fits = c .before .before .before .read-fits in
+    rw (← (read-fits .ensures), not-false (read-fits .result) (c .before .before .if1 .left), ← (c .before .link-fits .ensures), not-true (c .before .link-fits .result) (c .if2 .taken))
 
 add-le16-at : tie.Need-add-le16-at
 add-le16-at c = omega (arith, inside (c .before .before))
@@ -62,7 +64,11 @@ whole-requires c κs = omega (arith, inside (c .before .before .before .before .
 
 returns-3 : tie.Need-returns-3
 unfolding parseRead
-returns-3 c = rw (c .whole .ensures, c .before .link-at .ensures, c .before .before .before .before .before .le16-at .ensures, c .before .before .before .offset-at .ensures, c .before .before .before .before .byte-at .ensures, c .before .before .le16-at2 .ensures, ← (c .before .before .before .before .before .before .before .before .before .read-fits .ensures), not-false (c .before .before .before .before .before .before .before .before .before .read-fits .result) (c .before .before .before .before .before .before .before .before .if1 .left), ← (c .before .before .before .before .before .before .before .link-fits .ensures), not-false (c .before .before .before .before .before .before .before .link-fits .result) (c .before .before .before .before .before .before .if2 .left))
+returns-3 c =
+    let read-fits = c .before .before .before .before .before .before .before .before .before .read-fits in
+    let if1 = c .before .before .before .before .before .before .before .before .if1 in
+    let link-fits = c .before .before .before .before .before .before .before .link-fits in
+    rw (c .whole .ensures, c .before .link-at .ensures, c .before .before .before .before .before .le16-at .ensures, c .before .before .before .offset-at .ensures, c .before .before .before .before .byte-at .ensures, c .before .before .le16-at2 .ensures, ← (read-fits .ensures), not-false (read-fits .result) (if1 .left), ← (link-fits .ensures), not-false (link-fits .result) (c .before .before .before .before .before .before .if2 .left))
 
 pub parse-read-spec : {M : Type 1} → statement M
 parse-read-spec =

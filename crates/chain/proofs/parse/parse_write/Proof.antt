@@ -28,7 +28,9 @@ link-fits-requires c κs = omega (arith, inside c)
 
 returns-2 : tie.Need-returns-2
 unfolding parseWrite answer
-returns-2 c = rw (← (c .before .before .before .write-fits .ensures), not-false (c .before .before .before .write-fits .result) (c .before .before .if1 .left), ← (c .before .link-fits .ensures), not-true (c .before .link-fits .result) (c .if2 .taken))
+returns-2 c =
+    let write-fits = c .before .before .before .write-fits in
+    rw (← (write-fits .ensures), not-false (write-fits .result) (c .before .before .if1 .left), ← (c .before .link-fits .ensures), not-true (c .before .link-fits .result) (c .if2 .taken))
 
 add-le16-at : tie.Need-add-le16-at
 add-le16-at c = omega (arith, inside (c .before .before))
@@ -67,11 +69,18 @@ link-at-requires : tie.Need-link-at-requires
 link-at-requires c κs = omega (arith, inside (c .before .before .before .before .before .before .before))
 
 whole-requires : tie.Need-whole-requires
-whole-requires c κs = omega (arith, inside (c .before .before .before .before .before .before .before .before))
+whole-requires c κs =
+    let before = c .before .before .before .before .before .before .before .before in
+    omega (arith, inside (before))
 
 returns-3 : tie.Need-returns-3
 unfolding parseWrite
-returns-3 c = rw (c .whole .ensures, c .before .link-at .ensures, c .before .before .before .before .before .before .le16-at .ensures, c .before .before .before .before .offset-at .ensures, c .before .before .before .before .before .byte-at .ensures, c .before .before .before .le16-at2 .ensures, c .before .before .le16-at3 .ensures, ← (c .before .before .before .before .before .before .before .before .before .before .write-fits .ensures), not-false (c .before .before .before .before .before .before .before .before .before .before .write-fits .result) (c .before .before .before .before .before .before .before .before .before .if1 .left), ← (c .before .before .before .before .before .before .before .before .link-fits .ensures), not-false (c .before .before .before .before .before .before .before .before .link-fits .result) (c .before .before .before .before .before .before .before .if2 .left))
+returns-3 c =
+    let write-fits = c .before .before .before .before .before .before .before .before .before .before .write-fits in
+    let if1 = c .before .before .before .before .before .before .before .before .before .if1 in
+    let link-fits = c .before .before .before .before .before .before .before .before .link-fits in
+    let if2 = c .before .before .before .before .before .before .before .if2 in
+    rw (c .whole .ensures, c .before .link-at .ensures, c .before .before .before .before .before .before .le16-at .ensures, c .before .before .before .before .offset-at .ensures, c .before .before .before .before .before .byte-at .ensures, c .before .before .before .le16-at2 .ensures, c .before .before .le16-at3 .ensures, ← (write-fits .ensures), not-false (write-fits .result) (if1 .left), ← (link-fits .ensures), not-false (link-fits .result) (if2 .left))
 
 pub parse-write-spec : {M : Type 1} → statement M
 parse-write-spec =

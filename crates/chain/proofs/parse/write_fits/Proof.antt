@@ -14,8 +14,9 @@ has-shape-requires c κs = search needs
 
 data-inside-requires : tie.Need-data-inside-requires
 data-inside-requires c κs =
-    let fits : shaped (c .before .before .before .args .s .now) (c .before .before .before .args .at) 12 ≡ true = sym (c .before .has-shape .ensures) ∙ c .if1 .taken in
-    omega (arith, shaped-inside (c .before .before .before .args .s .now) (c .before .before .before .args .at) 12 fits)
+    let args = c .before .before .before .args in
+    let fits : shaped (args .s .now) (args .at) 12 ≡ true = sym (c .before .has-shape .ensures) ∙ c .if1 .taken in
+    omega (arith, shaped-inside (args .s .now) (args .at) 12 fits)
 
 returns : tie.Need-returns
 unfolding writeFits
@@ -26,8 +27,9 @@ has-shape-requires-2 c κs = search needs
 
 data-inside-requires-2 : tie.Need-data-inside-requires-2
 data-inside-requires-2 c κs =
-    let fits : shaped (c .before .before .before .before .before .args .s .now) (c .before .before .before .before .before .args .at) 14 ≡ true = sym (c .before .has-shape2 .ensures) ∙ c .if2 .taken in
-    omega (arith, shaped-inside (c .before .before .before .before .before .args .s .now) (c .before .before .before .before .before .args .at) 14 fits)
+    let args = c .before .before .before .before .before .args in
+    let fits : shaped (args .s .now) (args .at) 14 ≡ true = sym (c .before .has-shape2 .ensures) ∙ c .if2 .taken in
+    omega (arith, shaped-inside (args .s .now) (args .at) 14 fits)
 
 returns-2 : tie.Need-returns-2
 unfolding writeFits

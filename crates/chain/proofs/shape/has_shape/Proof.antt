@@ -10,7 +10,9 @@ use Rattle.chain.proofs.shape.has_shape.Statement.{statement}
 use Rattle.chain.proofs.shape.has_shape.Tie as tie
 
 returns : tie.Need-returns
-returns c = sym (shaped-past (c .before .before .args .s .now) (c .before .before .args .at) (c .before .before .args .words) (c .if1 .taken))
+returns c =
+    let args = c .before .before .args in
+    sym (shaped-past (args .s .now) (args .at) (args .words) (c .if1 .taken))
 
 byte-at-requires : tie.Need-byte-at-requires
 byte-at-requires c κs = search needs
@@ -24,7 +26,9 @@ block-end-requires c κs = search needs
 
 returns-3 : tie.Need-returns-3
 unfolding shaped
-returns-3 c = rw (c .block-end .ensures, eq-eqb (byteAt (c .before .before .before .before .before .args .s .now) (c .before .before .before .before .before .args .at)) (c .before .before .before .before .before .args .words) (sym (c .before .before .byte-at .ensures) ∙ c .before .if2 .left))
+returns-3 c =
+    let args = c .before .before .before .before .before .args in
+    rw (c .block-end .ensures, eq-eqb (byteAt (args .s .now) (args .at)) (args .words) (sym (c .before .before .byte-at .ensures) ∙ c .before .if2 .left))
 
 pub has-shape-spec : {M : Type 1} → statement M
 has-shape-spec =

@@ -41,7 +41,9 @@ le16-at-requires c κs = search needs
 
 returns-2 : tie.Need-returns-2
 unfolding bare
-returns-2 c = rw (fits (c .before), shaped-words (c .before .before .before .before .args .s .now) (c .before .before .before .before .args .at) (c .before .before .before .before .args .words) (fits (c .before)), c .le16-at .ensures)
+returns-2 c =
+    let args = c .before .before .before .before .args in
+    rw (fits (c .before), shaped-words (args .s .now) (args .at) (args .words) (fits (c .before)), c .le16-at .ensures)
 
 pub is-bare-spec : {M : Type 1} → statement M
 is-bare-spec =

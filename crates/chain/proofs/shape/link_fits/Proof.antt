@@ -21,7 +21,9 @@ may-follow-requires c κs = search needs
 
 returns-2 : tie.Need-returns-2
 unfolding linkFits
-returns-2 c = rw (← (c .before .before .before .byte-at .ensures), ne-eqb (c .before .before .before .byte-at .result) 255 (c .before .before .if1 .left), ← (c .before .may-follow .ensures), not-true (c .before .may-follow .result) (c .if2 .taken))
+returns-2 c =
+    let byte-at = c .before .before .before .byte-at in
+    rw (← (byte-at .ensures), ne-eqb (byte-at .result) 255 (c .before .before .if1 .left), ← (c .before .may-follow .ensures), not-true (c .before .may-follow .result) (c .if2 .taken))
 
 add-le16-at : tie.Need-add-le16-at
 add-le16-at c = search needs
@@ -37,7 +39,10 @@ block-end-requires c κs = search needs
 
 returns-3 : tie.Need-returns-3
 unfolding linkFits
-returns-3 c = rw (c .block-end .ensures, c .before .le16-at .ensures, ← (c .before .before .before .before .before .byte-at .ensures), ne-eqb (c .before .before .before .before .before .byte-at .result) 255 (c .before .before .before .before .if1 .left), ← (c .before .before .before .may-follow .ensures), not-false (c .before .before .before .may-follow .result) (c .before .before .if2 .left))
+returns-3 c =
+    let byte-at = c .before .before .before .before .before .byte-at in
+    let may-follow = c .before .before .before .may-follow in
+    rw (c .block-end .ensures, c .before .le16-at .ensures, ← (byte-at .ensures), ne-eqb (byte-at .result) 255 (c .before .before .before .before .if1 .left), ← (may-follow .ensures), not-false (may-follow .result) (c .before .before .if2 .left))
 
 pub link-fits-spec : {M : Type 1} → statement M
 link-fits-spec =

@@ -37,11 +37,15 @@ lock-outcome-requires c κs = search needs
 returns-2 : tie.Need-returns-2
 unfolding lockOpen
 returns-2 c =
-    let served-type = c .before .before .before .before .before .before .before .before .served-type in
-    let args = c .before .before .before .before .before .before .before .before .before .before .args in
-    let g = c .before .before .before .before .before .before .before .before .before .before .pre in
+    let pre = c .before .before .before .before .before .before .before .before .before .before .pre in
+    let args′ = c .before .before .before .before .before .before .before .before .before .before .args in
+    let served-type′ = c .before .before .before .before .before .before .before .before .served-type in
+    let if1 = c .before .before .before .before .before .before .before .if1 in
+    let served-type = served-type′ in
+    let args = args′ in
+    let g = pre in
     λ m.
-    rw (told-yes (served-type .ensures) (c .before .before .before .before .before .before .before .if1 .left), ← (table-serves (opensOf (args .t)) (sound-says (args .t) (g .sound) .records .fids)), ← (c .before .before .before .before .before .file-table .ensures), ← (c .before .before .before .request-of .ensures), ← (c .before .lock-request .ensures))
+    rw (told-yes (served-type .ensures) (if1 .left), ← (table-serves (opensOf (args .t)) (sound-says (args .t) (g .sound) .records .fids)), ← (c .before .before .before .before .before .file-table .ensures), ← (c .before .before .before .request-of .ensures), ← (c .before .lock-request .ensures))
     (c .lock-outcome .ensures m)
 
 pub lock-open-spec : {M : Type 1} → statement M

@@ -14,8 +14,9 @@ enum-known-body c = search needs
 
 lock-block-requires : tie.Need-lock-block-requires
 lock-block-requires c κs =
+    let pre = c .before .before .before .before .before .pre in
     let args = c .before .before .before .before .before .args in
-    (c .before .before .before .before .before .pre .0, locking-told (args .s .now) (args .b) (c .before .body .given .0 .0) (c .before .before .before .before .before .pre .1 .1) (c .before .body .given .1))
+    (pre .0, locking-told (args .s .now) (args .b) (c .before .body .given .0 .0) (pre .1 .1) (c .before .body .given .1))
 
 enum-known-body-2 : tie.Need-enum-known-body-2
 enum-known-body-2 c = search needs
@@ -28,13 +29,14 @@ enum-known-body-3 c = search needs
 
 write-block-requires : tie.Need-write-block-requires
 write-block-requires c κs =
+    let pre = c .before .before .before .before .before .before .pre in
     let args = c .before .before .before .before .before .before .args in
     let body3 = c .before .before .body3 in
-    let w = (write-told (args .s .now) (args .b) (body3 .given .0 .0) (c .before .before .before .before .before .before .pre .1 .1) (body3 .given .1)) in
+    let w = (write-told (args .s .now) (args .b) (body3 .given .0 .0) (pre .1 .1) (body3 .given .1)) in
     let from = w .from in
     let count = w .count in
     let inside = w .inside in
-    (c .before .before .before .before .before .before .pre .0, (c .before .before .before .before .before .before .pre .1 .0, omega arith))
+    (pre .0, (pre .1 .0, omega arith))
 
 enum-known-body-4 : tie.Need-enum-known-body-4
 enum-known-body-4 c = search needs
@@ -76,9 +78,11 @@ same-length c = search needs
 returns-3 : tie.Need-returns-3
 unfolding perform dataOf
 returns-3 c =
+    let pre = c .before .before .before .before .before .before .before .before .before .pre in
+    let args′ = c .before .before .before .before .before .before .before .before .before .args in
     let body3 = c .before .before .before .before .before .body3 in
-    let args = c .before .before .before .before .before .before .before .before .before .args in
-    let w = (write-told (args .s .now) (args .b) (body3 .given .0 .0) (c .before .before .before .before .before .before .before .before .before .pre .1 .1) (body3 .given .1)) in
+    let args = args′ in
+    let w = (write-told (args .s .now) (args .b) (body3 .given .0 .0) (pre .1 .1) (body3 .given .1)) in
     rw (body3 .given .1, ← (w .from), ← (w .count)) (c .before .before .write-block .ensures)
 
 returns-4 : tie.Need-returns-4

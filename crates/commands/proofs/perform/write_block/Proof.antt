@@ -30,7 +30,8 @@ same-length c = search needs
 
 returns : tie.Need-returns
 returns c =
-    let args = c .before .before .before .before .before .before .before .before .args in
+    let args′ = c .before .before .before .before .before .before .before .before .args in
+    let args = args′ in
     let cut : args .f .from + args .f .count - args .f .from ≡ args .f .count = omega arith in
     rw cut at (c .before .before .do-write .ensures)
 

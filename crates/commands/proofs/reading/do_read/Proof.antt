@@ -15,8 +15,9 @@ enum-known-at c = search needs
 
 read-open-requires : tie.Need-read-open-requires
 read-open-requires c κs =
+    let pre = c .before .before .before .before .pre in
     let args = c .before .before .before .before .args in
-    (c .before .before .before .before .pre, reached-file (args .c) (args .t) (args .f .fid) (c .before .at .given .0 .0) (c .before .before .before .before .pre) (sym (c .before .before .before .reach-open .ensures) ∙ c .before .at .given .1))
+    (pre, reached-file (args .c) (args .t) (args .f .fid) (c .before .at .given .0 .0) (pre) (sym (c .before .before .before .reach-open .ensures) ∙ c .before .at .given .1))
 
 enum-known-at-2 : tie.Need-enum-known-at-2
 enum-known-at-2 c = search needs

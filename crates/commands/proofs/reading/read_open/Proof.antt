@@ -45,11 +45,13 @@ returns-2 c =
 returns-3 : tie.Need-returns-3
 unfolding readOpen unlessBarred
 returns-3 c =
-    let args = c .before .before .before .before .before .before .before .args in
+    let pre = c .before .before .before .before .before .before .before .pre in
+    let args′ = c .before .before .before .before .before .before .before .args in
+    let args = args′ in
     λ m.
     gives-done _ (args .t) _ (rw (ne-eqb _ _ (c .before .before .before .before .before .if1 .left), ← (c .before .before .before .before .ask-of .ensures), ← (c .before .before .before .first-bar .ensures), c .before .enum-told .given .1)) (ap (λ (a : Answer). performed a (args .t)) (c .read-part .ensures))
     (part-given (args .t) (args .o .file) (args .f .offset) (args .f .max) m)
-    (part-within (args .t) (args .o .file) (args .f .offset) (args .f .max) (c .before .before .before .before .before .before .before .pre .0) (c .before .before .before .before .before .before .before .pre .1))
+    (part-within (args .t) (args .o .file) (args .f .offset) (args .f .max) (pre .0) (pre .1))
 
 pub read-open-spec : {M : Type 1} → statement M
 read-open-spec =

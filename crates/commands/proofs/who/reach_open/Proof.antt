@@ -60,19 +60,26 @@ enum-told c = search needs
 returns-3 : tie.Need-returns-3
 unfolding reached reachedAt
 returns-3 c =
-    let args = c .before .before .before .before .before .before .before .before .before .before .before .before .args in
+    let args′ = c .before .before .before .before .before .before .before .before .before .before .before .before .args in
+    let session-named′ = c .before .before .before .before .before .before .before .before .before .before .session-named in
+    let if1 = c .before .before .before .before .before .before .before .before .before .if1 in
+    let some-tree-is′ = c .before .before .before .before .before .before .before .some-tree-is in
+    let found = c .before .before .found in
+    let args = args′ in
     let find-open = c .before .before .before .before .find-open in
-    let session-named = c .before .before .before .before .before .before .before .before .before .before .session-named in
-    let some-tree-is = c .before .before .before .before .before .before .before .some-tree-is in
-    let low = place-below (isOpen (args .c) (args .fid)) (args .t .opens) (args .t .nopens) (c .before .before .found .given .0 .0) (sym (find-open .ensures) ∙ c .before .before .found .given .1) in
-    rw (told-yes (session-named .ensures) (c .before .before .before .before .before .before .before .before .before .if1 .left), told-yes (some-tree-is .ensures) (c .before .before .before .before .before .before .if2 .left), sym (find-open .ensures) ∙ c .before .before .found .given .1, getD-take (args .t .nopens) (args .t .opens) (c .before .before .found .given .0 .0) noOpen (low .0))
+    let session-named = session-named′ in
+    let some-tree-is = some-tree-is′ in
+    let low = place-below (isOpen (args .c) (args .fid)) (args .t .opens) (args .t .nopens) (found .given .0 .0) (sym (find-open .ensures) ∙ found .given .1) in
+    rw (told-yes (session-named .ensures) (if1 .left), told-yes (some-tree-is .ensures) (c .before .before .before .before .before .before .if2 .left), sym (find-open .ensures) ∙ found .given .1, getD-take (args .t .nopens) (args .t .opens) (found .given .0 .0) noOpen (low .0))
 
 returns-4 : tie.Need-returns-4
 unfolding reached reachedAt
 returns-4 c =
-    let session-named = c .before .before .before .before .before .before .before .before .session-named in
+    let session-named′ = c .before .before .before .before .before .before .before .before .session-named in
+    let if1 = c .before .before .before .before .before .before .before .if1 in
+    let session-named = session-named′ in
     let some-tree-is = c .before .before .before .before .before .some-tree-is in
-    rw (told-yes (session-named .ensures) (c .before .before .before .before .before .before .before .if1 .left), told-yes (some-tree-is .ensures) (c .before .before .before .before .if2 .left), sym (c .before .before .find-open .ensures) ∙ c .enum-told .given .1)
+    rw (told-yes (session-named .ensures) (if1 .left), told-yes (some-tree-is .ensures) (c .before .before .before .before .if2 .left), sym (c .before .before .find-open .ensures) ∙ c .enum-told .given .1)
 
 pub reach-open-spec : {M : Type 1} → statement M
 reach-open-spec =

@@ -39,11 +39,12 @@ session-is-requires c κs = search needs
 
 returns : tie.Need-returns Inv-loop μ-loop
 returns c =
+    let loop = c .before .before .before .before .loop in
     let args = c .before .before .before .before .before .before .args in
     let at-most = c .before .before .before .before .before .at-most in
     let long : length (args .t2) ≡ 16 = search needs in
     let few : (at-most .result) ≤ 16 = omega arith in
-    sym (c .before .before .before .before .loop .inv .1 ∙ any-yes (args .t2) (at-most .result) (c .before .before .before .before .loop .i) noSession (c .before .before .before .loop-test .taken) (omega arith) (isSession (args .c)) (sym (c .before .session-is .ensures) ∙ c .if1 .taken))
+    sym (loop .inv .1 ∙ any-yes (args .t2) (at-most .result) (loop .i) noSession (c .before .before .before .loop-test .taken) (omega arith) (isSession (args .c)) (sym (c .before .session-is .ensures) ∙ c .if1 .taken))
 
 add-i : tie.Need-add-i Inv-loop μ-loop
 add-i c =
@@ -54,11 +55,12 @@ loop-less c = omega arith
 
 loop-again : tie.Need-loop-again Inv-loop μ-loop
 loop-again c =
+    let loop = c .before .before .before .before .loop in
     let args = c .before .before .before .before .before .before .args in
     let at-most = c .before .before .before .before .before .at-most in
     let long : length (args .t2) ≡ 16 = search needs in
     let few : (at-most .result) ≤ 16 = omega arith in
-    (omega arith, c .before .before .before .before .loop .inv .1 ∙ any-no (args .t2) (at-most .result) (c .before .before .before .before .loop .i) noSession (c .before .before .before .loop-test .taken) (omega arith) (isSession (args .c)) (sym (c .before .session-is .ensures) ∙ c .if1 .left))
+    (omega arith, loop .inv .1 ∙ any-no (args .t2) (at-most .result) (loop .i) noSession (c .before .before .before .loop-test .taken) (omega arith) (isSession (args .c)) (sym (c .before .session-is .ensures) ∙ c .if1 .left))
 
 returns-2 : tie.Need-returns-2 Inv-loop μ-loop
 returns-2 c =

@@ -15,8 +15,10 @@ enum-known-at c = search needs
 
 write-open-requires : tie.Need-write-open-requires
 write-open-requires c κs =
-    let args = c .before .before .before .before .before .before .before .args in
-    (c .before .before .before .before .before .before .before .pre .0, (reached-file (args .c) (args .t) (args .f .fid) (c .before .before .at .given .0 .0) (c .before .before .before .before .before .before .before .pre .0) (sym (c .before .before .before .before .reach-open .ensures) ∙ c .before .before .at .given .1), (c .before .before .before .before .before .before .before .pre .1 .0, c .before .before .before .before .before .before .before .pre .1 .1)))
+    let pre = c .before .before .before .before .before .before .before .pre in
+    let args′ = c .before .before .before .before .before .before .before .args in
+    let args = args′ in
+    (pre .0, (reached-file (args .c) (args .t) (args .f .fid) (c .before .before .at .given .0 .0) (pre .0) (sym (c .before .before .before .before .reach-open .ensures) ∙ c .before .before .at .given .1), (pre .1 .0, pre .1 .1)))
 
 enum-known-at-2 : tie.Need-enum-known-at-2
 enum-known-at-2 c = search needs
@@ -29,13 +31,16 @@ same-length c = search needs
 
 returns : tie.Need-returns
 returns c =
-    let args = c .before .before .before .before .before .before .before .before .before .before .args in
+    let args′ = c .before .before .before .before .before .before .before .before .before .before .args in
+    let reach-open = c .before .before .before .before .before .before .before .reach-open in
+    let args = args′ in
     let write-open = c .before .before .write-open in
-    rw (write-steps (args .c) (args .t) (args .memory .now) (args .f) (args .source .now)) (is-reached (args .c) (args .t) (args .f .fid) (args .memory .now) (write-open .result) _ (write-open .last .1 .1 .1 .1 .1 .0) _ (sym (c .before .before .before .before .before .before .before .reach-open .ensures) ∙ c .before .before .before .before .before .at .given .1) (write-open .ensures))
+    rw (write-steps (args .c) (args .t) (args .memory .now) (args .f) (args .source .now)) (is-reached (args .c) (args .t) (args .f .fid) (args .memory .now) (write-open .result) _ (write-open .last .1 .1 .1 .1 .1 .0) _ (sym (reach-open .ensures) ∙ c .before .before .before .before .before .at .given .1) (write-open .ensures))
 
 returns-2 : tie.Need-returns-2
 returns-2 c =
-    let args = c .before .before .before .before .before .before .before .args in
+    let args′ = c .before .before .before .before .before .before .before .args in
+    let args = args′ in
     rw (write-steps (args .c) (args .t) (args .memory .now) (args .f) (args .source .now)) (not-reached (args .c) (args .t) (args .f .fid) (args .memory .now) (c .refuse .result) _ _ (sym (c .before .before .before .before .reach-open .ensures) ∙ c .before .before .at2 .given .1) (c .refuse .ensures))
 
 pub do-write-spec : {M : Type 1} → statement M

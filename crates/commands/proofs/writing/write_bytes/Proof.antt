@@ -38,11 +38,15 @@ same-length c = search needs
 
 returns : tie.Need-returns
 returns c =
-    let args = c .before .before .before .before .before .before .before .before .before .before .before .args in
-    let clear-gap = c .before .before .before .before .before .before .clear-gap in
-    let size-of = c .before .before .before .before .before .before .before .before .size-of in
+    let pre = c .before .before .before .before .before .before .before .before .before .before .before .pre in
+    let args′ = c .before .before .before .before .before .before .before .before .before .before .before .args in
+    let size-of′ = c .before .before .before .before .before .before .before .before .size-of in
+    let clear-gap′ = c .before .before .before .before .before .before .clear-gap in
+    let args = args′ in
+    let clear-gap = clear-gap′ in
+    let size-of = size-of′ in
     c .before .before .lay .ensures
-    ∙ put-written (args .t) (args .memory .now) (clear-gap .last .0) (args .source .now) (args .file) (args .offset) (size-of .result) (size-of .ensures) (c .before .before .before .before .before .before .before .before .before .before .before .pre .1 .1 .1 .1) (clear-gap .ensures)
+    ∙ put-written (args .t) (args .memory .now) (clear-gap .last .0) (args .source .now) (args .file) (args .offset) (size-of .result) (size-of .ensures) (pre .1 .1 .1 .1) (clear-gap .ensures)
 
 pub write-bytes-spec : {M : Type 1} → statement M
 write-bytes-spec =

@@ -34,16 +34,21 @@ returns-2 c =
 
 write-bytes-requires : tie.Need-write-bytes-requires
 write-bytes-requires c κs =
-    let args = c .before .before .before .before .before .before .before .args in
+    let pre = c .before .before .before .before .before .before .before .pre in
+    let args′ = c .before .before .before .before .before .before .before .args in
+    let args = args′ in
     let fits : args .f .offset + args .f .count ≤ 4096 = fits-room (args .f .offset) (args .f .count) (c .before .if2 .left) (sym (c .before .before .before .before .ends-past .ensures) ∙ c .before .before .before .if1 .left) in
-    let same = c .before .before .before .before .before .before .before .pre .1 .1 .1 in
-    (c .before .before .before .before .before .before .before .pre .0, (c .before .before .before .before .before .before .before .pre .1 .0, (c .before .before .before .before .before .before .before .pre .1 .1 .0, (omega arith, omega arith))))
+    let same = pre .1 .1 .1 in
+    (pre .0, (pre .1 .0, (pre .1 .1 .0, (omega arith, omega arith))))
 
 raise-size-requires : tie.Need-raise-size-requires
 raise-size-requires c κs =
-    let args = c .before .before .before .before .before .before .before .before .before .before .args in
-    let fits : args .f .offset + args .f .count ≤ 4096 = fits-room (args .f .offset) (args .f .count) (c .before .before .before .before .if2 .left) (sym (c .before .before .before .before .before .before .before .ends-past .ensures) ∙ c .before .before .before .before .before .before .if1 .left) in
-    (c .before .before .before .before .before .before .before .before .before .before .pre .1 .0, (omega arith, omega arith))
+    let pre = c .before .before .before .before .before .before .before .before .before .before .pre in
+    let args′ = c .before .before .before .before .before .before .before .before .before .before .args in
+    let ends-past = c .before .before .before .before .before .before .before .ends-past in
+    let args = args′ in
+    let fits : args .f .offset + args .f .count ≤ 4096 = fits-room (args .f .offset) (args .f .count) (c .before .before .before .before .if2 .left) (sym (ends-past .ensures) ∙ c .before .before .before .before .before .before .if1 .left) in
+    (pre .1 .0, (omega arith, omega arith))
 
 same-length : tie.Need-same-length
 same-length c = search needs
@@ -51,8 +56,11 @@ same-length c = search needs
 returns-3 : tie.Need-returns-3
 unfolding writeFree givenOf inside
 returns-3 c =
-    let args = c .before .before .before .before .before .before .before .before .before .before .before .args in
-    gives-done (Wrote (args .f .count)) _ (wrote (args .f .count)) (rw (sym (c .before .before .before .before .before .before .before .before .ends-past .ensures) ∙ c .before .before .before .before .before .before .before .if1 .left, c .before .before .before .write-bytes .ensures)) (ap (performed (Wrote (args .f .count))) (c .raise-size .ensures)) refl refl
+    let args′ = c .before .before .before .before .before .before .before .before .before .before .before .args in
+    let ends-past = c .before .before .before .before .before .before .before .before .ends-past in
+    let if1 = c .before .before .before .before .before .before .before .if1 in
+    let args = args′ in
+    gives-done (Wrote (args .f .count)) _ (wrote (args .f .count)) (rw (sym (ends-past .ensures) ∙ if1 .left, c .before .before .before .write-bytes .ensures)) (ap (performed (Wrote (args .f .count))) (c .raise-size .ensures)) refl refl
 
 pub write-free-spec : {M : Type 1} → statement M
 write-free-spec =

@@ -45,7 +45,10 @@ same-length c = search needs
 returns-3 : tie.Need-returns-3
 unfolding writeOpen unlessBarred
 returns-3 c =
-    rw (ne-eqb _ _ (c .before .before .before .before .before .before .before .before .if1 .left), ← (c .before .before .before .before .before .before .before .ask-of .ensures), ← (c .before .before .before .before .before .before .first-bar .ensures), c .before .before .before .before .enum-told .given .1) (c .before .before .write-free .ensures)
+    let if1 = c .before .before .before .before .before .before .before .before .if1 in
+    let ask-of = c .before .before .before .before .before .before .before .ask-of in
+    let first-bar = c .before .before .before .before .before .before .first-bar in
+    rw (ne-eqb _ _ (if1 .left), ← (ask-of .ensures), ← (first-bar .ensures), c .before .before .before .before .enum-told .given .1) (c .before .before .write-free .ensures)
 
 pub write-open-spec : {M : Type 1} → statement M
 write-open-spec =

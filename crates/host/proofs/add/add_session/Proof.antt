@@ -22,7 +22,9 @@ refuse-requires-2 c κs = search needs
 
 returns-2 : tie.Need-returns-2
 unfolding addSession
-returns-2 c = rw ((sym (c .before .before .before .is-sound .ensures) ∙ not-false (c .before .before .before .is-sound .result) (c .before .before .if1 .left)), le-leb _ _ (c .before .if2 .taken)) (c .refuse2 .ensures)
+returns-2 c =
+    let is-sound = c .before .before .before .is-sound in
+    rw ((sym (is-sound .ensures) ∙ not-false (is-sound .result) (c .before .before .if1 .left)), le-leb _ _ (c .before .if2 .taken)) (c .refuse2 .ensures)
 
 free-uid-requires : tie.Need-free-uid-requires
 free-uid-requires c κs = search needs
@@ -35,7 +37,9 @@ finish-requires c κs = search needs
 
 returns-3 : tie.Need-returns-3
 unfolding addSession newSession
-returns-3 c = rw ((sym (c .before .before .before .before .before .before .is-sound .ensures) ∙ not-false (c .before .before .before .before .before .before .is-sound .result) (c .before .before .before .before .before .if1 .left)), lt-leb _ _ (c .before .before .before .before .if2 .left)) (c .finish .ensures ∙ ap (done (c .before .before .free-uid .result)) (c .before .with-session .ensures) ∙ rw (c .before .before .free-uid .ensures))
+returns-3 c =
+    let is-sound = c .before .before .before .before .before .before .is-sound in
+    rw ((sym (is-sound .ensures) ∙ not-false (is-sound .result) (c .before .before .before .before .before .if1 .left)), lt-leb _ _ (c .before .before .before .before .if2 .left)) (c .finish .ensures ∙ ap (done (c .before .before .free-uid .result)) (c .before .with-session .ensures) ∙ rw (c .before .before .free-uid .ensures))
 
 pub add-session-spec : {M : Type 1} → statement M
 add-session-spec =

@@ -25,7 +25,9 @@ finish-requires c κs = search needs
 
 returns-2 : tie.Need-returns-2
 unfolding dropConnection
-returns-2 c = rw (sym (c .before .before .before .is-sound .ensures) ∙ not-false (c .before .before .before .is-sound .result) (c .before .before .if1 .left)) (c .finish .ensures ∙ ap (done 0) (c .before .remove-named .ensures))
+returns-2 c =
+    let is-sound = c .before .before .before .is-sound in
+    rw (sym (is-sound .ensures) ∙ not-false (is-sound .result) (c .before .before .if1 .left)) (c .finish .ensures ∙ ap (done 0) (c .before .remove-named .ensures))
 
 pub drop-connection-spec : {M : Type 1} → statement M
 drop-connection-spec =

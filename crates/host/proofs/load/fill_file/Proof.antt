@@ -24,7 +24,11 @@ same-length : tie.Need-same-length
 same-length c = search needs
 
 returns : tie.Need-returns
-returns c = copied-cleared (c .before .before .before .before .before .before .before .before .before .before .args .contents .now) (c .before .before .before .before .before .before .before .before .before .before .args .room .now) (c .before .before .before .before .before .before .copy .last .1 .0) (c .before .before .clear .last .0) (c .before .before .before .before .before .before .copy .result) (c .before .before .before .before .before .before .before .before .before .before .pre) (c .before .before .before .before .before .before .copy .ensures .0) (c .before .before .before .before .before .before .copy .ensures .1) (c .before .before .clear .ensures)
+returns c =
+    let pre = c .before .before .before .before .before .before .before .before .before .before .pre in
+    let args = c .before .before .before .before .before .before .before .before .before .before .args in
+    let copy = c .before .before .before .before .before .before .copy in
+    copied-cleared (args .contents .now) (args .room .now) (copy .last .1 .0) (c .before .before .clear .last .0) (copy .result) (pre) (copy .ensures .0) (copy .ensures .1) (c .before .before .clear .ensures)
 
 pub fill-file-spec : {M : Type 1} → statement M
 fill-file-spec =

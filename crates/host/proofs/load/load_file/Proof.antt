@@ -21,7 +21,9 @@ refuse-requires c κs = search needs
 
 returns : tie.Need-returns
 unfolding loadFile loadMemory
-returns c = let n = c .before .before .load-number .ensures in let q : eqb (loadNumber (c .before .before .before .before .before .args .t) (c .before .before .before .before .before .args .file) (length (c .before .before .before .before .before .args .contents .now)) (length (c .before .before .before .before .before .args .memory .now))) 0 ≡ false = ne-eqb _ _ (λ z. c .before .if1 .taken (n ∙ z)) in (rw q (c .refuse .ensures ∙ ap (λ (k : ℕ). refused k (c .before .before .before .before .before .args .t)) n), rw q)
+returns c =
+    let args = c .before .before .before .before .before .args in
+    let n = c .before .before .load-number .ensures in let q : eqb (loadNumber (args .t) (args .file) (length (args .contents .now)) (length (args .memory .now))) 0 ≡ false = ne-eqb _ _ (λ z. c .before .if1 .taken (n ∙ z)) in (rw q (c .refuse .ensures ∙ ap (λ (k : ℕ). refused k (args .t)) n), rw q)
 
 mul-from : tie.Need-mul-from
 mul-from c = search needs
@@ -36,13 +38,19 @@ part-fill-file-start : tie.Need-part-fill-file-start
 part-fill-file-start c = search needs
 
 part-fill-file-end : tie.Need-part-fill-file-end
-part-fill-file-end c = let l = loadable (c .before .before .before .before .args .t) (c .before .before .before .before .args .file) (length (c .before .before .before .before .args .contents .now)) (length (c .before .before .before .before .args .memory .now)) (sym (c .before .load-number .ensures) ∙ c .if1 .left) in let m = l .whole-memory in let f = l .known-file in omega arith
+part-fill-file-end c =
+    let args = c .before .before .before .before .args in
+    let l = loadable (args .t) (args .file) (length (args .contents .now)) (length (args .memory .now)) (sym (c .before .load-number .ensures) ∙ c .if1 .left) in let m = l .whole-memory in let f = l .known-file in omega arith
 
 fill-file-requires : tie.Need-fill-file-requires
-fill-file-requires c κs = let l = loadable (c .before .before .before .before .before .args .t) (c .before .before .before .before .before .args .file) (length (c .before .before .before .before .before .args .contents .now)) (length (c .before .before .before .before .before .args .memory .now)) (sym (c .before .before .load-number .ensures) ∙ c .before .if1 .left) in let m = l .whole-memory in let f = l .known-file in let s = l .fitting in rw (length-take, length-drop) (omega arith)
+fill-file-requires c κs =
+    let args = c .before .before .before .before .before .args in
+    let l = loadable (args .t) (args .file) (length (args .contents .now)) (length (args .memory .now)) (sym (c .before .before .load-number .ensures) ∙ c .before .if1 .left) in let m = l .whole-memory in let f = l .known-file in let s = l .fitting in rw (length-take, length-drop) (omega arith)
 
 with-size-requires : tie.Need-with-size-requires
-with-size-requires c κs = let l = loadable (c .before .before .before .before .before .before .before .before .args .t) (c .before .before .before .before .before .before .before .before .args .file) (length (c .before .before .before .before .before .before .before .before .args .contents .now)) (length (c .before .before .before .before .before .before .before .before .args .memory .now)) (sym (c .before .before .before .before .before .load-number .ensures) ∙ c .before .before .before .before .if1 .left) in let f = l .known-file in omega arith
+with-size-requires c κs =
+    let args = c .before .before .before .before .before .before .before .before .args in
+    let l = loadable (args .t) (args .file) (length (args .contents .now)) (length (args .memory .now)) (sym (c .before .before .before .before .before .load-number .ensures) ∙ c .before .before .before .before .if1 .left) in let f = l .known-file in omega arith
 
 finish-requires : tie.Need-finish-requires
 finish-requires c κs = search needs
@@ -52,7 +60,12 @@ same-length c = search needs
 
 returns-2 : tie.Need-returns-2
 unfolding loadFile loadMemory
-returns-2 c = let l = loadable (c .before .before .before .before .before .before .before .before .before .before .args .t) (c .before .before .before .before .before .before .before .before .before .before .args .file) (length (c .before .before .before .before .before .before .before .before .before .before .args .contents .now)) (length (c .before .before .before .before .before .before .before .before .before .before .args .memory .now)) (sym (c .before .before .before .before .before .before .before .load-number .ensures) ∙ c .before .before .before .before .before .before .if1 .left) in let m = l .whole-memory in let f = l .known-file in rw ((sym (c .before .before .before .before .before .before .before .load-number .ensures) ∙ c .before .before .before .before .before .before .if1 .left)) (c .finish .ensures ∙ ap (done 0) (c .before .with-size .ensures), filled-memory (c .before .before .before .before .before .before .before .before .before .before .args .memory .now) (c .before .before .before .before .fill-file .last .1 .0) (c .before .before .before .before .before .before .before .before .before .before .args .contents .now) (c .before .before .before .before .before .before .before .before .before .before .args .file * 4096) (c .before .before .before .before .before .before .before .before .before .before .args .file * 4096 + 4096) refl (omega arith) (l .fitting) (c .before .before .before .before .fill-file .ensures))
+returns-2 c =
+    let args = c .before .before .before .before .before .before .before .before .before .before .args in
+    let load-number = c .before .before .before .before .before .before .before .load-number in
+    let if1 = c .before .before .before .before .before .before .if1 in
+    let fill-file = c .before .before .before .before .fill-file in
+    let l = loadable (args .t) (args .file) (length (args .contents .now)) (length (args .memory .now)) (sym (load-number .ensures) ∙ if1 .left) in let m = l .whole-memory in let f = l .known-file in rw ((sym (load-number .ensures) ∙ if1 .left)) (c .finish .ensures ∙ ap (done 0) (c .before .with-size .ensures), filled-memory (args .memory .now) (fill-file .last .1 .0) (args .contents .now) (args .file * 4096) (args .file * 4096 + 4096) refl (omega arith) (l .fitting) (fill-file .ensures))
 
 pub load-file-spec : {M : Type 1} → statement M
 load-file-spec =

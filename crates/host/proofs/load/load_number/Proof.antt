@@ -25,18 +25,31 @@ returns-3 c = rw (eq-eqb _ _ (c .before .before .before .if1 .left), (sym (c .be
 
 returns-4 : tie.Need-returns-4
 unfolding loadNumber
-returns-4 c = rw (eq-eqb _ _ (c .before .before .before .before .if1 .left), (sym (c .before .before .before .is-sound .ensures) ∙ not-false (c .before .before .before .is-sound .result) (c .before .before .if2 .left)), le-ltb 15 (c .before .before .before .before .before .args .file) (c .before .if3 .left), lt-ltb 4096 (c .before .before .before .before .before .args .size) (c .if4 .taken))
+returns-4 c =
+    let args = c .before .before .before .before .before .args in
+    let is-sound = c .before .before .before .is-sound in
+    rw (eq-eqb _ _ (c .before .before .before .before .if1 .left), (sym (is-sound .ensures) ∙ not-false (is-sound .result) (c .before .before .if2 .left)), le-ltb 15 (args .file) (c .before .if3 .left), lt-ltb 4096 (args .size) (c .if4 .taken))
 
 some-open-of-requires : tie.Need-some-open-of-requires
-some-open-of-requires c κs = let r = sound-room (c .before .before .before .before .before .before .args .t) (sym (c .before .before .before .before .is-sound .ensures) ∙ not-false (c .before .before .before .before .is-sound .result) (c .before .before .before .if2 .left)) in r .opens-fit
+some-open-of-requires c κs =
+    let is-sound = c .before .before .before .before .is-sound in
+    let r = sound-room (c .before .before .before .before .before .before .args .t) (sym (is-sound .ensures) ∙ not-false (is-sound .result) (c .before .before .before .if2 .left)) in r .opens-fit
 
 returns-5 : tie.Need-returns-5
 unfolding loadNumber
-returns-5 c = rw (eq-eqb _ _ (c .before .before .before .before .before .before .before .if1 .left), (sym (c .before .before .before .before .before .before .is-sound .ensures) ∙ not-false (c .before .before .before .before .before .before .is-sound .result) (c .before .before .before .before .before .if2 .left)), le-ltb 15 (c .before .before .before .before .before .before .before .before .args .file) (c .before .before .before .before .if3 .left), le-ltb 4096 (c .before .before .before .before .before .before .before .before .args .size) (c .before .before .before .if4 .left), sym (c .before .some-open-of .ensures) ∙ c .if5 .taken)
+returns-5 c =
+    let args = c .before .before .before .before .before .before .before .before .args in
+    let if1 = c .before .before .before .before .before .before .before .if1 in
+    let is-sound = c .before .before .before .before .before .before .is-sound in
+    rw (eq-eqb _ _ (if1 .left), (sym (is-sound .ensures) ∙ not-false (is-sound .result) (c .before .before .before .before .before .if2 .left)), le-ltb 15 (args .file) (c .before .before .before .before .if3 .left), le-ltb 4096 (args .size) (c .before .before .before .if4 .left), sym (c .before .some-open-of .ensures) ∙ c .if5 .taken)
 
 returns-6 : tie.Need-returns-6
 unfolding loadNumber
-returns-6 c = rw (eq-eqb _ _ (c .before .before .before .before .before .before .before .if1 .left), (sym (c .before .before .before .before .before .before .is-sound .ensures) ∙ not-false (c .before .before .before .before .before .before .is-sound .result) (c .before .before .before .before .before .if2 .left)), le-ltb 15 (c .before .before .before .before .before .before .before .before .args .file) (c .before .before .before .before .if3 .left), le-ltb 4096 (c .before .before .before .before .before .before .before .before .args .size) (c .before .before .before .if4 .left), sym (c .before .some-open-of .ensures) ∙ c .if5 .left)
+returns-6 c =
+    let args = c .before .before .before .before .before .before .before .before .args in
+    let if1 = c .before .before .before .before .before .before .before .if1 in
+    let is-sound = c .before .before .before .before .before .before .is-sound in
+    rw (eq-eqb _ _ (if1 .left), (sym (is-sound .ensures) ∙ not-false (is-sound .result) (c .before .before .before .before .before .if2 .left)), le-ltb 15 (args .file) (c .before .before .before .before .if3 .left), le-ltb 4096 (args .size) (c .before .before .before .if4 .left), sym (c .before .some-open-of .ensures) ∙ c .if5 .left)
 
 pub load-number-spec : {M : Type 1} → statement M
 load-number-spec =

@@ -30,7 +30,10 @@ array-copy-out-o c = omega arith
 
 returns : tie.Need-returns Inv-loop μ-loop
 unfolding isOf
-returns c = let long : length (c .before .before .before .before .before .args .t1) ≡ 64 = search needs in sym (c .before .before .before .before .loop .inv .1 ∙ any-yes (c .before .before .before .before .before .args .t1) (c .before .before .before .before .before .args .count) (c .before .before .before .before .loop .i) noOpen (c .before .before .before .loop-test .taken) (omega arith) (isOf (c .before .before .before .before .before .args .file)) (eq-eqb _ _ (c .if1 .taken)))
+returns c =
+    let args = c .before .before .before .before .before .args in
+    let loop = c .before .before .before .before .loop in
+    let long : length (args .t1) ≡ 64 = search needs in sym (loop .inv .1 ∙ any-yes (args .t1) (args .count) (loop .i) noOpen (c .before .before .before .loop-test .taken) (omega arith) (isOf (args .file)) (eq-eqb _ _ (c .if1 .taken)))
 
 add-i : tie.Need-add-i Inv-loop μ-loop
 add-i c = omega arith
@@ -40,10 +43,15 @@ loop-less c = omega arith
 
 loop-again : tie.Need-loop-again Inv-loop μ-loop
 unfolding isOf
-loop-again c = let long : length (c .before .before .before .before .before .args .t1) ≡ 64 = search needs in (omega arith, c .before .before .before .before .loop .inv .1 ∙ any-no (c .before .before .before .before .before .args .t1) (c .before .before .before .before .before .args .count) (c .before .before .before .before .loop .i) noOpen (c .before .before .before .loop-test .taken) (omega arith) (isOf (c .before .before .before .before .before .args .file)) (ne-eqb _ _ (c .if1 .left)))
+loop-again c =
+    let args = c .before .before .before .before .before .args in
+    let loop = c .before .before .before .before .loop in
+    let long : length (args .t1) ≡ 64 = search needs in (omega arith, loop .inv .1 ∙ any-no (args .t1) (args .count) (loop .i) noOpen (c .before .before .before .loop-test .taken) (omega arith) (isOf (args .file)) (ne-eqb _ _ (c .if1 .left)))
 
 returns-2 : tie.Need-returns-2 Inv-loop μ-loop
-returns-2 c = sym (c .before .loop .inv .1 ∙ any-end (c .before .before .args .t1) (c .before .before .args .count) (isOf (c .before .before .args .file)) (c .before .loop .i) (c .loop-test .left))
+returns-2 c =
+    let args = c .before .before .args in
+    sym (c .before .loop .inv .1 ∙ any-end (args .t1) (args .count) (isOf (args .file)) (c .before .loop .i) (c .loop-test .left))
 
 pub some-open-of-spec : {M : Type 1} → statement M
 some-open-of-spec =

@@ -13,7 +13,9 @@ shared-slice-read-result c = search needs
 
 returns : tie.Need-returns
 unfolding fileIn
-returns c = getD-within (c .before .before .before .args .files .now) (c .before .before .before .args .fid) 0 255 (c .before .if1 .taken)
+returns c =
+    let args = c .before .before .before .args in
+    getD-within (args .files .now) (args .fid) 0 255 (c .before .if1 .taken)
 
 returns-2 : tie.Need-returns-2
 unfolding fileIn

@@ -19,9 +19,10 @@ barring-requires c κs = search needs
 returns-2 : tie.Need-returns-2
 unfolding inWay
 returns-2 c =
+    let overlap = c .before .before .before .overlap in
     rw (
-      ← (c .before .before .before .overlap .ensures),
-      not-false (c .before .before .before .overlap .result) (c .before .before .if1 .left),
+      ← (overlap .ensures),
+      not-false (overlap .result) (c .before .before .if1 .left),
       ← (c .before .barring .ensures),
       not-true (c .before .barring .result) (c .if2 .taken),
     )
@@ -35,13 +36,15 @@ file-in-requires-2 c κs = search needs
 returns-3 : tie.Need-returns-3
 unfolding inWay
 returns-3 c =
+    let overlap = c .before .before .before .before .before .overlap in
+    let barring = c .before .before .before .barring in
     rw (
       c .before .file-in .ensures,
       c .file-in2 .ensures,
-      ← (c .before .before .before .before .before .overlap .ensures),
-      not-false (c .before .before .before .before .before .overlap .result) (c .before .before .before .before .if1 .left),
-      ← (c .before .before .before .barring .ensures),
-      not-false (c .before .before .before .barring .result) (c .before .before .if2 .left),
+      ← (overlap .ensures),
+      not-false (overlap .result) (c .before .before .before .before .if1 .left),
+      ← (barring .ensures),
+      not-false (barring .result) (c .before .before .if2 .left),
     )
 
 pub in-way-spec : {M : Type 1} → statement M

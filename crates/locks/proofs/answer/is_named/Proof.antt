@@ -9,11 +9,15 @@ use Rattle.locks.proofs.answer.is_named.Tie as tie
 
 returns : tie.Need-returns
 unfolding named
-returns c = rw (ne-eqb (c .before .before .before .args .l .offset) (c .before .before .before .args .q .offset) (c .if1 .taken))
+returns c =
+    let args = c .before .before .before .args in
+    rw (ne-eqb (args .l .offset) (args .q .offset) (c .if1 .taken))
 
 returns-2 : tie.Need-returns-2
 unfolding named
-returns-2 c = rw (ne-eqb (c .before .before .before .before .before .before .args .l .length) (c .before .before .before .before .before .before .args .q .length) (c .if2 .taken), and-false)
+returns-2 c =
+    let args = c .before .before .before .before .before .before .args in
+    rw (ne-eqb (args .l .length) (args .q .length) (c .if2 .taken), and-false)
 
 owned-requires : tie.Need-owned-requires
 owned-requires c κs = search needs
@@ -21,9 +25,10 @@ owned-requires c κs = search needs
 returns-3 : tie.Need-returns-3
 unfolding named
 returns-3 c =
+    let args = c .before .before .before .before .before .before .before .args in
     rw (
-      eq-eqb (c .before .before .before .before .before .before .before .args .l .offset) (c .before .before .before .before .before .before .before .args .q .offset) (c .before .before .before .before .if1 .left),
-      eq-eqb (c .before .before .before .before .before .before .before .args .l .length) (c .before .before .before .before .before .before .before .args .q .length) (c .before .if2 .left),
+      eq-eqb (args .l .offset) (args .q .offset) (c .before .before .before .before .if1 .left),
+      eq-eqb (args .l .length) (args .q .length) (c .before .if2 .left),
     )
     (c .owned .ensures)
 

@@ -47,15 +47,17 @@ loop-less : tie.Need-loop-less Inv-loop μ-loop
 loop-less c = omega arith
 
 loop-again : tie.Need-loop-again Inv-loop μ-loop
-loop-again c = (
-  omega arith,
-  omega arith,
-  rw (c .before .before .before .loop .inv .2, c .lock-of .ensures, c .before .range-at .ensures)
-      (
-      appended-more (c .before .before .before .before .before .args .locks) (c .before .before .before .before .before .args .count) (c .before .before .before .before .before .args .fid) (c .before .before .before .before .before .args .shared) (c .before .before .before .before .before .args .large) (c .before .before .before .before .before .args .area .now) (c .before .before .before .before .before .args .from)
-      (omega arith) (c .before .before .before .loop .k) (omega arith) (omega arith)
-      ),
-)
+loop-again c =
+    let args = c .before .before .before .before .before .args in
+    let loop = c .before .before .before .loop in (
+      omega arith,
+      omega arith,
+      rw (loop .inv .2, c .lock-of .ensures, c .before .range-at .ensures)
+          (
+          appended-more (args .locks) (args .count) (args .fid) (args .shared) (args .large) (args .area .now) (args .from)
+          (omega arith) (loop .k) (omega arith) (omega arith)
+          ),
+    )
 
 returns : tie.Need-returns Inv-loop μ-loop
 returns c = let at : c .before .loop .k ≡ c .before .before .before .args .to = omega arith in rw (← at) (c .before .loop .inv .2)

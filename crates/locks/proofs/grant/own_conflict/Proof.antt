@@ -50,8 +50,10 @@ loop-less c = omega arith
 
 loop-again : tie.Need-loop-again Inv-loop μ-loop
 loop-again c =
-    ahead-more (c .before .before .before .before .before .loop .inv) (omega arith)
-    (λ rs. found-next _ (c .before .before .before .before .before .before .before .args .from) (c .before .before .before .before .before .loop .k) _ _ (omega arith) (rw (← (c .before .before .before .range-at .ensures), ← (c .before .before .lock-of .ensures), ← (c .before .answering .ensures)) (c .if1 .left)))
+    let args = c .before .before .before .before .before .before .before .args in
+    let loop = c .before .before .before .before .before .loop in
+    ahead-more (loop .inv) (omega arith)
+    (λ rs. found-next _ (args .from) (loop .k) _ _ (omega arith) (rw (← (c .before .before .before .range-at .ensures), ← (c .before .before .lock-of .ensures), ← (c .before .answering .ensures)) (c .if1 .left)))
 
 returns-2 : tie.Need-returns-2 Inv-loop μ-loop
 unfolding foundFrom

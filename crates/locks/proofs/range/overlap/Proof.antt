@@ -23,23 +23,25 @@ sub-result c = search needs
 returns-3 : tie.Need-returns-3
 unfolding overlaps
 returns-3 c =
+    let args = c .before .before .before .args in
     rw (
-      lt-ltb 0 (c .before .before .before .args .n) (omega arith),
-      lt-ltb 0 (c .before .before .before .args .m) (omega arith),
-      lt-ltb (c .before .before .before .args .a) (c .before .before .before .args .b + c .before .before .before .args .m) (omega arith),
+      lt-ltb 0 (args .n) (omega arith),
+      lt-ltb 0 (args .m) (omega arith),
+      lt-ltb (args .a) (args .b + args .m) (omega arith),
     )
-    (same-ltb (c .before .before .before .args .b - c .before .before .before .args .a) (c .before .before .before .args .n) (c .before .before .before .args .b) (c .before .before .before .args .a + c .before .before .before .args .n) (λ h. omega arith) (λ h. omega arith))
+    (same-ltb (args .b - args .a) (args .n) (args .b) (args .a + args .n) (λ h. omega arith) (λ h. omega arith))
 
 returns-4 : tie.Need-returns-4
 unfolding overlaps
 returns-4 c =
+    let args = c .before .before .before .args in
     rw (
-      lt-ltb 0 (c .before .before .before .args .n) (omega arith),
-      lt-ltb 0 (c .before .before .before .args .m) (omega arith),
-      lt-ltb (c .before .before .before .args .b) (c .before .before .before .args .a + c .before .before .before .args .n) (omega arith),
+      lt-ltb 0 (args .n) (omega arith),
+      lt-ltb 0 (args .m) (omega arith),
+      lt-ltb (args .b) (args .a + args .n) (omega arith),
       and-true,
     )
-    (same-ltb (c .before .before .before .args .a - c .before .before .before .args .b) (c .before .before .before .args .m) (c .before .before .before .args .a) (c .before .before .before .args .b + c .before .before .before .args .m) (λ h. omega arith) (λ h. omega arith))
+    (same-ltb (args .a - args .b) (args .m) (args .a) (args .b + args .m) (λ h. omega arith) (λ h. omega arith))
 
 pub overlap-spec : {M : Type 1} → statement M
 overlap-spec = tie.close (tie.spec returns returns-2 sub-result returns-3 returns-4)

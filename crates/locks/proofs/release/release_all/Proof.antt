@@ -58,7 +58,9 @@ unfolding released
 returns c = rw (ahead-here (c .before .before .before .before .before .before .loop .inv .1) (omega arith) (λ rs. release-stop _ _ _ rs _ (rw (← (c .before .before .before .before .range-at .ensures), ← (c .before .before .before .ask-of .ensures)) (sym (c .enum-told .given .1) ∙ c .before .before .first-answer .ensures))))
 
 remove-at-requires : tie.Need-remove-at-requires Inv-loop μ-loop
-remove-at-requires c κs = let here = place-below c in let held = c .before .before .before .before .before .before .before .loop .inv .0 .short in (here, omega arith)
+remove-at-requires c κs =
+    let loop = c .before .before .before .before .before .before .before .loop in
+    let here = place-below c in let held = loop .inv .0 .short in (here, omega arith)
 
 sub-held : tie.Need-sub-held Inv-loop μ-loop
 sub-held c = omega (arith, place-below (c .before))
@@ -71,10 +73,11 @@ loop-less c = omega arith
 
 loop-again : tie.Need-loop-again Inv-loop μ-loop
 loop-again c =
-    let left = c .before .before .before .before .before .before .before .before .loop .inv .0 in
+    let loop = c .before .before .before .before .before .before .before .before .loop in
+    let left = loop .inv .0 in
     let here = place-below (c .before) in (
       left-step left here (c .remove-at .ensures),
-      ahead-more (c .before .before .before .before .before .before .before .before .loop .inv .1) (omega arith)
+      ahead-more (loop .inv .1) (omega arith)
           (
           λ rs.
           rw (left-list left here (c .remove-at .ensures))

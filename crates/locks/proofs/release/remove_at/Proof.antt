@@ -63,17 +63,20 @@ loop-less c = omega arith
 
 loop-again : tie.Need-loop-again Inv-loop μ-loop
 loop-again c =
-    let within : c .before .before .loop .i < length (set (c .before .before .before .args .locks) (c .before .before .before .args .place) noLock) = rw length-set (omega arith) in (
+    let args = c .before .before .before .args in
+    let loop = c .before .before .loop in
+    let within : loop .i < length (set (args .locks) (args .place) noLock) = rw length-set (omega arith) in (
       omega arith,
       omega arith,
-      gone-step noLock (c .before .before .before .args .place) (set (c .before .before .before .args .locks) (c .before .before .before .args .place) noLock) (c .before .before .loop .left) (c .before .before .loop .i) (omega arith) within (c .before .before .loop .inv .2),
+      gone-step noLock (args .place) (set (args .locks) (args .place) noLock) (loop .left) (loop .i) (omega arith) within (loop .inv .2),
     )
 
 returns : tie.Need-returns Inv-loop μ-loop
 returns c =
-    let at : c .before .loop .i ≡ c .before .before .args .count = omega arith in
+    let args = c .before .before .args in
+    let at : c .before .loop .i ≡ args .count = omega arith in
     c .before .loop .inv .2
-    ∙ rw at (gone-end noLock (c .before .before .args .place) (c .before .before .args .locks) (c .before .before .args .count) (omega arith) (omega arith))
+    ∙ rw at (gone-end noLock (args .place) (args .locks) (args .count) (omega arith) (omega arith))
 
 pub remove-at-spec : {M : Type 1} → statement M
 remove-at-spec =

@@ -50,9 +50,10 @@ range-size-requires c κs = search needs
 
 mul-if1 : tie.Need-mul-if1
 mul-if1 c =
+    let args = c .before .before .before .before .args in
     omega (
       arith,
-      rw (← (c .range-size .ensures)) at (place-small (c .before .before .before .before .args .q .large) (c .before .before .before .before .args .q .unlocks + c .before .before .before .before .args .q .locks) (omega arith)),
+      rw (← (c .range-size .ensures)) at (place-small (args .q .large) (args .q .unlocks + args .q .locks) (omega arith)),
     )
 
 refuse-requires : tie.Need-refuse-requires
@@ -90,8 +91,11 @@ refuse-requires-4 c κs = search needs
 
 returns-4 : tie.Need-returns-4
 returns-4 c =
+    let before = c .before .before .before .before .before .before .before .before .before .before in
+    let before′ = c .before .before .before .before .before .before .before .before in
+    let some-passes = c .before .before .before .before .before .before .before .some-passes in
     c .refuse4 .ensures
-    ∙ settled-conflict (unlocking (c .before .before .before .before .before .before .before .before .before .before)) (found (c .before .before .before .before .before .before .before .before)) (sym (c .before .before .before .before .before .before .if4 .left) ∙ c .before .before .before .before .before .before .before .some-passes .ensures)
+    ∙ settled-conflict (unlocking (before)) (found (before′)) (sym (c .before .before .before .before .before .before .if4 .left) ∙ some-passes .ensures)
     (sym (c .before .before .first .given .1) ∙ c .before .before .before .before .first-conflict .ensures)
 
 enum-told : tie.Need-enum-told
@@ -105,21 +109,29 @@ refuse-requires-5 c κs = search needs
 
 returns-5 : tie.Need-returns-5
 returns-5 c =
-    let small = left-small (c .before .before .before .before .before .before .before .before) in
+    let before = c .before .before .before .before .before .before .before .before .before .before in
+    let before′ = c .before .before .before .before .before .before .before .before in
+    let some-passes = c .before .before .before .before .before .before .before .some-passes in
+    let small = left-small (before′) in
     c .refuse5 .ensures
-    ∙ settled-full (unlocking (c .before .before .before .before .before .before .before .before .before .before)) (found (c .before .before .before .before .before .before .before .before)) (sym (c .before .before .before .before .before .before .if4 .left) ∙ c .before .before .before .before .before .before .before .some-passes .ensures)
+    ∙ settled-full (unlocking (before)) (found (before′)) (sym (c .before .before .before .before .before .before .if4 .left) ∙ some-passes .ensures)
     (sym (c .before .before .enum-told .given .1) ∙ c .before .before .before .before .first-conflict .ensures) (omega arith)
 
 append-locks-requires : tie.Need-append-locks-requires
 append-locks-requires c κs = let small = left-small (c .before .before .before .before .before .before .before) in (omega arith, (omega arith, omega arith))
 
 add-t16 : tie.Need-add-t16
-add-t16 c = omega (arith, left-small (c .before .before .before .before .before .before .before .before))
+add-t16 c =
+    let before = c .before .before .before .before .before .before .before .before in
+    omega (arith, left-small (before))
 
 returns-6 : tie.Need-returns-6
 returns-6 c =
-    let small = left-small (c .before .before .before .before .before .before .before .before) in
-    settled-done (unlocking (c .before .before .before .before .before .before .before .before .before .before)) (found (c .before .before .before .before .before .before .before .before)) (sym (c .before .before .before .before .before .before .if4 .left) ∙ c .before .before .before .before .before .before .before .some-passes .ensures)
+    let before = c .before .before .before .before .before .before .before .before .before .before in
+    let before′ = c .before .before .before .before .before .before .before .before in
+    let some-passes = c .before .before .before .before .before .before .before .some-passes in
+    let small = left-small (before′) in
+    settled-done (unlocking (before)) (found (before′)) (sym (c .before .before .before .before .before .before .if4 .left) ∙ some-passes .ensures)
     (sym (c .before .before .enum-told .given .1) ∙ c .before .before .before .before .first-conflict .ensures) (omega arith) (c .append-locks .ensures)
 
 pub lock-request-spec : {M : Type 1} → statement M

@@ -27,7 +27,10 @@ smallest-free-requires : tie.Need-smallest-free-requires
 smallest-free-requires c κs = let long : length (c .before .before .fids .result) ≡ 64 = search needs in let few : (c .before .at-most .result) ≤ 64 = omega arith in let e = length-take-le (c .before .at-most .result) (c .before .before .fids .result) (omega arith) in omega arith
 
 returns : tie.Need-returns
-returns c = c .smallest-free .ensures ∙ ap (smallestFree) (column-front fidOf (c .before .before .before .before .args .opens) (c .before .before .before .before .args .count) 64 (c .before .before .at-most .result) (c .before .before .before .fids .result) (search needs) (c .before .before .before .fids .ensures) (c .before .before .at-most .ensures))
+returns c =
+    let args = c .before .before .before .before .args in
+    let fids = c .before .before .before .fids in
+    c .smallest-free .ensures ∙ ap (smallestFree) (column-front fidOf (args .opens) (args .count) 64 (c .before .before .at-most .result) (fids .result) (search needs) (fids .ensures) (c .before .before .at-most .ensures))
 
 pub free-fid-spec : {M : Type 1} → statement M
 free-fid-spec =

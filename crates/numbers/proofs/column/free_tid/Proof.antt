@@ -27,7 +27,10 @@ smallest-free-requires : tie.Need-smallest-free-requires
 smallest-free-requires c κs = let long : length (c .before .before .tids .result) ≡ 32 = search needs in let few : (c .before .at-most .result) ≤ 32 = omega arith in let e = length-take-le (c .before .at-most .result) (c .before .before .tids .result) (omega arith) in omega arith
 
 returns : tie.Need-returns
-returns c = c .smallest-free .ensures ∙ ap (smallestFree) (column-front tidOf (c .before .before .before .before .args .trees) (c .before .before .before .before .args .count) 32 (c .before .before .at-most .result) (c .before .before .before .tids .result) (search needs) (c .before .before .before .tids .ensures) (c .before .before .at-most .ensures))
+returns c =
+    let args = c .before .before .before .before .args in
+    let tids = c .before .before .before .tids in
+    c .smallest-free .ensures ∙ ap (smallestFree) (column-front tidOf (args .trees) (args .count) 32 (c .before .before .at-most .result) (tids .result) (search needs) (tids .ensures) (c .before .before .at-most .ensures))
 
 pub free-tid-spec : {M : Type 1} → statement M
 free-tid-spec =

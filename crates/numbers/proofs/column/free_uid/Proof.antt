@@ -27,7 +27,10 @@ smallest-free-requires : tie.Need-smallest-free-requires
 smallest-free-requires c κs = let long : length (c .before .before .uids .result) ≡ 16 = search needs in let few : (c .before .at-most .result) ≤ 16 = omega arith in let e = length-take-le (c .before .at-most .result) (c .before .before .uids .result) (omega arith) in omega arith
 
 returns : tie.Need-returns
-returns c = c .smallest-free .ensures ∙ ap (smallestFree) (column-front uidOf (c .before .before .before .before .args .sessions) (c .before .before .before .before .args .count) 16 (c .before .before .at-most .result) (c .before .before .before .uids .result) (search needs) (c .before .before .before .uids .ensures) (c .before .before .at-most .ensures))
+returns c =
+    let args = c .before .before .before .before .args in
+    let uids = c .before .before .before .uids in
+    c .smallest-free .ensures ∙ ap (smallestFree) (column-front uidOf (args .sessions) (args .count) 16 (c .before .before .at-most .result) (uids .result) (search needs) (uids .ensures) (c .before .before .at-most .ensures))
 
 pub free-uid-spec : {M : Type 1} → statement M
 free-uid-spec =

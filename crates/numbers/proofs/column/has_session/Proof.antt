@@ -27,7 +27,10 @@ in-use-requires : tie.Need-in-use-requires
 in-use-requires c κs = search needs
 
 returns : tie.Need-returns
-returns c = c .in-use .ensures ∙ ap (contains (c .before .before .before .before .args .uid)) (column-front uidOf (c .before .before .before .before .args .sessions) (c .before .before .before .before .args .count) 16 (c .before .before .at-most .result) (c .before .before .before .uids .result) (search needs) (c .before .before .before .uids .ensures) (c .before .before .at-most .ensures))
+returns c =
+    let args = c .before .before .before .before .args in
+    let uids = c .before .before .before .uids in
+    c .in-use .ensures ∙ ap (contains (args .uid)) (column-front uidOf (args .sessions) (args .count) 16 (c .before .before .at-most .result) (uids .result) (search needs) (uids .ensures) (c .before .before .at-most .ensures))
 
 pub has-session-spec : {M : Type 1} → statement M
 has-session-spec =

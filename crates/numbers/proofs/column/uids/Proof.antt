@@ -39,7 +39,9 @@ loop-less : tie.Need-loop-less Inv-loop μ-loop
 loop-less c = omega arith
 
 loop-again : tie.Need-loop-again Inv-loop μ-loop
-loop-again c = (omega arith, (simp length-set (c .before .before .loop .inv .1 .0), column-turn uidOf (c .before .before .before .args .t1) (c .before .before .loop .numbers) (c .before .before .loop .i) _ (search needs) (omega arith) (c .before .before .loop .inv .1 .1)))
+loop-again c =
+    let loop = c .before .before .loop in
+    (omega arith, (simp length-set (loop .inv .1 .0), column-turn uidOf (c .before .before .before .args .t1) (loop .numbers) (loop .i) _ (search needs) (omega arith) (loop .inv .1 .1)))
 
 returns : tie.Need-returns Inv-loop μ-loop
 returns c = column-end uidOf (c .before .before .args .t1) (c .before .loop .numbers) 16 (c .before .loop .i) (search needs) (c .before .loop .inv .1 .0) (c .loop-test .left) (c .before .loop .inv .1 .1)

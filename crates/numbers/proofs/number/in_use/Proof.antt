@@ -30,7 +30,10 @@ shared-slice-read-if1 c = omega arith
 
 returns : tie.Need-returns Inv-loop μ-loop
 unfolding contains
-returns c = sym (c .before .before .before .loop .inv .1 ∙ any-yes (c .before .before .before .before .args .numbers .now) (length (c .before .before .before .before .args .numbers .now)) (c .before .before .before .loop .i) 0 (c .before .before .loop-test .taken) (c .before .before .loop-test .taken) (λ x. eqb x (c .before .before .before .before .args .number)) (eq-eqb _ _ (c .if1 .taken)))
+returns c =
+    let args = c .before .before .before .before .args in
+    let loop = c .before .before .before .loop in
+    sym (loop .inv .1 ∙ any-yes (args .numbers .now) (length (args .numbers .now)) (loop .i) 0 (c .before .before .loop-test .taken) (c .before .before .loop-test .taken) (λ x. eqb x (args .number)) (eq-eqb _ _ (c .if1 .taken)))
 
 add-i : tie.Need-add-i Inv-loop μ-loop
 add-i c = omega arith
@@ -39,11 +42,16 @@ loop-less : tie.Need-loop-less Inv-loop μ-loop
 loop-less c = omega arith
 
 loop-again : tie.Need-loop-again Inv-loop μ-loop
-loop-again c = (omega arith, c .before .before .before .loop .inv .1 ∙ any-no (c .before .before .before .before .args .numbers .now) (length (c .before .before .before .before .args .numbers .now)) (c .before .before .before .loop .i) 0 (c .before .before .loop-test .taken) (c .before .before .loop-test .taken) (λ x. eqb x (c .before .before .before .before .args .number)) (ne-eqb _ _ (c .if1 .left)))
+loop-again c =
+    let args = c .before .before .before .before .args in
+    let loop = c .before .before .before .loop in
+    (omega arith, loop .inv .1 ∙ any-no (args .numbers .now) (length (args .numbers .now)) (loop .i) 0 (c .before .before .loop-test .taken) (c .before .before .loop-test .taken) (λ x. eqb x (args .number)) (ne-eqb _ _ (c .if1 .left)))
 
 returns-2 : tie.Need-returns-2 Inv-loop μ-loop
 unfolding contains
-returns-2 c = sym (c .before .loop .inv .1 ∙ any-end (c .before .before .args .numbers .now) (length (c .before .before .args .numbers .now)) (λ x. eqb x (c .before .before .args .number)) (c .before .loop .i) (c .loop-test .left))
+returns-2 c =
+    let args = c .before .before .args in
+    sym (c .before .loop .inv .1 ∙ any-end (args .numbers .now) (length (args .numbers .now)) (λ x. eqb x (args .number)) (c .before .loop .i) (c .loop-test .left))
 
 pub in-use-spec : {M : Type 1} → statement M
 in-use-spec =

@@ -24,7 +24,10 @@ in-use-requires c κs = search needs
 
 returns : tie.Need-returns Inv-loop μ-loop
 unfolding smallestFree
-returns c = sym (c .before .before .before .loop .inv .1 .1 ∙ free-here (length (c .before .before .before .before .before .args .numbers .now)) (c .before .before .before .loop .i) (c .before .before .before .loop .number) (c .before .before .before .before .before .args .numbers .now) (c .before .before .loop-test .taken) (sym (c .before .in-use .ensures) ∙ not-true (c .before .in-use .result) (c .if1 .taken)))
+returns c =
+    let args = c .before .before .before .before .before .args in
+    let loop = c .before .before .before .loop in
+    sym (loop .inv .1 .1 ∙ free-here (length (args .numbers .now)) (loop .i) (loop .number) (args .numbers .now) (c .before .before .loop-test .taken) (sym (c .before .in-use .ensures) ∙ not-true (c .before .in-use .result) (c .if1 .taken)))
 
 add-number : tie.Need-add-number Inv-loop μ-loop
 add-number c = omega arith
@@ -37,11 +40,16 @@ loop-less c = omega arith
 
 loop-again : tie.Need-loop-again Inv-loop μ-loop
 unfolding freeFrom
-loop-again c = (omega arith, (omega arith, c .before .before .before .loop .inv .1 .1 ∙ free-next (length (c .before .before .before .before .before .args .numbers .now)) (c .before .before .before .loop .i) (c .before .before .before .loop .number) (c .before .before .before .before .before .args .numbers .now) (c .before .before .loop-test .taken) (sym (c .before .in-use .ensures) ∙ not-false (c .before .in-use .result) (c .if1 .left))))
+loop-again c =
+    let args = c .before .before .before .before .before .args in
+    let loop = c .before .before .before .loop in
+    (omega arith, (omega arith, loop .inv .1 .1 ∙ free-next (length (args .numbers .now)) (loop .i) (loop .number) (args .numbers .now) (c .before .before .loop-test .taken) (sym (c .before .in-use .ensures) ∙ not-false (c .before .in-use .result) (c .if1 .left))))
 
 returns-2 : tie.Need-returns-2 Inv-loop μ-loop
 unfolding smallestFree
-returns-2 c = sym (c .before .loop .inv .1 .1 ∙ free-last (length (c .before .before .before .args .numbers .now)) (c .before .loop .i) (c .before .loop .number) (c .before .before .before .args .numbers .now) (c .loop-test .left))
+returns-2 c =
+    let args = c .before .before .before .args in
+    sym (c .before .loop .inv .1 .1 ∙ free-last (length (args .numbers .now)) (c .before .loop .i) (c .before .loop .number) (args .numbers .now) (c .loop-test .left))
 
 pub smallest-free-spec : {M : Type 1} → statement M
 smallest-free-spec =

@@ -31,11 +31,18 @@ shared-slice-read-number c = omega arith
 
 returns : tie.Need-returns Inv-loop μ-loop
 unfolding numbered numberOk
-returns c = sym (c .before .before .before .loop .inv .1 ∙ tails-no (c .before .before .before .before .before .args .numbers .now) (length (c .before .before .before .before .before .args .numbers .now)) (c .before .before .before .loop .i) 0 (c .before .before .loop-test .taken) (c .before .before .loop-test .taken) (numberOk (c .before .before .before .before .before .args .limit)) (rw (lt-leb 1 _ (c .if1 .taken))))
+returns c =
+    let args = c .before .before .before .before .before .args in
+    let loop = c .before .before .before .loop in
+    sym (loop .inv .1 ∙ tails-no (args .numbers .now) (length (args .numbers .now)) (loop .i) 0 (c .before .before .loop-test .taken) (c .before .before .loop-test .taken) (numberOk (args .limit)) (rw (lt-leb 1 _ (c .if1 .taken))))
 
 returns-2 : tie.Need-returns-2 Inv-loop μ-loop
 unfolding numbered numberOk
-returns-2 c = sym (c .before .before .before .before .loop .inv .1 ∙ tails-no (c .before .before .before .before .before .before .args .numbers .now) (length (c .before .before .before .before .before .before .args .numbers .now)) (c .before .before .before .before .loop .i) 0 (c .before .before .before .loop-test .taken) (c .before .before .before .loop-test .taken) (numberOk (c .before .before .before .before .before .before .args .limit)) (rw (le-leb 1 _ (c .before .if1 .left), lt-leb _ (c .before .before .before .before .before .before .args .limit) (c .if2 .taken))))
+returns-2 c =
+    let args = c .before .before .before .before .before .before .args in
+    let loop = c .before .before .before .before .loop in
+    let loop-test = c .before .before .before .loop-test in
+    sym (loop .inv .1 ∙ tails-no (args .numbers .now) (length (args .numbers .now)) (loop .i) 0 (loop-test .taken) (loop-test .taken) (numberOk (args .limit)) (rw (le-leb 1 _ (c .before .if1 .left), lt-leb _ (args .limit) (c .if2 .taken))))
 
 add-in-use : tie.Need-add-in-use Inv-loop μ-loop
 add-in-use c = omega arith
@@ -57,7 +64,11 @@ in-use-requires c κs = search needs
 
 returns-3 : tie.Need-returns-3 Inv-loop μ-loop
 unfolding numbered numberOk
-returns-3 c = sym (c .before .before .before .before .before .before .before .loop .inv .1 ∙ tails-no (c .before .before .before .before .before .before .before .before .before .args .numbers .now) (length (c .before .before .before .before .before .before .before .before .before .args .numbers .now)) (c .before .before .before .before .before .before .before .loop .i) 0 (c .before .before .before .before .before .before .loop-test .taken) (c .before .before .before .before .before .before .loop-test .taken) (numberOk (c .before .before .before .before .before .before .before .before .before .args .limit)) (rw (le-leb 1 _ (c .before .before .before .before .if1 .left), le-leb _ (c .before .before .before .before .before .before .before .before .before .args .limit) (c .before .before .before .if2 .left)) (ap not (ap (contains (getD (c .before .before .before .before .before .before .before .before .before .args .numbers .now) (c .before .before .before .before .before .before .before .loop .i) 0)) (sym (tail-rest (c .before .before .before .before .before .before .before .before .before .args .numbers .now) ((c .before .before .before .before .before .before .before .loop .i) + 1))) ∙ sym (c .before .in-use .ensures) ∙ c .if3 .taken))))
+returns-3 c =
+    let args = c .before .before .before .before .before .before .before .before .before .args in
+    let loop = c .before .before .before .before .before .before .before .loop in
+    let loop-test = c .before .before .before .before .before .before .loop-test in
+    sym (loop .inv .1 ∙ tails-no (args .numbers .now) (length (args .numbers .now)) (loop .i) 0 (loop-test .taken) (loop-test .taken) (numberOk (args .limit)) (rw (le-leb 1 _ (c .before .before .before .before .if1 .left), le-leb _ (args .limit) (c .before .before .before .if2 .left)) (ap not (ap (contains (getD (args .numbers .now) (loop .i) 0)) (sym (tail-rest (args .numbers .now) ((loop .i) + 1))) ∙ sym (c .before .in-use .ensures) ∙ c .if3 .taken))))
 
 add-i : tie.Need-add-i Inv-loop μ-loop
 add-i c = omega arith
@@ -67,11 +78,17 @@ loop-less c = omega arith
 
 loop-again : tie.Need-loop-again Inv-loop μ-loop
 unfolding numberOk
-loop-again c = (omega arith, c .before .before .before .before .before .before .before .loop .inv .1 ∙ tails-yes (c .before .before .before .before .before .before .before .before .before .args .numbers .now) (length (c .before .before .before .before .before .before .before .before .before .args .numbers .now)) (c .before .before .before .before .before .before .before .loop .i) 0 (c .before .before .before .before .before .before .loop-test .taken) (c .before .before .before .before .before .before .loop-test .taken) (numberOk (c .before .before .before .before .before .before .before .before .before .args .limit)) (rw (le-leb 1 _ (c .before .before .before .before .if1 .left), le-leb _ (c .before .before .before .before .before .before .before .before .before .args .limit) (c .before .before .before .if2 .left)) (ap not (ap (contains (getD (c .before .before .before .before .before .before .before .before .before .args .numbers .now) (c .before .before .before .before .before .before .before .loop .i) 0)) (sym (tail-rest (c .before .before .before .before .before .before .before .before .before .args .numbers .now) ((c .before .before .before .before .before .before .before .loop .i) + 1))) ∙ sym (c .before .in-use .ensures) ∙ c .if3 .left))))
+loop-again c =
+    let args = c .before .before .before .before .before .before .before .before .before .args in
+    let loop = c .before .before .before .before .before .before .before .loop in
+    let loop-test = c .before .before .before .before .before .before .loop-test in
+    (omega arith, loop .inv .1 ∙ tails-yes (args .numbers .now) (length (args .numbers .now)) (loop .i) 0 (loop-test .taken) (loop-test .taken) (numberOk (args .limit)) (rw (le-leb 1 _ (c .before .before .before .before .if1 .left), le-leb _ (args .limit) (c .before .before .before .if2 .left)) (ap not (ap (contains (getD (args .numbers .now) (loop .i) 0)) (sym (tail-rest (args .numbers .now) ((loop .i) + 1))) ∙ sym (c .before .in-use .ensures) ∙ c .if3 .left))))
 
 returns-4 : tie.Need-returns-4 Inv-loop μ-loop
 unfolding numbered
-returns-4 c = sym (c .before .loop .inv .1 ∙ tails-end (c .before .before .before .args .numbers .now) (length (c .before .before .before .args .numbers .now)) (numberOk (c .before .before .before .args .limit)) (c .before .loop .i) (c .loop-test .left))
+returns-4 c =
+    let args = c .before .before .before .args in
+    sym (c .before .loop .inv .1 ∙ tails-end (args .numbers .now) (length (args .numbers .now)) (numberOk (args .limit)) (c .before .loop .i) (c .loop-test .left))
 
 pub well-numbered-spec : {M : Type 1} → statement M
 well-numbered-spec =

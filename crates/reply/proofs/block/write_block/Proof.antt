@@ -33,7 +33,10 @@ enum-known-a c = search needs
 
 write-read-requires : tie.Need-write-read-requires
 unfolding answerSize
-write-read-requires c κs = (c .before .before .before .before .before .before .pre .0, (read-inside (c .before .before .before .before .before .before .args .a) (c .before .before .a .given .0 .0) (c .before .before .a .given .0 .1 .0) (c .before .before .a .given .1) (c .before .before .before .before .before .before .pre .1 .0), (rw (c .before .before .a .given .1) at (c .before .before .before .before .before .before .pre .1 .1 .0), c .before .before .before .before .before .before .pre .1 .1 .1)))
+write-read-requires c κs =
+    let pre = c .before .before .before .before .before .before .pre in
+    let a = c .before .before .a in
+    (pre .0, (read-inside (c .before .before .before .before .before .before .args .a) (a .given .0 .0) (a .given .0 .1 .0) (a .given .1) (pre .1 .0), (rw (a .given .1) at (pre .1 .1 .0), pre .1 .1 .1)))
 
 enum-known-a-2 : tie.Need-enum-known-a-2
 enum-known-a-2 c = search needs

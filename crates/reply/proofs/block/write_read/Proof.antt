@@ -57,18 +57,21 @@ same-length c = search needs
 
 returns : tie.Need-returns
 returns c =
-    let at = c .before .before .before .before .before .before .before .before .before .before .before .before .before .before .before .args .at in
-    let count = c .before .before .before .before .before .before .before .before .before .before .before .before .before .before .before .args .count in
-    let place = c .before .before .before .before .before .before .before .before .before .before .before .before .before .before .before .args .place in
-    let link = c .before .before .before .before .before .before .before .before .before .before .before .before .before .before .before .args .link in
-    let m = c .before .before .before .before .before .before .before .before .before .before .before .before .before .before .before .args .memory .now in
+    let args = c .before .before .before .before .before .before .before .before .before .before .before .before .before .before .before .args in
+    let write-start = c .before .before .before .before .before .before .before .before .before .before .before .write-start in
+    let write-extent = c .before .before .before .before .before .before .before .write-extent in
+    let at = args .at in
+    let count = args .count in
+    let place = args .place in
+    let link = args .link in
+    let m = args .memory .now in
     let n : length (take count (drop at m)) ≡ count = length-yielded m at count (omega arith) in
     let same : at + count - at ≡ count = omega arith in
-    let fits : 27 + length (take (at + count - at) (drop at m)) ≤ length (c .before .before .before .before .before .before .before .before .before .before .before .before .before .before .before .args .room .now) = rw (same, n) (omega arith) in
+    let fits : 27 + length (take (at + count - at) (drop at m)) ≤ length (args .room .now) = rw (same, n) (omega arith) in
     rw (read-whole (take count (drop at m)) place link, n)
-    ((laid-three (c .before .before .before .before .before .before .before .before .before .before .before .before .before .before .before .args .room .now) (readStart link) (readExtent count place) (take (at + count - at) (drop at m)) (c .before .before .before .before .before .before .before .before .before .before .before .write-start .last .1 .0) (c .before .before .before .before .before .before .before .write-extent .last .1 .1 .0) _ (c .before .before .lay .last .1 .0) 11 27
-    (length-readStart link) (length-readFront count place link) fits (c .before .before .before .before .before .before .before .before .before .before .before .write-start .ensures) (c .before .before .before .before .before .before .before .write-extent .ensures) refl (c .before .before .lay .ensures))
-    ∙ ap (λ (k : ℕ). put (c .before .before .before .before .before .before .before .before .before .before .before .before .before .before .before .args .room .now) 0 ((readStart link ++ readExtent count place) ++ take k (drop at m))) same)
+    ((laid-three (args .room .now) (readStart link) (readExtent count place) (take (at + count - at) (drop at m)) (write-start .last .1 .0) (write-extent .last .1 .1 .0) _ (c .before .before .lay .last .1 .0) 11 27
+    (length-readStart link) (length-readFront count place link) fits (write-start .ensures) (write-extent .ensures) refl (c .before .before .lay .ensures))
+    ∙ ap (λ (k : ℕ). put (args .room .now) 0 ((readStart link ++ readExtent count place) ++ take k (drop at m))) same)
 
 pub write-read-spec : {M : Type 1} → statement M
 write-read-spec =

@@ -35,7 +35,9 @@ same-length c = search needs
 
 returns : tie.Need-returns
 unfolding two replyBlock
-returns c = rw (link-parts (c .before .before .before .before .before .before .before .before .before .before .before .before .args .link)) (cc)
+returns c =
+    let args = c .before .before .before .before .before .before .before .before .before .before .before .before .args in
+    rw (link-parts (args .link)) (cc)
 
 pub write-wrote-spec : {M : Type 1} → statement M
 write-wrote-spec =

@@ -51,13 +51,16 @@ same-length c = search needs
 
 returns : tie.Need-returns
 returns c =
-    let s = c .before .before .before .before .before .before .before .before .before .before .before .before .before .before .before .args .s .now in
-    let status = c .before .before .before .before .before .before .before .before .before .before .before .before .before .before .before .args .status in
+    let args = c .before .before .before .before .before .before .before .before .before .before .before .before .before .before .before .args in
+    let write-start = c .before .before .before .before .before .before .before .before .before .before .before .write-start in
+    let write-flags = c .before .before .before .before .before .before .before .write-flags in
+    let s = args .s .now in
+    let status = args .status in
     let n : length (take 8 (drop 24 s)) ≡ 8 = rw (length-take, length-drop) (omega arith) in
-    let fits : 24 + length (take 8 (drop 24 s)) ≤ length (c .before .before .before .before .before .before .before .before .before .before .before .before .before .before .before .args .room .now) = omega arith in
+    let fits : 24 + length (take 8 (drop 24 s)) ≤ length (args .room .now) = omega arith in
     rw (header-whole s status)
-    (laid-three (c .before .before .before .before .before .before .before .before .before .before .before .before .before .before .before .args .room .now) (headerStart s status) (headerFlags s) (take 8 (drop 24 s)) (c .before .before .before .before .before .before .before .before .before .before .before .write-start .last .1 .1 .0) (c .before .before .before .before .before .before .before .write-flags .last .1 .0) _ (c .before .before .lay .last .1 .0) 9 24
-    (length-headerStart s status) (length-headerFront s status) fits (c .before .before .before .before .before .before .before .before .before .before .before .write-start .ensures) (c .before .before .before .before .before .before .before .write-flags .ensures) refl (c .before .before .lay .ensures))
+    (laid-three (args .room .now) (headerStart s status) (headerFlags s) (take 8 (drop 24 s)) (write-start .last .1 .1 .0) (write-flags .last .1 .0) _ (c .before .before .lay .last .1 .0) 9 24
+    (length-headerStart s status) (length-headerFront s status) fits (write-start .ensures) (write-flags .ensures) refl (c .before .before .lay .ensures))
 
 pub write-header-spec : {M : Type 1} → statement M
 write-header-spec =

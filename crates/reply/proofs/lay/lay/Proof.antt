@@ -12,7 +12,9 @@ same-length : tie.Need-same-length
 same-length c = search needs
 
 returns : tie.Need-returns
-returns c = put-copied (c .before .before .before .before .before .before .args .room .now) (c .before .before .before .before .before .before .args .part .now) (c .before .before .copy .last .1 .0) (c .before .before .before .before .before .before .pre) (c .before .before .copy .ensures .1)
+returns c =
+    let args = c .before .before .before .before .before .before .args in
+    put-copied (args .room .now) (args .part .now) (c .before .before .copy .last .1 .0) (c .before .before .before .before .before .before .pre) (c .before .before .copy .ensures .1)
 
 pub lay-spec : {M : Type 1} → statement M
 lay-spec = tie.close (tie.spec copy-requires same-length returns)

@@ -44,13 +44,19 @@ loop-less : tie.Need-loop-less Inv-loop μ-loop
 loop-less c = omega arith
 
 loop-again : tie.Need-loop-again Inv-loop μ-loop
-loop-again c = let long : length (c .before .before .before .before .before .before .args .t1) ≡ 64 = search needs in (omega arith, rw (c .before .before .before .before .loop .inv .1) (sym (fileTable-turn (c .before .before .before .before .before .before .args .t1) (c .before .before .before .before .before .before .args .count) (c .before .before .before .before .loop .i) noOpen (c .before .before .before .loop-test .taken) (omega arith) (omega arith))))
+loop-again c =
+    let args = c .before .before .before .before .before .before .args in
+    let loop = c .before .before .before .before .loop in
+    let long : length (args .t1) ≡ 64 = search needs in (omega arith, rw (loop .inv .1) (sym (fileTable-turn (args .t1) (args .count) (loop .i) noOpen (c .before .before .before .loop-test .taken) (omega arith) (omega arith))))
 
 loop-less-2 : tie.Need-loop-less-2 Inv-loop μ-loop
 loop-less-2 c = omega arith
 
 loop-again-2 : tie.Need-loop-again-2 Inv-loop μ-loop
-loop-again-2 c = let long : length (c .before .before .before .before .before .before .args .t1) ≡ 64 = search needs in (omega arith, c .before .before .before .before .loop .inv .1 ∙ sym (fileTable-turn (c .before .before .before .before .before .before .args .t1) (c .before .before .before .before .before .before .args .count) (c .before .before .before .before .loop .i) noOpen (c .before .before .before .loop-test .taken) (omega arith) (omega arith) ∙ set-out (fileTable (rest (c .before .before .before .before .before .before .args .t1) (c .before .before .before .before .before .before .args .count) (c .before .before .before .before .loop .i))) _ _ (rw (length-fileTable (rest (c .before .before .before .before .before .before .args .t1) (c .before .before .before .before .before .before .args .count) (c .before .before .before .before .loop .i))) (c .if1 .left))))
+loop-again-2 c =
+    let args = c .before .before .before .before .before .before .args in
+    let loop = c .before .before .before .before .loop in
+    let long : length (args .t1) ≡ 64 = search needs in (omega arith, loop .inv .1 ∙ sym (fileTable-turn (args .t1) (args .count) (loop .i) noOpen (c .before .before .before .loop-test .taken) (omega arith) (omega arith) ∙ set-out (fileTable (rest (args .t1) (args .count) (loop .i))) _ _ (rw (length-fileTable (rest (args .t1) (args .count) (loop .i))) (c .if1 .left))))
 
 returns : tie.Need-returns Inv-loop μ-loop
 returns c = let z : c .before .loop .i ≡ 0 = omega arith in rw z at (c .before .loop .inv .1)

@@ -27,7 +27,8 @@ answering-requires c κs = search needs
 returns-2 : tie.Need-returns-2
 unfolding agree answers answersFor inWay bars asked
 returns-2 c =
-    ap not (c .answering .ensures ∙ ap (λ q. answers (fileIn (c .before .before .before .before .args .files .now)) q (c .before .before .before .before .args .l)) (c .before .asked-of .ensures))
+    let args = c .before .before .before .before .args in
+    ap not (c .answering .ensures ∙ ap (λ q. answers (fileIn (args .files .now)) q (args .l)) (c .before .asked-of .ensures))
 
 pub agreeing-spec : {M : Type 1} → statement M
 agreeing-spec =

@@ -54,11 +54,15 @@ agreeing-requires c κs = search needs
 returns : tie.Need-returns Inv-later μ-later Inv-each μ-each
 unfolding agreeAll
 returns c =
-    let long : length (c .before .before .before .before .before .before .before .before .args .t2) ≡ 128 = search needs in
-    let fails : all (agree (fileIn (c .before .before .before .before .before .before .before .before .args .files .now)) (getD (c .before .before .before .before .before .before .before .before .args .t2) (c .before .before .before .before .before .before .before .each .i) noLock)) (rest (c .before .before .before .before .before .before .before .before .args .t2) (c .before .before .before .before .before .before .before .before .args .count) (c .before .before .before .before .before .before .before .each .i + 1)) ≡ false =
-    c .before .before .before .before .later .inv .1 ∙ all-no (c .before .before .before .before .before .before .before .before .args .t2) (c .before .before .before .before .before .before .before .before .args .count) (c .before .before .before .before .later .j) noLock (c .before .before .before .later-test .taken) (omega arith) (agree (fileIn (c .before .before .before .before .before .before .before .before .args .files .now)) (getD (c .before .before .before .before .before .before .before .before .args .t2) (c .before .before .before .before .before .before .before .each .i) noLock)) (sym (c .before .agreeing .ensures) ∙ not-true (c .before .agreeing .result) (c .if1 .taken))
+    let args = c .before .before .before .before .before .before .before .before .args in
+    let each = c .before .before .before .before .before .before .before .each in
+    let each-test = c .before .before .before .before .before .before .each-test in
+    let later′ = c .before .before .before .before .later in
+    let long : length (args .t2) ≡ 128 = search needs in
+    let fails : all (agree (fileIn (args .files .now)) (getD (args .t2) (each .i) noLock)) (rest (args .t2) (args .count) (each .i + 1)) ≡ false =
+    later′ .inv .1 ∙ all-no (args .t2) (args .count) (later′ .j) noLock (c .before .before .before .later-test .taken) (omega arith) (agree (fileIn (args .files .now)) (getD (args .t2) (each .i) noLock)) (sym (c .before .agreeing .ensures) ∙ not-true (c .before .agreeing .result) (c .if1 .taken))
     in
-    sym (c .before .before .before .before .before .before .before .each .inv .1 ∙ tails-no (c .before .before .before .before .before .before .before .before .args .t2) (c .before .before .before .before .before .before .before .before .args .count) (c .before .before .before .before .before .before .before .each .i) noLock (c .before .before .before .before .before .before .each-test .taken) (omega arith) (λ l later. all (agree (fileIn (c .before .before .before .before .before .before .before .before .args .files .now)) l) later) fails)
+    sym (each .inv .1 ∙ tails-no (args .t2) (args .count) (each .i) noLock (each-test .taken) (omega arith) (λ l later. all (agree (fileIn (args .files .now)) l) later) fails)
 
 add-j-2 : tie.Need-add-j-2 Inv-later μ-later Inv-each μ-each
 add-j-2 c = omega arith
@@ -67,7 +71,11 @@ later-less : tie.Need-later-less Inv-later μ-later Inv-each μ-each
 later-less c = omega arith
 
 later-again : tie.Need-later-again Inv-later μ-later Inv-each μ-each
-later-again c = let long : length (c .before .before .before .before .before .before .before .before .args .t2) ≡ 128 = search needs in (omega arith, c .before .before .before .before .later .inv .1 ∙ all-yes (c .before .before .before .before .before .before .before .before .args .t2) (c .before .before .before .before .before .before .before .before .args .count) (c .before .before .before .before .later .j) noLock (c .before .before .before .later-test .taken) (omega arith) (agree (fileIn (c .before .before .before .before .before .before .before .before .args .files .now)) (getD (c .before .before .before .before .before .before .before .before .args .t2) (c .before .before .before .before .before .before .before .each .i) noLock)) (sym (c .before .agreeing .ensures) ∙ not-false (c .before .agreeing .result) (c .if1 .left)))
+later-again c =
+    let args = c .before .before .before .before .before .before .before .before .args in
+    let each = c .before .before .before .before .before .before .before .each in
+    let later = c .before .before .before .before .later in
+    let long : length (args .t2) ≡ 128 = search needs in (omega arith, later .inv .1 ∙ all-yes (args .t2) (args .count) (later .j) noLock (c .before .before .before .later-test .taken) (omega arith) (agree (fileIn (args .files .now)) (getD (args .t2) (each .i) noLock)) (sym (c .before .agreeing .ensures) ∙ not-false (c .before .agreeing .result) (c .if1 .left)))
 
 add-i : tie.Need-add-i Inv-later μ-later Inv-each μ-each
 add-i c = omega arith
@@ -78,13 +86,17 @@ each-less c = omega arith
 each-again : tie.Need-each-again Inv-later μ-later Inv-each μ-each
 unfolding agreeAll
 each-again c =
-    let long : length (c .before .before .before .before .before .args .t2) ≡ 128 = search needs in
-    let yes-all : all (agree (fileIn (c .before .before .before .before .before .args .files .now)) (getD (c .before .before .before .before .before .args .t2) (c .before .before .before .before .each .i) noLock)) (rest (c .before .before .before .before .before .args .t2) (c .before .before .before .before .before .args .count) (c .before .before .before .before .each .i + 1)) ≡ true = c .before .later .inv .1 ∙ all-end (c .before .before .before .before .before .args .t2) (c .before .before .before .before .before .args .count) (agree (fileIn (c .before .before .before .before .before .args .files .now)) (getD (c .before .before .before .before .before .args .t2) (c .before .before .before .before .each .i) noLock)) (c .before .later .j) (c .later-test .left) in
-    (omega arith, c .before .before .before .before .each .inv .1 ∙ tails-yes (c .before .before .before .before .before .args .t2) (c .before .before .before .before .before .args .count) (c .before .before .before .before .each .i) noLock (c .before .before .before .each-test .taken) (omega arith) (λ l later. all (agree (fileIn (c .before .before .before .before .before .args .files .now)) l) later) yes-all)
+    let args = c .before .before .before .before .before .args in
+    let each = c .before .before .before .before .each in
+    let long : length (args .t2) ≡ 128 = search needs in
+    let yes-all : all (agree (fileIn (args .files .now)) (getD (args .t2) (each .i) noLock)) (rest (args .t2) (args .count) (each .i + 1)) ≡ true = c .before .later .inv .1 ∙ all-end (args .t2) (args .count) (agree (fileIn (args .files .now)) (getD (args .t2) (each .i) noLock)) (c .before .later .j) (c .later-test .left) in
+    (omega arith, each .inv .1 ∙ tails-yes (args .t2) (args .count) (each .i) noLock (c .before .before .before .each-test .taken) (omega arith) (λ l later. all (agree (fileIn (args .files .now)) l) later) yes-all)
 
 returns-2 : tie.Need-returns-2 Inv-later μ-later Inv-each μ-each
 unfolding agreeAll
-returns-2 c = sym (c .before .each .inv .1 ∙ tails-end (c .before .before .args .t2) (c .before .before .args .count) (λ l later. all (agree (fileIn (c .before .before .args .files .now)) l) later) (c .before .each .i) (c .each-test .left))
+returns-2 c =
+    let args = c .before .before .args in
+    sym (c .before .each .inv .1 ∙ tails-end (args .t2) (args .count) (λ l later. all (agree (fileIn (args .files .now)) l) later) (c .before .each .i) (c .each-test .left))
 
 pub locks-agree-spec : {M : Type 1} → statement M
 locks-agree-spec =

@@ -33,7 +33,10 @@ lock-fits-requires : tie.Need-lock-fits-requires Inv-loop μ-loop
 lock-fits-requires c κs = search needs
 
 returns : tie.Need-returns Inv-loop μ-loop
-returns c = let long : length (c .before .before .before .before .before .args .t2) ≡ 128 = search needs in sym (c .before .before .before .before .loop .inv .1 ∙ all-no (c .before .before .before .before .before .args .t2) (c .before .before .before .before .before .args .count) (c .before .before .before .before .loop .i) noLock (c .before .before .before .loop-test .taken) (omega (arith, long)) (lockFits (fileIn (c .before .before .before .before .before .args .files .now))) (sym (c .before .lock-fits .ensures) ∙ not-true (c .before .lock-fits .result) (c .if1 .taken)))
+returns c =
+    let args = c .before .before .before .before .before .args in
+    let loop = c .before .before .before .before .loop in
+    let long : length (args .t2) ≡ 128 = search needs in sym (loop .inv .1 ∙ all-no (args .t2) (args .count) (loop .i) noLock (c .before .before .before .loop-test .taken) (omega (arith, long)) (lockFits (fileIn (args .files .now))) (sym (c .before .lock-fits .ensures) ∙ not-true (c .before .lock-fits .result) (c .if1 .taken)))
 
 add-i : tie.Need-add-i Inv-loop μ-loop
 add-i c = omega arith
@@ -42,10 +45,15 @@ loop-less : tie.Need-loop-less Inv-loop μ-loop
 loop-less c = omega arith
 
 loop-again : tie.Need-loop-again Inv-loop μ-loop
-loop-again c = let long : length (c .before .before .before .before .before .args .t2) ≡ 128 = search needs in (omega arith, c .before .before .before .before .loop .inv .1 ∙ all-yes (c .before .before .before .before .before .args .t2) (c .before .before .before .before .before .args .count) (c .before .before .before .before .loop .i) noLock (c .before .before .before .loop-test .taken) (omega (arith, long)) (lockFits (fileIn (c .before .before .before .before .before .args .files .now))) (sym (c .before .lock-fits .ensures) ∙ not-false (c .before .lock-fits .result) (c .if1 .left)))
+loop-again c =
+    let args = c .before .before .before .before .before .args in
+    let loop = c .before .before .before .before .loop in
+    let long : length (args .t2) ≡ 128 = search needs in (omega arith, loop .inv .1 ∙ all-yes (args .t2) (args .count) (loop .i) noLock (c .before .before .before .loop-test .taken) (omega (arith, long)) (lockFits (fileIn (args .files .now))) (sym (c .before .lock-fits .ensures) ∙ not-false (c .before .lock-fits .result) (c .if1 .left)))
 
 returns-2 : tie.Need-returns-2 Inv-loop μ-loop
-returns-2 c = sym (c .before .loop .inv .1 ∙ all-end (c .before .before .args .t2) (c .before .before .args .count) (lockFits (fileIn (c .before .before .args .files .now))) (c .before .loop .i) (c .loop-test .left))
+returns-2 c =
+    let args = c .before .before .args in
+    sym (c .before .loop .inv .1 ∙ all-end (args .t2) (args .count) (lockFits (fileIn (args .files .now))) (c .before .loop .i) (c .loop-test .left))
 
 pub locks-fit-spec : {M : Type 1} → statement M
 locks-fit-spec =

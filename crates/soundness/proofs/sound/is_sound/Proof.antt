@@ -21,21 +21,40 @@ files-ok-requires c κs = search needs
 
 returns-2 : tie.Need-returns-2
 unfolding sound
-returns-2 c = rw ((sym (c .before .before .before .before .within-room .ensures) ∙ not-false (c .before .before .before .before .within-room .result) (c .before .before .before .if1 .left)), (sym (c .before .files-ok .ensures) ∙ not-true (c .before .files-ok .result) (c .if2 .taken)))
+returns-2 c =
+    let within-room = c .before .before .before .before .within-room in
+    rw ((sym (within-room .ensures) ∙ not-false (within-room .result) (c .before .before .before .if1 .left)), (sym (c .before .files-ok .ensures) ∙ not-true (c .before .files-ok .result) (c .if2 .taken)))
 
 records-ok-requires : tie.Need-records-ok-requires
-records-ok-requires c κs = let r = room (c .before .before .before .before .before .before .before .before .args .t .nsessions) (c .before .before .before .before .before .before .before .before .args .t .ntrees) (c .before .before .before .before .before .before .before .before .args .t .nopens) (c .before .before .before .before .before .before .before .before .args .t .nlocks) (sym (c .before .before .before .before .before .before .before .within-room .ensures) ∙ not-false (c .before .before .before .before .before .before .before .within-room .result) (c .before .before .before .before .before .before .if1 .left)) in (r .sessions-fit, (r .trees-fit, r .opens-fit))
+records-ok-requires c κs =
+    let args = c .before .before .before .before .before .before .before .before .args in
+    let within-room = c .before .before .before .before .before .before .before .within-room in
+    let r = room (args .t .nsessions) (args .t .ntrees) (args .t .nopens) (args .t .nlocks) (sym (within-room .ensures) ∙ not-false (within-room .result) (c .before .before .before .before .before .before .if1 .left)) in (r .sessions-fit, (r .trees-fit, r .opens-fit))
 
 returns-3 : tie.Need-returns-3
 unfolding sound
-returns-3 c = rw ((sym (c .before .before .before .before .before .before .before .before .before .within-room .ensures) ∙ not-false (c .before .before .before .before .before .before .before .before .before .within-room .result) (c .before .before .before .before .before .before .before .before .if1 .left)), (sym (c .before .before .before .before .before .before .files-ok .ensures) ∙ not-false (c .before .before .before .before .before .before .files-ok .result) (c .before .before .before .before .before .if2 .left)), (sym (c .before .records-ok .ensures) ∙ not-true (c .before .records-ok .result) (c .if3 .taken)))
+returns-3 c =
+    let within-room = c .before .before .before .before .before .before .before .before .before .within-room in
+    let if1 = c .before .before .before .before .before .before .before .before .if1 in
+    let files-ok = c .before .before .before .before .before .before .files-ok in
+    rw ((sym (within-room .ensures) ∙ not-false (within-room .result) (if1 .left)), (sym (files-ok .ensures) ∙ not-false (files-ok .result) (c .before .before .before .before .before .if2 .left)), (sym (c .before .records-ok .ensures) ∙ not-true (c .before .records-ok .result) (c .if3 .taken)))
 
 locks-ok-requires : tie.Need-locks-ok-requires
-locks-ok-requires c κs = let r = room (c .before .before .before .before .before .before .before .before .before .before .before .args .t .nsessions) (c .before .before .before .before .before .before .before .before .before .before .before .args .t .ntrees) (c .before .before .before .before .before .before .before .before .before .before .before .args .t .nopens) (c .before .before .before .before .before .before .before .before .before .before .before .args .t .nlocks) (sym (c .before .before .before .before .before .before .before .before .before .before .within-room .ensures) ∙ not-false (c .before .before .before .before .before .before .before .before .before .before .within-room .result) (c .before .before .before .before .before .before .before .before .before .if1 .left)) in (r .locks-fit, records-opens (sessionsOf (c .before .before .before .before .before .before .before .before .before .before .before .args .t)) (treesOf (c .before .before .before .before .before .before .before .before .before .before .before .args .t)) (opensOf (c .before .before .before .before .before .before .before .before .before .before .before .args .t)) (sym (c .before .before .records-ok .ensures) ∙ not-false (c .before .before .records-ok .result) (c .before .if3 .left)))
+locks-ok-requires c κs =
+    let args = c .before .before .before .before .before .before .before .before .before .before .before .args in
+    let within-room = c .before .before .before .before .before .before .before .before .before .before .within-room in
+    let if1 = c .before .before .before .before .before .before .before .before .before .if1 in
+    let r = room (args .t .nsessions) (args .t .ntrees) (args .t .nopens) (args .t .nlocks) (sym (within-room .ensures) ∙ not-false (within-room .result) (if1 .left)) in (r .locks-fit, records-opens (sessionsOf (args .t)) (treesOf (args .t)) (opensOf (args .t)) (sym (c .before .before .records-ok .ensures) ∙ not-false (c .before .before .records-ok .result) (c .before .if3 .left)))
 
 returns-4 : tie.Need-returns-4
 unfolding sound
-returns-4 c = rw ((sym (c .before .before .before .before .before .before .before .before .before .before .before .within-room .ensures) ∙ not-false (c .before .before .before .before .before .before .before .before .before .before .before .within-room .result) (c .before .before .before .before .before .before .before .before .before .before .if1 .left)), (sym (c .before .before .before .before .before .before .before .before .files-ok .ensures) ∙ not-false (c .before .before .before .before .before .before .before .before .files-ok .result) (c .before .before .before .before .before .before .before .if2 .left)), (sym (c .before .before .before .records-ok .ensures) ∙ not-false (c .before .before .before .records-ok .result) (c .before .before .if3 .left))) (c .locks-ok .ensures)
+returns-4 c =
+    let within-room = c .before .before .before .before .before .before .before .before .before .before .before .within-room in
+    let if1 = c .before .before .before .before .before .before .before .before .before .before .if1 in
+    let files-ok = c .before .before .before .before .before .before .before .before .files-ok in
+    let if2 = c .before .before .before .before .before .before .before .if2 in
+    let records-ok = c .before .before .before .records-ok in
+    rw ((sym (within-room .ensures) ∙ not-false (within-room .result) (if1 .left)), (sym (files-ok .ensures) ∙ not-false (files-ok .result) (if2 .left)), (sym (records-ok .ensures) ∙ not-false (records-ok .result) (c .before .before .if3 .left))) (c .locks-ok .ensures)
 
 pub is-sound-spec : {M : Type 1} → statement M
 is-sound-spec =

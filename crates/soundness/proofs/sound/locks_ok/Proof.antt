@@ -23,14 +23,22 @@ locks-fit-requires c κs = search needs
 
 returns : tie.Need-returns
 unfolding soundLocks
-returns c = rw (ap (λ (p : Lock → Bool). all p (take (c .before .before .before .before .args .nlocks) (c .before .before .before .before .args .locks))) (sym (ap lockFits (ap fileIn (c .before .before .before .file-table .ensures) ∙ table-serves (take (c .before .before .before .before .args .nopens) (c .before .before .before .before .args .opens)) (c .before .before .before .before .pre .1 .0)) ∙ fits-is-ok (take (c .before .before .before .before .args .ntrees) (c .before .before .before .before .args .trees)) (take (c .before .before .before .before .args .nopens) (c .before .before .before .before .args .opens)) (c .before .before .before .before .pre .1 .1))) ∙ sym (c .before .locks-fit .ensures) ∙ not-true (c .before .locks-fit .result) (c .if1 .taken))
+returns c =
+    let pre = c .before .before .before .before .pre in
+    let args = c .before .before .before .before .args in
+    rw (ap (λ (p : Lock → Bool). all p (take (args .nlocks) (args .locks))) (sym (ap lockFits (ap fileIn (c .before .before .before .file-table .ensures) ∙ table-serves (take (args .nopens) (args .opens)) (pre .1 .0)) ∙ fits-is-ok (take (args .ntrees) (args .trees)) (take (args .nopens) (args .opens)) (pre .1 .1))) ∙ sym (c .before .locks-fit .ensures) ∙ not-true (c .before .locks-fit .result) (c .if1 .taken))
 
 locks-agree-requires : tie.Need-locks-agree-requires
 locks-agree-requires c κs = search needs
 
 returns-2 : tie.Need-returns-2
 unfolding soundLocks
-returns-2 c = rw (ap (λ (p : Lock → Bool). all p (take (c .before .before .before .before .before .before .args .nlocks) (c .before .before .before .before .before .before .args .locks))) (sym (ap lockFits (ap fileIn (c .before .before .before .before .before .file-table .ensures) ∙ table-serves (take (c .before .before .before .before .before .before .args .nopens) (c .before .before .before .before .before .before .args .opens)) (c .before .before .before .before .before .before .pre .1 .0)) ∙ fits-is-ok (take (c .before .before .before .before .before .before .args .ntrees) (c .before .before .before .before .before .before .args .trees)) (take (c .before .before .before .before .before .before .args .nopens) (c .before .before .before .before .before .before .args .opens)) (c .before .before .before .before .before .before .pre .1 .1))) ∙ sym (c .before .before .before .locks-fit .ensures) ∙ not-false (c .before .before .before .locks-fit .result) (c .before .before .if1 .left)) (c .locks-agree .ensures ∙ ap (λ (f : ℕ → ℕ). agreeAll f (take (c .before .before .before .before .before .before .args .nlocks) (c .before .before .before .before .before .before .args .locks))) (ap fileIn (c .before .before .before .before .before .file-table .ensures) ∙ table-serves (take (c .before .before .before .before .before .before .args .nopens) (c .before .before .before .before .before .before .args .opens)) (c .before .before .before .before .before .before .pre .1 .0)))
+returns-2 c =
+    let pre = c .before .before .before .before .before .before .pre in
+    let args = c .before .before .before .before .before .before .args in
+    let file-table = c .before .before .before .before .before .file-table in
+    let locks-fit = c .before .before .before .locks-fit in
+    rw (ap (λ (p : Lock → Bool). all p (take (args .nlocks) (args .locks))) (sym (ap lockFits (ap fileIn (file-table .ensures) ∙ table-serves (take (args .nopens) (args .opens)) (pre .1 .0)) ∙ fits-is-ok (take (args .ntrees) (args .trees)) (take (args .nopens) (args .opens)) (pre .1 .1))) ∙ sym (locks-fit .ensures) ∙ not-false (locks-fit .result) (c .before .before .if1 .left)) (c .locks-agree .ensures ∙ ap (λ (f : ℕ → ℕ). agreeAll f (take (args .nlocks) (args .locks))) (ap fileIn (file-table .ensures) ∙ table-serves (take (args .nopens) (args .opens)) (pre .1 .0)))
 
 pub locks-ok-spec : {M : Type 1} → statement M
 locks-ok-spec =

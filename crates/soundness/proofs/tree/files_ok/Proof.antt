@@ -33,7 +33,9 @@ file-ok-requires : tie.Need-file-ok-requires Inv-loop μ-loop
 file-ok-requires c κs = search needs
 
 returns : tie.Need-returns Inv-loop μ-loop
-returns c = sym (c .before .before .before .before .loop .inv .1 ∙ all-no (c .before .before .before .before .before .args .t1) 16 (c .before .before .before .before .loop .i) noFile (c .before .before .before .loop-test .taken) (search needs) fileOk (sym (c .before .file-ok .ensures) ∙ not-true (c .before .file-ok .result) (c .if1 .taken)))
+returns c =
+    let loop = c .before .before .before .before .loop in
+    sym (loop .inv .1 ∙ all-no (c .before .before .before .before .before .args .t1) 16 (loop .i) noFile (c .before .before .before .loop-test .taken) (search needs) fileOk (sym (c .before .file-ok .ensures) ∙ not-true (c .before .file-ok .result) (c .if1 .taken)))
 
 add-i : tie.Need-add-i Inv-loop μ-loop
 add-i c = omega arith
@@ -42,7 +44,9 @@ loop-less : tie.Need-loop-less Inv-loop μ-loop
 loop-less c = omega arith
 
 loop-again : tie.Need-loop-again Inv-loop μ-loop
-loop-again c = (omega arith, c .before .before .before .before .loop .inv .1 ∙ all-yes (c .before .before .before .before .before .args .t1) 16 (c .before .before .before .before .loop .i) noFile (c .before .before .before .loop-test .taken) (search needs) fileOk (sym (c .before .file-ok .ensures) ∙ not-false (c .before .file-ok .result) (c .if1 .left)))
+loop-again c =
+    let loop = c .before .before .before .before .loop in
+    (omega arith, loop .inv .1 ∙ all-yes (c .before .before .before .before .before .args .t1) 16 (loop .i) noFile (c .before .before .before .loop-test .taken) (search needs) fileOk (sym (c .before .file-ok .ensures) ∙ not-false (c .before .file-ok .result) (c .if1 .left)))
 
 returns-2 : tie.Need-returns-2 Inv-loop μ-loop
 returns-2 c = sym (c .before .loop .inv .1 ∙ all-end (c .before .before .args .t1) 16 fileOk (c .before .loop .i) (c .loop-test .left))

@@ -32,7 +32,10 @@ open-ok-requires : tie.Need-open-ok-requires Inv-loop μ-loop
 open-ok-requires c κs = search needs
 
 returns : tie.Need-returns Inv-loop μ-loop
-returns c = let long : length (c .before .before .before .before .before .args .t3) ≡ 64 = search needs in sym (c .before .before .before .before .loop .inv .1 ∙ all-no (c .before .before .before .before .before .args .t3) (c .before .before .before .before .before .args .nopens) (c .before .before .before .before .loop .i) noOpen (c .before .before .before .loop-test .taken) (omega arith) (openOk (take (c .before .before .before .before .before .args .ntrees) (c .before .before .before .before .before .args .trees))) (sym (c .before .open-ok .ensures) ∙ not-true (c .before .open-ok .result) (c .if1 .taken)))
+returns c =
+    let args = c .before .before .before .before .before .args in
+    let loop = c .before .before .before .before .loop in
+    let long : length (args .t3) ≡ 64 = search needs in sym (loop .inv .1 ∙ all-no (args .t3) (args .nopens) (loop .i) noOpen (c .before .before .before .loop-test .taken) (omega arith) (openOk (take (args .ntrees) (args .trees))) (sym (c .before .open-ok .ensures) ∙ not-true (c .before .open-ok .result) (c .if1 .taken)))
 
 add-i : tie.Need-add-i Inv-loop μ-loop
 add-i c = omega arith
@@ -41,10 +44,15 @@ loop-less : tie.Need-loop-less Inv-loop μ-loop
 loop-less c = omega arith
 
 loop-again : tie.Need-loop-again Inv-loop μ-loop
-loop-again c = let long : length (c .before .before .before .before .before .args .t3) ≡ 64 = search needs in (omega arith, c .before .before .before .before .loop .inv .1 ∙ all-yes (c .before .before .before .before .before .args .t3) (c .before .before .before .before .before .args .nopens) (c .before .before .before .before .loop .i) noOpen (c .before .before .before .loop-test .taken) (omega arith) (openOk (take (c .before .before .before .before .before .args .ntrees) (c .before .before .before .before .before .args .trees))) (sym (c .before .open-ok .ensures) ∙ not-false (c .before .open-ok .result) (c .if1 .left)))
+loop-again c =
+    let args = c .before .before .before .before .before .args in
+    let loop = c .before .before .before .before .loop in
+    let long : length (args .t3) ≡ 64 = search needs in (omega arith, loop .inv .1 ∙ all-yes (args .t3) (args .nopens) (loop .i) noOpen (c .before .before .before .loop-test .taken) (omega arith) (openOk (take (args .ntrees) (args .trees))) (sym (c .before .open-ok .ensures) ∙ not-false (c .before .open-ok .result) (c .if1 .left)))
 
 returns-2 : tie.Need-returns-2 Inv-loop μ-loop
-returns-2 c = sym (c .before .loop .inv .1 ∙ all-end (c .before .before .args .t3) (c .before .before .args .nopens) (openOk (take (c .before .before .args .ntrees) (c .before .before .args .trees))) (c .before .loop .i) (c .loop-test .left))
+returns-2 c =
+    let args = c .before .before .args in
+    sym (c .before .loop .inv .1 ∙ all-end (args .t3) (args .nopens) (openOk (take (args .ntrees) (args .trees))) (c .before .loop .i) (c .loop-test .left))
 
 pub opens-ok-spec : {M : Type 1} → statement M
 opens-ok-spec =

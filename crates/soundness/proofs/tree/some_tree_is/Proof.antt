@@ -35,7 +35,11 @@ tree-is-requires : tie.Need-tree-is-requires Inv-loop μ-loop
 tree-is-requires c κs = search needs
 
 returns : tie.Need-returns Inv-loop μ-loop
-returns c = let long : length (c .before .before .before .before .before .before .args .t1) ≡ 32 = search needs in let few : (c .before .before .before .before .before .at-most .result) ≤ 32 = omega arith in sym (c .before .before .before .before .loop .inv .1 ∙ any-yes (c .before .before .before .before .before .before .args .t1) (c .before .before .before .before .before .at-most .result) (c .before .before .before .before .loop .i) noTree (c .before .before .before .loop-test .taken) (omega arith) (isTree (c .before .before .before .before .before .before .args .tid) (c .before .before .before .before .before .before .args .uid)) (sym (c .before .tree-is .ensures) ∙ c .if1 .taken))
+returns c =
+    let args = c .before .before .before .before .before .before .args in
+    let at-most = c .before .before .before .before .before .at-most in
+    let loop = c .before .before .before .before .loop in
+    let long : length (args .t1) ≡ 32 = search needs in let few : (at-most .result) ≤ 32 = omega arith in sym (loop .inv .1 ∙ any-yes (args .t1) (at-most .result) (loop .i) noTree (c .before .before .before .loop-test .taken) (omega arith) (isTree (args .tid) (args .uid)) (sym (c .before .tree-is .ensures) ∙ c .if1 .taken))
 
 add-i : tie.Need-add-i Inv-loop μ-loop
 add-i c = let few : (c .before .before .before .before .before .at-most .result) ≤ 32 = omega arith in omega arith
@@ -44,10 +48,16 @@ loop-less : tie.Need-loop-less Inv-loop μ-loop
 loop-less c = omega arith
 
 loop-again : tie.Need-loop-again Inv-loop μ-loop
-loop-again c = let long : length (c .before .before .before .before .before .before .args .t1) ≡ 32 = search needs in let few : (c .before .before .before .before .before .at-most .result) ≤ 32 = omega arith in (omega arith, c .before .before .before .before .loop .inv .1 ∙ any-no (c .before .before .before .before .before .before .args .t1) (c .before .before .before .before .before .at-most .result) (c .before .before .before .before .loop .i) noTree (c .before .before .before .loop-test .taken) (omega arith) (isTree (c .before .before .before .before .before .before .args .tid) (c .before .before .before .before .before .before .args .uid)) (sym (c .before .tree-is .ensures) ∙ c .if1 .left))
+loop-again c =
+    let args = c .before .before .before .before .before .before .args in
+    let at-most = c .before .before .before .before .before .at-most in
+    let loop = c .before .before .before .before .loop in
+    let long : length (args .t1) ≡ 32 = search needs in let few : (at-most .result) ≤ 32 = omega arith in (omega arith, loop .inv .1 ∙ any-no (args .t1) (at-most .result) (loop .i) noTree (c .before .before .before .loop-test .taken) (omega arith) (isTree (args .tid) (args .uid)) (sym (c .before .tree-is .ensures) ∙ c .if1 .left))
 
 returns-2 : tie.Need-returns-2 Inv-loop μ-loop
-returns-2 c = sym (c .before .loop .inv .1 ∙ any-end (c .before .before .before .args .t1) (c .before .before .at-most .result) (isTree (c .before .before .before .args .tid) (c .before .before .before .args .uid)) (c .before .loop .i) (c .loop-test .left))
+returns-2 c =
+    let args = c .before .before .before .args in
+    sym (c .before .loop .inv .1 ∙ any-end (args .t1) (c .before .before .at-most .result) (isTree (args .tid) (args .uid)) (c .before .loop .i) (c .loop-test .left))
 
 pub some-tree-is-spec : {M : Type 1} → statement M
 some-tree-is-spec =

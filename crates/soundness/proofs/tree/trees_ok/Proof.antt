@@ -32,7 +32,10 @@ tree-ok-requires : tie.Need-tree-ok-requires Inv-loop μ-loop
 tree-ok-requires c κs = search needs
 
 returns : tie.Need-returns Inv-loop μ-loop
-returns c = let long : length (c .before .before .before .before .before .before .args .t2) ≡ 32 = search needs in sym (c .before .before .before .before .loop .inv .1 ∙ all-no (c .before .before .before .before .before .before .args .t2) (c .before .before .before .before .before .before .args .count) (c .before .before .before .before .loop .i) noTree (c .before .before .before .loop-test .taken) (omega (arith, long)) (treeOk (c .before .before .before .before .before .before .args .uids .now)) (sym (c .before .tree-ok .ensures) ∙ not-true (c .before .tree-ok .result) (c .if1 .taken)))
+returns c =
+    let args = c .before .before .before .before .before .before .args in
+    let loop = c .before .before .before .before .loop in
+    let long : length (args .t2) ≡ 32 = search needs in sym (loop .inv .1 ∙ all-no (args .t2) (args .count) (loop .i) noTree (c .before .before .before .loop-test .taken) (omega (arith, long)) (treeOk (args .uids .now)) (sym (c .before .tree-ok .ensures) ∙ not-true (c .before .tree-ok .result) (c .if1 .taken)))
 
 add-i : tie.Need-add-i Inv-loop μ-loop
 add-i c = omega arith
@@ -41,10 +44,15 @@ loop-less : tie.Need-loop-less Inv-loop μ-loop
 loop-less c = omega arith
 
 loop-again : tie.Need-loop-again Inv-loop μ-loop
-loop-again c = let long : length (c .before .before .before .before .before .before .args .t2) ≡ 32 = search needs in (omega arith, c .before .before .before .before .loop .inv .1 ∙ all-yes (c .before .before .before .before .before .before .args .t2) (c .before .before .before .before .before .before .args .count) (c .before .before .before .before .loop .i) noTree (c .before .before .before .loop-test .taken) (omega (arith, long)) (treeOk (c .before .before .before .before .before .before .args .uids .now)) (sym (c .before .tree-ok .ensures) ∙ not-false (c .before .tree-ok .result) (c .if1 .left)))
+loop-again c =
+    let args = c .before .before .before .before .before .before .args in
+    let loop = c .before .before .before .before .loop in
+    let long : length (args .t2) ≡ 32 = search needs in (omega arith, loop .inv .1 ∙ all-yes (args .t2) (args .count) (loop .i) noTree (c .before .before .before .loop-test .taken) (omega (arith, long)) (treeOk (args .uids .now)) (sym (c .before .tree-ok .ensures) ∙ not-false (c .before .tree-ok .result) (c .if1 .left)))
 
 returns-2 : tie.Need-returns-2 Inv-loop μ-loop
-returns-2 c = sym (c .before .loop .inv .1 ∙ all-end (c .before .before .before .args .t2) (c .before .before .before .args .count) (treeOk (c .before .before .before .args .uids .now)) (c .before .loop .i) (c .loop-test .left))
+returns-2 c =
+    let args = c .before .before .before .args in
+    sym (c .before .loop .inv .1 ∙ all-end (args .t2) (args .count) (treeOk (args .uids .now)) (c .before .loop .i) (c .loop-test .left))
 
 pub trees-ok-spec : {M : Type 1} → statement M
 trees-ok-spec =

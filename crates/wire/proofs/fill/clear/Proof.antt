@@ -29,7 +29,9 @@ loop-less : tie.Need-loop-less Inv-loop μ-loop
 loop-less c = let e : length (c .before .loop .room) ≡ length (c .before .before .args .room .now) = filled-length (c .before .before .args .room .now) (c .before .loop .room) (c .before .loop .i) (c .before .loop .inv .0) (c .before .loop .inv .1) in omega arith
 
 loop-again : tie.Need-loop-again Inv-loop μ-loop
-loop-again c = let e : length (c .before .loop .room) ≡ length (c .before .before .args .room .now) = filled-length (c .before .before .args .room .now) (c .before .loop .room) (c .before .loop .i) (c .before .loop .inv .0) (c .before .loop .inv .1) in (omega arith, rw (c .before .loop .inv .1) (fill-more (c .before .loop .i) 0 (c .before .before .args .room .now) (omega arith)))
+loop-again c =
+    let args = c .before .before .args in
+    let e : length (c .before .loop .room) ≡ length (args .room .now) = filled-length (args .room .now) (c .before .loop .room) (c .before .loop .i) (c .before .loop .inv .0) (c .before .loop .inv .1) in (omega arith, rw (c .before .loop .inv .1) (fill-more (c .before .loop .i) 0 (args .room .now) (omega arith)))
 
 same-length : tie.Need-same-length Inv-loop μ-loop
 same-length c = filled-length (c .before .before .args .room .now) (c .before .loop .room) (c .before .loop .i) (c .before .loop .inv .0) (c .before .loop .inv .1)

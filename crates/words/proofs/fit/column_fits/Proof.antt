@@ -24,15 +24,21 @@ mul-if1 c =
 
 shared-slice-read-if1 : tie.Need-shared-slice-read-if1 Inv-loop μ-loop
 shared-slice-read-if1 c =
-    let k = column-inside (c .before .before .loop .at) (c .before .before .before .args .step) (c .before .before .loop .left) (length (c .before .before .before .args .words .now)) (c .before .loop-test .taken) (c .before .before .before .pre .0) (c .before .before .loop .inv .0) in let k0 = k .0 in let k1 = k .1 in omega arith
+    let args = c .before .before .before .args in
+    let loop = c .before .before .loop in
+    let k = column-inside (loop .at) (args .step) (loop .left) (length (args .words .now)) (c .before .loop-test .taken) (c .before .before .before .pre .0) (loop .inv .0) in let k0 = k .0 in let k1 = k .1 in omega arith
 
 returns : tie.Need-returns Inv-loop μ-loop
 returns c =
-    sym (c .before .before .before .loop .inv .1 ∙ column-not (c .before .before .before .before .args .words .now) (c .before .before .before .loop .at) (c .before .before .before .before .args .step) (c .before .before .before .before .args .limit) (c .before .before .before .loop .left) (c .before .before .loop-test .taken) (c .if1 .taken))
+    let args = c .before .before .before .before .args in
+    let loop = c .before .before .before .loop in
+    sym (loop .inv .1 ∙ column-not (args .words .now) (loop .at) (args .step) (args .limit) (loop .left) (c .before .before .loop-test .taken) (c .if1 .taken))
 
 add-at : tie.Need-add-at Inv-loop μ-loop
 add-at c =
-    let k = column-inside (c .before .before .before .loop .at) (c .before .before .before .before .args .step) (c .before .before .before .loop .left) (length (c .before .before .before .before .args .words .now)) (c .before .before .loop-test .taken) (c .before .before .before .before .pre .0) (c .before .before .before .loop .inv .0) in let k0 = k .0 in let k1 = k .1 in omega arith
+    let args = c .before .before .before .before .args in
+    let loop = c .before .before .before .loop in
+    let k = column-inside (loop .at) (args .step) (loop .left) (length (args .words .now)) (c .before .before .loop-test .taken) (c .before .before .before .before .pre .0) (loop .inv .0) in let k0 = k .0 in let k1 = k .1 in omega arith
 
 sub-left : tie.Need-sub-left Inv-loop μ-loop
 sub-left c = omega arith
@@ -42,11 +48,14 @@ loop-less c = omega arith
 
 loop-again : tie.Need-loop-again Inv-loop μ-loop
 loop-again c =
-    let k = column-inside (c .before .before .before .loop .at) (c .before .before .before .before .args .step) (c .before .before .before .loop .left) (length (c .before .before .before .before .args .words .now)) (c .before .before .loop-test .taken) (c .before .before .before .before .pre .0) (c .before .before .before .loop .inv .0) in let k0 = k .0 in let k1 = k .1 in (k1, c .before .before .before .loop .inv .1 ∙ column-more (c .before .before .before .before .args .words .now) (c .before .before .before .loop .at) (c .before .before .before .before .args .step) (c .before .before .before .before .args .limit) (c .before .before .before .loop .left) (c .before .before .loop-test .taken) (c .if1 .left))
+    let args = c .before .before .before .before .args in
+    let loop = c .before .before .before .loop in
+    let k = column-inside (loop .at) (args .step) (loop .left) (length (args .words .now)) (c .before .before .loop-test .taken) (c .before .before .before .before .pre .0) (loop .inv .0) in let k0 = k .0 in let k1 = k .1 in (k1, loop .inv .1 ∙ column-more (args .words .now) (loop .at) (args .step) (args .limit) (loop .left) (c .before .before .loop-test .taken) (c .if1 .left))
 
 returns-2 : tie.Need-returns-2 Inv-loop μ-loop
 returns-2 c =
-    sym (c .before .loop .inv .1 ∙ column-none (c .before .before .args .words .now) (c .before .loop .at) (c .before .before .args .step) (c .before .before .args .limit) (c .before .loop .left) (c .loop-test .left))
+    let args = c .before .before .args in
+    sym (c .before .loop .inv .1 ∙ column-none (args .words .now) (c .before .loop .at) (args .step) (args .limit) (c .before .loop .left) (c .loop-test .left))
 
 pub column-fits-spec : {M : Type 1} → statement M
 column-fits-spec =

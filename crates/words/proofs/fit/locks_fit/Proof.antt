@@ -20,7 +20,8 @@ column-fits-requires-2 c κs = search needs
 returns-2 : tie.Need-returns-2
 unfolding locksFit
 returns-2 c =
-    rw (sym (c .before .before .before .column-fits .ensures) ∙ not-false (c .before .before .before .column-fits .result) (c .before .before .if1 .left), sym (c .before .column-fits2 .ensures) ∙ not-true (c .before .column-fits2 .result) (c .if2 .taken))
+    let column-fits = c .before .before .before .column-fits in
+    rw (sym (column-fits .ensures) ∙ not-false (column-fits .result) (c .before .before .if1 .left), sym (c .before .column-fits2 .ensures) ∙ not-true (c .before .column-fits2 .result) (c .if2 .taken))
 
 column-fits-requires-3 : tie.Need-column-fits-requires-3
 column-fits-requires-3 c κs = search needs
@@ -28,7 +29,9 @@ column-fits-requires-3 c κs = search needs
 returns-3 : tie.Need-returns-3
 unfolding locksFit
 returns-3 c =
-    rw (sym (c .before .before .before .before .column-fits .ensures) ∙ not-false (c .before .before .before .before .column-fits .result) (c .before .before .before .if1 .left), sym (c .before .before .column-fits2 .ensures) ∙ not-false (c .before .before .column-fits2 .result) (c .before .if2 .left)) (c .column-fits3 .ensures)
+    let column-fits = c .before .before .before .before .column-fits in
+    let column-fits2 = c .before .before .column-fits2 in
+    rw (sym (column-fits .ensures) ∙ not-false (column-fits .result) (c .before .before .before .if1 .left), sym (column-fits2 .ensures) ∙ not-false (column-fits2 .result) (c .before .if2 .left)) (c .column-fits3 .ensures)
 
 pub locks-fit-spec : {M : Type 1} → statement M
 locks-fit-spec =

@@ -20,7 +20,8 @@ column-fits-requires-2 c κs = search needs
 returns-2 : tie.Need-returns-2
 unfolding sessionsFit
 returns-2 c =
-    rw (sym (c .before .before .column-fits .ensures) ∙ not-false (c .before .before .column-fits .result) (c .before .if1 .left)) (c .column-fits2 .ensures)
+    let column-fits = c .before .before .column-fits in
+    rw (sym (column-fits .ensures) ∙ not-false (column-fits .result) (c .before .if1 .left)) (c .column-fits2 .ensures)
 
 pub sessions-fit-spec : {M : Type 1} → statement M
 sessions-fit-spec =

@@ -20,7 +20,8 @@ trees-fit-requires c κs = search needs
 returns-2 : tie.Need-returns-2
 unfolding fits
 returns-2 c =
-    rw (sym (c .before .before .before .sessions-fit .ensures) ∙ not-false (c .before .before .before .sessions-fit .result) (c .before .before .if1 .left), sym (c .before .trees-fit .ensures) ∙ not-true (c .before .trees-fit .result) (c .if2 .taken))
+    let sessions-fit = c .before .before .before .sessions-fit in
+    rw (sym (sessions-fit .ensures) ∙ not-false (sessions-fit .result) (c .before .before .if1 .left), sym (c .before .trees-fit .ensures) ∙ not-true (c .before .trees-fit .result) (c .if2 .taken))
 
 opens-fit-requires : tie.Need-opens-fit-requires
 opens-fit-requires c κs = search needs
@@ -28,7 +29,9 @@ opens-fit-requires c κs = search needs
 returns-3 : tie.Need-returns-3
 unfolding fits
 returns-3 c =
-    rw (sym (c .before .before .before .before .before .sessions-fit .ensures) ∙ not-false (c .before .before .before .before .before .sessions-fit .result) (c .before .before .before .before .if1 .left), sym (c .before .before .before .trees-fit .ensures) ∙ not-false (c .before .before .before .trees-fit .result) (c .before .before .if2 .left), sym (c .before .opens-fit .ensures) ∙ not-true (c .before .opens-fit .result) (c .if3 .taken))
+    let sessions-fit = c .before .before .before .before .before .sessions-fit in
+    let trees-fit = c .before .before .before .trees-fit in
+    rw (sym (sessions-fit .ensures) ∙ not-false (sessions-fit .result) (c .before .before .before .before .if1 .left), sym (trees-fit .ensures) ∙ not-false (trees-fit .result) (c .before .before .if2 .left), sym (c .before .opens-fit .ensures) ∙ not-true (c .before .opens-fit .result) (c .if3 .taken))
 
 locks-fit-requires : tie.Need-locks-fit-requires
 locks-fit-requires c κs = search needs
@@ -36,7 +39,9 @@ locks-fit-requires c κs = search needs
 returns-4 : tie.Need-returns-4
 unfolding fits
 returns-4 c =
-    rw (sym (c .before .before .before .before .before .before .sessions-fit .ensures) ∙ not-false (c .before .before .before .before .before .before .sessions-fit .result) (c .before .before .before .before .before .if1 .left), sym (c .before .before .before .before .trees-fit .ensures) ∙ not-false (c .before .before .before .before .trees-fit .result) (c .before .before .before .if2 .left), sym (c .before .before .opens-fit .ensures) ∙ not-false (c .before .before .opens-fit .result) (c .before .if3 .left)) (c .locks-fit .ensures)
+    let sessions-fit = c .before .before .before .before .before .before .sessions-fit in
+    let trees-fit = c .before .before .before .before .trees-fit in
+    rw (sym (sessions-fit .ensures) ∙ not-false (sessions-fit .result) (c .before .before .before .before .before .if1 .left), sym (trees-fit .ensures) ∙ not-false (trees-fit .result) (c .before .before .before .if2 .left), sym (c .before .before .opens-fit .ensures) ∙ not-false (c .before .before .opens-fit .result) (c .before .if3 .left)) (c .locks-fit .ensures)
 
 pub words-fit-spec : {M : Type 1} → statement M
 words-fit-spec =

@@ -82,7 +82,14 @@ same-length c = search needs
 
 returns : tie.Need-returns
 returns c =
-    all-parts (c .before .before .before .before .before .before .before .before .before .before .before .before .before .before .before .before .before .before .before .before .before .before .before .before .before .before .args .t) (roomy (c .before .before .before .before .before .before .before .before .before .before .before .before .before .before .before .before .before .before .before .before .before .before .before .before .before .before)) (c .before .before .before .before .before .before .before .before .before .before .before .before .before .before .before .before .before .before .before .before .before .before .before .before .before .before .args .out .now) _ _ _ _ _ (c .before .before .before .before .before .before .before .before .before .before .before .before .before .before .before .before .before .before .before .before .before .before .before .before .before .before .pre) (c .before .before .before .before .before .before .before .before .before .before .before .before .before .before .before .before .before .before .before .before .before .before .pack-sessions .ensures) (c .before .before .before .before .before .before .before .before .before .before .before .before .before .before .before .before .before .pack-trees .ensures) (c .before .before .before .before .before .before .before .before .before .before .before .before .pack-opens .ensures) (c .before .before .before .before .before .before .before .pack-locks .ensures) (c .before .before .pack-files .ensures)
+    let pre = c .before .before .before .before .before .before .before .before .before .before .before .before .before .before .before .before .before .before .before .before .before .before .before .before .before .before .pre in
+    let before = c .before .before .before .before .before .before .before .before .before .before .before .before .before .before .before .before .before .before .before .before .before .before .before .before .before .before in
+    let args = c .before .before .before .before .before .before .before .before .before .before .before .before .before .before .before .before .before .before .before .before .before .before .before .before .before .before .args in
+    let pack-sessions = c .before .before .before .before .before .before .before .before .before .before .before .before .before .before .before .before .before .before .before .before .before .before .pack-sessions in
+    let pack-trees = c .before .before .before .before .before .before .before .before .before .before .before .before .before .before .before .before .before .pack-trees in
+    let pack-opens = c .before .before .before .before .before .before .before .before .before .before .before .before .pack-opens in
+    let pack-locks = c .before .before .before .before .before .before .before .pack-locks in
+    all-parts (args .t) (roomy (before)) (args .out .now) _ _ _ _ _ (pre) (pack-sessions .ensures) (pack-trees .ensures) (pack-opens .ensures) (pack-locks .ensures) (c .before .before .pack-files .ensures)
 
 pub pack-spec : {M : Type 1} → statement M
 pack-spec =

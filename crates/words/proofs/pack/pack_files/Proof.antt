@@ -41,7 +41,9 @@ loop-less c = omega arith
 
 loop-again : tie.Need-loop-again Inv-loop μ-loop
 loop-again c =
-    let long : length (c .before .before .before .args .t1) ≡ 16 = search needs in let e0 : length (c .before .before .before .args .out .now) ≡ length (c .before .before .before .args .out .now) = refl in let room : 0 + 1 * length (c .before .before .before .args .t1) ≤ length (c .before .before .before .args .out .now) = rw long (omega arith) in let below : c .before .before .loop .i < length (c .before .before .before .args .t1) = omega arith in let q : 0 + 1 * c .before .before .loop .i ≡ c .before .before .loop .i = omega arith in (omega arith, (c .before .before .loop .inv .1 .0, (length-set (c .before .before .loop .out) _ _ ∙ c .before .before .loop .inv .1 .1 .0, rw q at (written-more fileWords 1 (λ x. refl) (c .before .before .before .args .t1) (c .before .before .before .args .out .now) 0 room (c .before .before .loop .i) noFile (c .before .before .loop .out) below (c .before .before .loop .inv .1 .1 .1)))))
+    let args = c .before .before .before .args in
+    let loop = c .before .before .loop in
+    let long : length (args .t1) ≡ 16 = search needs in let e0 : length (args .out .now) ≡ length (args .out .now) = refl in let room : 0 + 1 * length (args .t1) ≤ length (args .out .now) = rw long (omega arith) in let below : loop .i < length (args .t1) = omega arith in let q : 0 + 1 * loop .i ≡ loop .i = omega arith in (omega arith, (loop .inv .1 .0, (length-set (loop .out) _ _ ∙ loop .inv .1 .1 .0, rw q at (written-more fileWords 1 (λ x. refl) (args .t1) (args .out .now) 0 room (loop .i) noFile (loop .out) below (loop .inv .1 .1 .1)))))
 
 same-length : tie.Need-same-length Inv-loop μ-loop
 same-length c =
@@ -49,7 +51,8 @@ same-length c =
 
 returns : tie.Need-returns Inv-loop μ-loop
 returns c =
-    let long : length (c .before .before .args .t1) ≡ 16 = search needs in let e0 : length (c .before .before .args .out .now) ≡ length (c .before .before .args .out .now) = refl in let room : 0 + 1 * length (c .before .before .args .t1) ≤ length (c .before .before .args .out .now) = rw long (omega arith) in written-all fileWords 1 (λ x. refl) (c .before .before .args .t1) (c .before .before .args .out .now) 0 room 16 (c .before .loop .i) (c .before .loop .out) (c .before .loop .inv .0) (c .loop-test .left) long (c .before .loop .inv .1 .1 .1)
+    let args = c .before .before .args in
+    let long : length (args .t1) ≡ 16 = search needs in let e0 : length (args .out .now) ≡ length (args .out .now) = refl in let room : 0 + 1 * length (args .t1) ≤ length (args .out .now) = rw long (omega arith) in written-all fileWords 1 (λ x. refl) (args .t1) (args .out .now) 0 room 16 (c .before .loop .i) (c .before .loop .out) (c .before .loop .inv .0) (c .loop-test .left) long (c .before .loop .inv .1 .1 .1)
 
 pub pack-files-spec : {M : Type 1} → statement M
 pack-files-spec =

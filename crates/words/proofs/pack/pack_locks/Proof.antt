@@ -45,7 +45,8 @@ mul-out c = omega arith
 
 slice-write-out-2 : tie.Need-slice-write-out-2 Inv-loop μ-loop
 slice-write-out-2 c =
-    let l = c .before .before .before .loop .inv .1 .1 .0 in let r = c .before .before .before .loop .inv .1 .0 in omega arith
+    let loop = c .before .before .before .loop in
+    let l = loop .inv .1 .1 .0 in let r = loop .inv .1 .0 in omega arith
 
 cast-out-2 : tie.Need-cast-out-2 Inv-loop μ-loop
 cast-out-2 c = omega arith
@@ -58,7 +59,8 @@ mul-out-2 c = omega arith
 
 slice-write-out-3 : tie.Need-slice-write-out-3 Inv-loop μ-loop
 slice-write-out-3 c =
-    let e = length-stores (c .before .before .before .before .loop .out) (getD (c .before .before .before .before .before .before .args .t1) (c .before .before .before .before .loop .i) noLock .fid ∷ []) (1 + 5 * c .before .before .before .before .loop .i) in let l = c .before .before .before .before .loop .inv .1 .1 .0 in let r = c .before .before .before .before .loop .inv .1 .0 in omega arith
+    let loop = c .before .before .before .before .loop in
+    let e = length-stores (loop .out) (getD (c .before .before .before .before .before .before .args .t1) (loop .i) noLock .fid ∷ []) (1 + 5 * loop .i) in let l = loop .inv .1 .1 .0 in let r = loop .inv .1 .0 in omega arith
 
 add-out-2 : tie.Need-add-out-2 Inv-loop μ-loop
 add-out-2 c = omega arith
@@ -68,7 +70,9 @@ mul-out-3 c = omega arith
 
 slice-write-out-4 : tie.Need-slice-write-out-4 Inv-loop μ-loop
 slice-write-out-4 c =
-    let e = length-stores (c .before .before .before .before .loop .out) (getD (c .before .before .before .before .before .before .args .t1) (c .before .before .before .before .loop .i) noLock .fid ∷ getD (c .before .before .before .before .before .before .args .t1) (c .before .before .before .before .loop .i) noLock .process ∷ []) (1 + 5 * c .before .before .before .before .loop .i) in let l = c .before .before .before .before .loop .inv .1 .1 .0 in let r = c .before .before .before .before .loop .inv .1 .0 in omega arith
+    let args = c .before .before .before .before .before .before .args in
+    let loop = c .before .before .before .before .loop in
+    let e = length-stores (loop .out) (getD (args .t1) (loop .i) noLock .fid ∷ getD (args .t1) (loop .i) noLock .process ∷ []) (1 + 5 * loop .i) in let l = loop .inv .1 .1 .0 in let r = loop .inv .1 .0 in omega arith
 
 add-out-3 : tie.Need-add-out-3 Inv-loop μ-loop
 add-out-3 c = omega arith
@@ -78,7 +82,9 @@ mul-out-4 c = omega arith
 
 slice-write-out-5 : tie.Need-slice-write-out-5 Inv-loop μ-loop
 slice-write-out-5 c =
-    let e = length-stores (c .before .before .before .before .loop .out) (getD (c .before .before .before .before .before .before .args .t1) (c .before .before .before .before .loop .i) noLock .fid ∷ getD (c .before .before .before .before .before .before .args .t1) (c .before .before .before .before .loop .i) noLock .process ∷ getD (c .before .before .before .before .before .before .args .t1) (c .before .before .before .before .loop .i) noLock .offset ∷ []) (1 + 5 * c .before .before .before .before .loop .i) in let l = c .before .before .before .before .loop .inv .1 .1 .0 in let r = c .before .before .before .before .loop .inv .1 .0 in omega arith
+    let args = c .before .before .before .before .before .before .args in
+    let loop = c .before .before .before .before .loop in
+    let e = length-stores (loop .out) (getD (args .t1) (loop .i) noLock .fid ∷ getD (args .t1) (loop .i) noLock .process ∷ getD (args .t1) (loop .i) noLock .offset ∷ []) (1 + 5 * loop .i) in let l = loop .inv .1 .1 .0 in let r = loop .inv .1 .0 in omega arith
 
 flag-requires : tie.Need-flag-requires Inv-loop μ-loop
 flag-requires c κs = search needs
@@ -91,7 +97,9 @@ mul-out-5 c = omega arith
 
 slice-write-out-6 : tie.Need-slice-write-out-6 Inv-loop μ-loop
 slice-write-out-6 c =
-    let e = length-stores (c .before .before .before .before .before .loop .out) (getD (c .before .before .before .before .before .before .before .args .t1) (c .before .before .before .before .before .loop .i) noLock .fid ∷ getD (c .before .before .before .before .before .before .before .args .t1) (c .before .before .before .before .before .loop .i) noLock .process ∷ getD (c .before .before .before .before .before .before .before .args .t1) (c .before .before .before .before .before .loop .i) noLock .offset ∷ getD (c .before .before .before .before .before .before .before .args .t1) (c .before .before .before .before .before .loop .i) noLock .length ∷ []) (1 + 5 * c .before .before .before .before .before .loop .i) in let l = c .before .before .before .before .before .loop .inv .1 .1 .0 in let r = c .before .before .before .before .before .loop .inv .1 .0 in omega arith
+    let args = c .before .before .before .before .before .before .before .args in
+    let loop = c .before .before .before .before .before .loop in
+    let e = length-stores (loop .out) (getD (args .t1) (loop .i) noLock .fid ∷ getD (args .t1) (loop .i) noLock .process ∷ getD (args .t1) (loop .i) noLock .offset ∷ getD (args .t1) (loop .i) noLock .length ∷ []) (1 + 5 * loop .i) in let l = loop .inv .1 .1 .0 in let r = loop .inv .1 .0 in omega arith
 
 add-i : tie.Need-add-i Inv-loop μ-loop
 add-i c = omega arith
@@ -101,15 +109,19 @@ loop-less c = omega arith
 
 loop-again : tie.Need-loop-again Inv-loop μ-loop
 loop-again c =
-    let long : length (c .before .before .before .before .before .before .before .args .t1) ≡ 128 = search needs in let e0 : length (set (c .before .before .before .before .before .before .before .args .out .now) 0 (c .before .before .before .before .before .before .before .args .count)) ≡ length (c .before .before .before .before .before .before .before .args .out .now) = length-set (c .before .before .before .before .before .before .before .args .out .now) 0 (c .before .before .before .before .before .before .before .args .count) in let room : 1 + 5 * length (c .before .before .before .before .before .before .before .args .t1) ≤ length (set (c .before .before .before .before .before .before .before .args .out .now) 0 (c .before .before .before .before .before .before .before .args .count)) = rw long (omega arith) in let below : c .before .before .before .before .before .loop .i < length (c .before .before .before .before .before .before .before .args .t1) = omega arith in rw (c .flag .ensures) (omega arith, (c .before .before .before .before .before .loop .inv .1 .0, (length-stores (c .before .before .before .before .before .loop .out) (lockWords (getD (c .before .before .before .before .before .before .before .args .t1) (c .before .before .before .before .before .loop .i) noLock)) (1 + 5 * c .before .before .before .before .before .loop .i) ∙ c .before .before .before .before .before .loop .inv .1 .1 .0, written-more lockWords 5 (λ x. refl) (c .before .before .before .before .before .before .before .args .t1) (set (c .before .before .before .before .before .before .before .args .out .now) 0 (c .before .before .before .before .before .before .before .args .count)) 1 room (c .before .before .before .before .before .loop .i) noLock (c .before .before .before .before .before .loop .out) below (c .before .before .before .before .before .loop .inv .1 .1 .1))))
+    let args = c .before .before .before .before .before .before .before .args in
+    let loop = c .before .before .before .before .before .loop in
+    let long : length (args .t1) ≡ 128 = search needs in let e0 : length (set (args .out .now) 0 (args .count)) ≡ length (args .out .now) = length-set (args .out .now) 0 (args .count) in let room : 1 + 5 * length (args .t1) ≤ length (set (args .out .now) 0 (args .count)) = rw long (omega arith) in let below : loop .i < length (args .t1) = omega arith in rw (c .flag .ensures) (omega arith, (loop .inv .1 .0, (length-stores (loop .out) (lockWords (getD (args .t1) (loop .i) noLock)) (1 + 5 * loop .i) ∙ loop .inv .1 .1 .0, written-more lockWords 5 (λ x. refl) (args .t1) (set (args .out .now) 0 (args .count)) 1 room (loop .i) noLock (loop .out) below (loop .inv .1 .1 .1))))
 
 same-length : tie.Need-same-length Inv-loop μ-loop
 same-length c =
-    c .before .loop .inv .1 .1 .0 ∙ length-set (c .before .before .before .args .out .now) 0 (c .before .before .before .args .count)
+    let args = c .before .before .before .args in
+    c .before .loop .inv .1 .1 .0 ∙ length-set (args .out .now) 0 (args .count)
 
 returns : tie.Need-returns Inv-loop μ-loop
 returns c =
-    let long : length (c .before .before .before .args .t1) ≡ 128 = search needs in let e0 : length (set (c .before .before .before .args .out .now) 0 (c .before .before .before .args .count)) ≡ length (c .before .before .before .args .out .now) = length-set (c .before .before .before .args .out .now) 0 (c .before .before .before .args .count) in let room : 1 + 5 * length (c .before .before .before .args .t1) ≤ length (set (c .before .before .before .args .out .now) 0 (c .before .before .before .args .count)) = rw long (omega arith) in written-all lockWords 5 (λ x. refl) (c .before .before .before .args .t1) (set (c .before .before .before .args .out .now) 0 (c .before .before .before .args .count)) 1 room 128 (c .before .loop .i) (c .before .loop .out) (c .before .loop .inv .0) (c .loop-test .left) long (c .before .loop .inv .1 .1 .1) ∙ table-written lockWords (c .before .before .before .args .count) (c .before .before .before .args .t1) (c .before .before .before .args .out .now) (omega arith)
+    let args = c .before .before .before .args in
+    let long : length (args .t1) ≡ 128 = search needs in let e0 : length (set (args .out .now) 0 (args .count)) ≡ length (args .out .now) = length-set (args .out .now) 0 (args .count) in let room : 1 + 5 * length (args .t1) ≤ length (set (args .out .now) 0 (args .count)) = rw long (omega arith) in written-all lockWords 5 (λ x. refl) (args .t1) (set (args .out .now) 0 (args .count)) 1 room 128 (c .before .loop .i) (c .before .loop .out) (c .before .loop .inv .0) (c .loop-test .left) long (c .before .loop .inv .1 .1 .1) ∙ table-written lockWords (args .count) (args .t1) (args .out .now) (omega arith)
 
 pub pack-locks-spec : {M : Type 1} → statement M
 pack-locks-spec =

@@ -45,7 +45,8 @@ mul-out c = omega arith
 
 slice-write-out-2 : tie.Need-slice-write-out-2 Inv-loop μ-loop
 slice-write-out-2 c =
-    let l = c .before .before .before .loop .inv .1 .1 .0 in let r = c .before .before .before .loop .inv .1 .0 in omega arith
+    let loop = c .before .before .before .loop in
+    let l = loop .inv .1 .1 .0 in let r = loop .inv .1 .0 in omega arith
 
 cast-out-2 : tie.Need-cast-out-2 Inv-loop μ-loop
 cast-out-2 c = omega arith
@@ -58,7 +59,8 @@ mul-out-2 c = omega arith
 
 slice-write-out-3 : tie.Need-slice-write-out-3 Inv-loop μ-loop
 slice-write-out-3 c =
-    let e = length-stores (c .before .before .before .before .loop .out) (getD (c .before .before .before .before .before .args .t1) (c .before .before .before .before .loop .i) noOpen .fid ∷ []) (1 + 6 * c .before .before .before .before .loop .i) in let l = c .before .before .before .before .loop .inv .1 .1 .0 in let r = c .before .before .before .before .loop .inv .1 .0 in omega arith
+    let loop = c .before .before .before .before .loop in
+    let e = length-stores (loop .out) (getD (c .before .before .before .before .before .args .t1) (loop .i) noOpen .fid ∷ []) (1 + 6 * loop .i) in let l = loop .inv .1 .1 .0 in let r = loop .inv .1 .0 in omega arith
 
 cast-out-3 : tie.Need-cast-out-3 Inv-loop μ-loop
 cast-out-3 c = omega arith
@@ -71,7 +73,9 @@ mul-out-3 c = omega arith
 
 slice-write-out-4 : tie.Need-slice-write-out-4 Inv-loop μ-loop
 slice-write-out-4 c =
-    let e = length-stores (c .before .before .before .before .before .loop .out) (getD (c .before .before .before .before .before .before .args .t1) (c .before .before .before .before .before .loop .i) noOpen .fid ∷ getD (c .before .before .before .before .before .before .args .t1) (c .before .before .before .before .before .loop .i) noOpen .uid ∷ []) (1 + 6 * c .before .before .before .before .before .loop .i) in let l = c .before .before .before .before .before .loop .inv .1 .1 .0 in let r = c .before .before .before .before .before .loop .inv .1 .0 in omega arith
+    let args = c .before .before .before .before .before .before .args in
+    let loop = c .before .before .before .before .before .loop in
+    let e = length-stores (loop .out) (getD (args .t1) (loop .i) noOpen .fid ∷ getD (args .t1) (loop .i) noOpen .uid ∷ []) (1 + 6 * loop .i) in let l = loop .inv .1 .1 .0 in let r = loop .inv .1 .0 in omega arith
 
 cast-out-4 : tie.Need-cast-out-4 Inv-loop μ-loop
 cast-out-4 c = omega arith
@@ -84,7 +88,9 @@ mul-out-4 c = omega arith
 
 slice-write-out-5 : tie.Need-slice-write-out-5 Inv-loop μ-loop
 slice-write-out-5 c =
-    let e = length-stores (c .before .before .before .before .before .before .loop .out) (getD (c .before .before .before .before .before .before .before .args .t1) (c .before .before .before .before .before .before .loop .i) noOpen .fid ∷ getD (c .before .before .before .before .before .before .before .args .t1) (c .before .before .before .before .before .before .loop .i) noOpen .uid ∷ getD (c .before .before .before .before .before .before .before .args .t1) (c .before .before .before .before .before .before .loop .i) noOpen .tid ∷ []) (1 + 6 * c .before .before .before .before .before .before .loop .i) in let l = c .before .before .before .before .before .before .loop .inv .1 .1 .0 in let r = c .before .before .before .before .before .before .loop .inv .1 .0 in omega arith
+    let args = c .before .before .before .before .before .before .before .args in
+    let loop = c .before .before .before .before .before .before .loop in
+    let e = length-stores (loop .out) (getD (args .t1) (loop .i) noOpen .fid ∷ getD (args .t1) (loop .i) noOpen .uid ∷ getD (args .t1) (loop .i) noOpen .tid ∷ []) (1 + 6 * loop .i) in let l = loop .inv .1 .1 .0 in let r = loop .inv .1 .0 in omega arith
 
 cast-out-5 : tie.Need-cast-out-5 Inv-loop μ-loop
 cast-out-5 c = omega arith
@@ -97,7 +103,9 @@ mul-out-5 c = omega arith
 
 slice-write-out-6 : tie.Need-slice-write-out-6 Inv-loop μ-loop
 slice-write-out-6 c =
-    let e = length-stores (c .before .before .before .before .before .before .before .loop .out) (getD (c .before .before .before .before .before .before .before .before .args .t1) (c .before .before .before .before .before .before .before .loop .i) noOpen .fid ∷ getD (c .before .before .before .before .before .before .before .before .args .t1) (c .before .before .before .before .before .before .before .loop .i) noOpen .uid ∷ getD (c .before .before .before .before .before .before .before .before .args .t1) (c .before .before .before .before .before .before .before .loop .i) noOpen .tid ∷ getD (c .before .before .before .before .before .before .before .before .args .t1) (c .before .before .before .before .before .before .before .loop .i) noOpen .process ∷ []) (1 + 6 * c .before .before .before .before .before .before .before .loop .i) in let l = c .before .before .before .before .before .before .before .loop .inv .1 .1 .0 in let r = c .before .before .before .before .before .before .before .loop .inv .1 .0 in omega arith
+    let args = c .before .before .before .before .before .before .before .before .args in
+    let loop = c .before .before .before .before .before .before .before .loop in
+    let e = length-stores (loop .out) (getD (args .t1) (loop .i) noOpen .fid ∷ getD (args .t1) (loop .i) noOpen .uid ∷ getD (args .t1) (loop .i) noOpen .tid ∷ getD (args .t1) (loop .i) noOpen .process ∷ []) (1 + 6 * loop .i) in let l = loop .inv .1 .1 .0 in let r = loop .inv .1 .0 in omega arith
 
 cast-out-6 : tie.Need-cast-out-6 Inv-loop μ-loop
 cast-out-6 c = omega arith
@@ -110,7 +118,9 @@ mul-out-6 c = omega arith
 
 slice-write-out-7 : tie.Need-slice-write-out-7 Inv-loop μ-loop
 slice-write-out-7 c =
-    let e = length-stores (c .before .before .before .before .before .before .before .before .loop .out) (getD (c .before .before .before .before .before .before .before .before .before .args .t1) (c .before .before .before .before .before .before .before .before .loop .i) noOpen .fid ∷ getD (c .before .before .before .before .before .before .before .before .before .args .t1) (c .before .before .before .before .before .before .before .before .loop .i) noOpen .uid ∷ getD (c .before .before .before .before .before .before .before .before .before .args .t1) (c .before .before .before .before .before .before .before .before .loop .i) noOpen .tid ∷ getD (c .before .before .before .before .before .before .before .before .before .args .t1) (c .before .before .before .before .before .before .before .before .loop .i) noOpen .process ∷ getD (c .before .before .before .before .before .before .before .before .before .args .t1) (c .before .before .before .before .before .before .before .before .loop .i) noOpen .file ∷ []) (1 + 6 * c .before .before .before .before .before .before .before .before .loop .i) in let l = c .before .before .before .before .before .before .before .before .loop .inv .1 .1 .0 in let r = c .before .before .before .before .before .before .before .before .loop .inv .1 .0 in omega arith
+    let args = c .before .before .before .before .before .before .before .before .before .args in
+    let loop = c .before .before .before .before .before .before .before .before .loop in
+    let e = length-stores (loop .out) (getD (args .t1) (loop .i) noOpen .fid ∷ getD (args .t1) (loop .i) noOpen .uid ∷ getD (args .t1) (loop .i) noOpen .tid ∷ getD (args .t1) (loop .i) noOpen .process ∷ getD (args .t1) (loop .i) noOpen .file ∷ []) (1 + 6 * loop .i) in let l = loop .inv .1 .1 .0 in let r = loop .inv .1 .0 in omega arith
 
 add-i : tie.Need-add-i Inv-loop μ-loop
 add-i c = omega arith
@@ -120,7 +130,9 @@ loop-less c = omega arith
 
 loop-again : tie.Need-loop-again Inv-loop μ-loop
 loop-again c =
-    let long : length (c .before .before .before .before .before .before .before .before .before .args .t1) ≡ 64 = search needs in let e0 : length (set (c .before .before .before .before .before .before .before .before .before .args .out .now) 0 (c .before .before .before .before .before .before .before .before .before .args .count)) ≡ length (c .before .before .before .before .before .before .before .before .before .args .out .now) = length-set (c .before .before .before .before .before .before .before .before .before .args .out .now) 0 (c .before .before .before .before .before .before .before .before .before .args .count) in let room : 1 + 6 * length (c .before .before .before .before .before .before .before .before .before .args .t1) ≤ length (set (c .before .before .before .before .before .before .before .before .before .args .out .now) 0 (c .before .before .before .before .before .before .before .before .before .args .count)) = rw long (omega arith) in let below : c .before .before .before .before .before .before .before .before .loop .i < length (c .before .before .before .before .before .before .before .before .before .args .t1) = omega arith in (omega arith, (c .before .before .before .before .before .before .before .before .loop .inv .1 .0, (length-stores (c .before .before .before .before .before .before .before .before .loop .out) (openWords (getD (c .before .before .before .before .before .before .before .before .before .args .t1) (c .before .before .before .before .before .before .before .before .loop .i) noOpen)) (1 + 6 * c .before .before .before .before .before .before .before .before .loop .i) ∙ c .before .before .before .before .before .before .before .before .loop .inv .1 .1 .0, written-more openWords 6 (λ x. refl) (c .before .before .before .before .before .before .before .before .before .args .t1) (set (c .before .before .before .before .before .before .before .before .before .args .out .now) 0 (c .before .before .before .before .before .before .before .before .before .args .count)) 1 room (c .before .before .before .before .before .before .before .before .loop .i) noOpen (c .before .before .before .before .before .before .before .before .loop .out) below (c .before .before .before .before .before .before .before .before .loop .inv .1 .1 .1))))
+    let args = c .before .before .before .before .before .before .before .before .before .args in
+    let loop = c .before .before .before .before .before .before .before .before .loop in
+    let long : length (args .t1) ≡ 64 = search needs in let e0 : length (set (args .out .now) 0 (args .count)) ≡ length (args .out .now) = length-set (args .out .now) 0 (args .count) in let room : 1 + 6 * length (args .t1) ≤ length (set (args .out .now) 0 (args .count)) = rw long (omega arith) in let below : loop .i < length (args .t1) = omega arith in (omega arith, (loop .inv .1 .0, (length-stores (loop .out) (openWords (getD (args .t1) (loop .i) noOpen)) (1 + 6 * loop .i) ∙ loop .inv .1 .1 .0, written-more openWords 6 (λ x. refl) (args .t1) (set (args .out .now) 0 (args .count)) 1 room (loop .i) noOpen (loop .out) below (loop .inv .1 .1 .1))))
 
 same-length : tie.Need-same-length Inv-loop μ-loop
 same-length c =
@@ -128,7 +140,8 @@ same-length c =
 
 returns : tie.Need-returns Inv-loop μ-loop
 returns c =
-    let long : length (c .before .before .args .t1) ≡ 64 = search needs in let e0 : length (set (c .before .before .args .out .now) 0 (c .before .before .args .count)) ≡ length (c .before .before .args .out .now) = length-set (c .before .before .args .out .now) 0 (c .before .before .args .count) in let room : 1 + 6 * length (c .before .before .args .t1) ≤ length (set (c .before .before .args .out .now) 0 (c .before .before .args .count)) = rw long (omega arith) in written-all openWords 6 (λ x. refl) (c .before .before .args .t1) (set (c .before .before .args .out .now) 0 (c .before .before .args .count)) 1 room 64 (c .before .loop .i) (c .before .loop .out) (c .before .loop .inv .0) (c .loop-test .left) long (c .before .loop .inv .1 .1 .1) ∙ table-written openWords (c .before .before .args .count) (c .before .before .args .t1) (c .before .before .args .out .now) (omega arith)
+    let args = c .before .before .args in
+    let long : length (args .t1) ≡ 64 = search needs in let e0 : length (set (args .out .now) 0 (args .count)) ≡ length (args .out .now) = length-set (args .out .now) 0 (args .count) in let room : 1 + 6 * length (args .t1) ≤ length (set (args .out .now) 0 (args .count)) = rw long (omega arith) in written-all openWords 6 (λ x. refl) (args .t1) (set (args .out .now) 0 (args .count)) 1 room 64 (c .before .loop .i) (c .before .loop .out) (c .before .loop .inv .0) (c .loop-test .left) long (c .before .loop .inv .1 .1 .1) ∙ table-written openWords (args .count) (args .t1) (args .out .now) (omega arith)
 
 pub pack-opens-spec : {M : Type 1} → statement M
 pack-opens-spec =

@@ -76,7 +76,9 @@ low8-requires-2 c κs = search needs
 returns : tie.Need-returns
 unfolding openAt
 returns c =
-    rw (c .before .before .before .before .before .before .before .before .before .before .low16 .ensures, c .before .before .before .before .before .before .before .before .low162 .ensures, c .before .before .before .before .before .before .low163 .ensures, c .before .before .before .before .low32 .ensures, c .before .before .low8 .ensures, c .low82 .ensures)
+    let low16 = c .before .before .before .before .before .before .before .before .before .before .low16 in
+    let low162 = c .before .before .before .before .before .before .before .before .low162 in
+    rw (low16 .ensures, low162 .ensures, c .before .before .before .before .before .before .low163 .ensures, c .before .before .before .before .low32 .ensures, c .before .before .low8 .ensures, c .low82 .ensures)
 
 pub open-at-spec : {M : Type 1} → statement M
 open-at-spec =

@@ -34,7 +34,10 @@ shared-slice-read-t17 c = search needs
 returns : tie.Need-returns
 unfolding unpacked
 returns c =
-    rw (c .before .before .before .before .before .before .before .before .unpack-sessions .ensures, c .before .before .before .before .before .before .before .unpack-trees .ensures, c .before .before .before .before .before .before .unpack-opens .ensures, c .before .before .before .before .before .unpack-locks .ensures, c .before .before .before .before .unpack-files .ensures)
+    let unpack-sessions = c .before .before .before .before .before .before .before .before .unpack-sessions in
+    let unpack-trees = c .before .before .before .before .before .before .before .unpack-trees in
+    let unpack-opens = c .before .before .before .before .before .before .unpack-opens in
+    rw (unpack-sessions .ensures, unpack-trees .ensures, unpack-opens .ensures, c .before .before .before .before .before .unpack-locks .ensures, c .before .before .before .before .unpack-files .ensures)
 
 pub unpack-spec : {M : Type 1} → statement M
 unpack-spec =

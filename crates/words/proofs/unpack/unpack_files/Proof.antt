@@ -42,7 +42,8 @@ loop-less c = omega arith
 loop-again : tie.Need-loop-again Inv-loop μ-loop
 unfolding fileAt
 loop-again c =
-    (omega arith, (c .before .before .loop .inv .1 .0, filled-more (fileIn (c .before .before .before .args .words .now)) _ (c .before .before .loop .list) 16 (c .before .before .loop .i) _ (c .before .loop-test .taken) (c .before .before .loop .inv .1 .0) (c .before .before .loop .inv .1 .1) refl))
+    let loop = c .before .before .loop in
+    (omega arith, (loop .inv .1 .0, filled-more (fileIn (c .before .before .before .args .words .now)) _ (loop .list) 16 (loop .i) _ (c .before .loop-test .taken) (loop .inv .1 .0) (loop .inv .1 .1) refl))
 
 returns : tie.Need-returns Inv-loop μ-loop
 returns c =

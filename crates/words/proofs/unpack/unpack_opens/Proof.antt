@@ -42,7 +42,8 @@ loop-less c = omega arith
 
 loop-again : tie.Need-loop-again Inv-loop μ-loop
 loop-again c =
-    (omega arith, (c .before .before .loop .inv .1 .0, filled-more (openIn (c .before .before .before .before .args .words .now)) _ (c .before .before .loop .list) 64 (c .before .before .loop .i) (c .open-at .result) (c .before .loop-test .taken) (c .before .before .loop .inv .1 .0) (c .before .before .loop .inv .1 .1) (c .open-at .ensures)))
+    let loop = c .before .before .loop in
+    (omega arith, (loop .inv .1 .0, filled-more (openIn (c .before .before .before .before .args .words .now)) _ (loop .list) 64 (loop .i) (c .open-at .result) (c .before .loop-test .taken) (loop .inv .1 .0) (loop .inv .1 .1) (c .open-at .ensures)))
 
 returns : tie.Need-returns Inv-loop μ-loop
 returns c =
