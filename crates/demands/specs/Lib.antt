@@ -14,3 +14,4 @@ pub mod LoneLock
 pub mod MemorySize
 pub mod Taken
 pub mod CallsOneByOne
+pub mod Calls

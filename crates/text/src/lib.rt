@@ -43,7 +43,7 @@ pub fn put_decimal(out: &mut [u8], at: usize, n: usize) -> usize
 }
 
 // A digit in hex.
-pub fn hex_digit(d: u8) -> u8
+fn hex_digit(d: u8) -> u8
     requires { ⌜ d ≤ 15 ⌝ }
     ensures { λ r. ⌜ r ≡ hexDigit d ⌝ }
 {

@@ -1,0 +1,54 @@
+-- Demand 3 said of the call itself and of readings: malformed exactly if no sentence, seen in the reply's bytes, and the chain of any reading
+-- sent one to a message. Assumes nothing.
+use mathlib.Core.Path.{_≡_, refl, sym, ap, _∙_}
+use mathlib.Core.Logic.{_↔_}
+use Prim.Native.Nat.{ℕ, _+_, _*_, _/_, _%_, _≤_, _<_}
+use native.Mathlib.Omega.{arith}
+use mathlib.Core.Bool.{true}
+use mathlib.Core.List.{List, map}
+use lib.ListN.{length}
+use Rattle.lists.specs.Put.{put}
+use Rattle.wire.specs.LittleEndian.{byteAt, le16At}
+use Rattle.records.specs.declared.Tables.{Tables}
+use Rattle.chain.specs.Layout.{headerCommand}
+use Rattle.chain.specs.Grammar.{Span, Reading, Sentence}
+use Rattle.chain.specs.declared.block.Block.{Block}
+use Rattle.readings.specs.ReaderComplete.{reader-complete}
+use Rattle.readings.specs.ReaderSound.{spanOf}
+use Rattle.message.specs.Refusal.{status}
+use Rattle.message.specs.declared.refusal.Status.{Status}
+use Rattle.message.specs.Reply.{two, replyHeader}
+use Rattle.message.specs.Message.{Ran, served, answered, replyOf, Taken, replied, take-message}
+use Rattle.demands.specs.Malformed.{malformed}
+use Rattle.demands.specs.Sound.{Good}
+use Rattle.demands.specs.Taken.{Fit, fit-answered}
+use Rattle.demands.specs.CallsOneByOne.{answered-small, callAll, comparedCall, calls-one-by-one}
+
+-- the SMBSTATUS that stands in a reply's header: class at 5, code at 7
+unfoldable pub statusRead : List ℕ → Status
+statusRead reply = status (byteAt reply 5) (le16At reply 7)
+
+-- it is the status of what was answered
+status-replied : (s room : List ℕ) (r : Ran) → r .status .code < 65536 → statusRead (replied s room r .room) ≡ r .status
+unfolding statusRead replied replyOf replyHeader two put le16At status
+status-replied s room r small =
+    let e : r .status .code % 256 + 256 * (r .status .code / 256 % 256) ≡ r .status .code = omega arith in
+    ap (λ (n : ℕ). record { class = r .status .class; code = n }) e
+
+-- "A message fit to be answered that begins with a known command is answered as malformed exactly if it is not a sentence": "Answered as malformed: 0,
+-- Status 2/1"
+pub malformed-call : (connection : ℕ) (s : List ℕ) (t : Tables) (memory room : List ℕ) → Fit s t memory room → served (headerCommand s) ≡ true
+    → ((take-message connection s t memory room .number ≡ 0) × (statusRead (take-message connection s t memory room .room) ≡ status 2 1)) ↔ (Sentence s → ⊥)
+unfolding replied
+malformed-call connection s t memory room f e =
+    let fit : take-message connection s t memory room ≡ replied s room (answered connection s t memory) = fit-answered connection s t memory room f in
+    let same : statusRead (take-message connection s t memory room .room) ≡ answered connection s t memory .status =
+    ap (λ (k : Taken). statusRead (k .room)) fit ∙ status-replied s room (answered connection s t memory) (answered-small connection s t memory) in
+    (λ h. malformed connection s t memory e .0 (sym same ∙ h .1), λ n. (ap (λ (k : Taken). k .number) fit, same ∙ malformed connection s t memory e .1 n))
+
+-- "This is a single claim about the whole list of blocks": of any reading its blocks are those sent
+pub reading-one-by-one : (connection : ℕ) (s : List ℕ) {spans : List Span} → Reading s spans → (t : Tables) (memory room small : List ℕ) → Good t → Fit s t memory room
+    → length small ≡ 12292
+    → (bs : List Block) × (map spanOf bs ≡ spans) × (take-message connection s t memory room ≡ comparedCall s room (callAll connection s small bs t memory))
+reading-one-by-one connection s r t memory room small g f n =
+    let a = reader-complete r in (a .0, a .2, calls-one-by-one connection s (a .0) (a .1) t memory room small g f n)
