@@ -3,7 +3,6 @@
 //! uses. Prints tables in Markdown.
 
 mod clock;
-mod gateway;
 mod measure;
 mod requests;
 mod scene;
@@ -176,13 +175,13 @@ fn host_call_stack(scene: &Scene, which: usize, stack: &mut Stack) -> usize {
         let number = unsafe {
             match which {
                 0 => {
-                    gateway::gateway_empty(tables);
+                    linked::gateway_empty(tables);
                     0
                 }
-                1 => gateway::gateway_add_session(tables, connection, out),
-                2 => gateway::gateway_add_tree(tables, uid, 1, out),
-                3 => gateway::gateway_add_open(tables, uid, tid, 7, LAST_FILE, 2, out),
-                4 => gateway::gateway_load_file(
+                1 => linked::gateway_add_session(tables, connection, out),
+                2 => linked::gateway_add_tree(tables, uid, 1, out),
+                3 => linked::gateway_add_open(tables, uid, tid, 7, LAST_FILE, 2, out),
+                4 => linked::gateway_load_file(
                     tables,
                     LAST_FILE,
                     from,
@@ -190,7 +189,7 @@ fn host_call_stack(scene: &Scene, which: usize, stack: &mut Stack) -> usize {
                     to,
                     memory.len(),
                 ),
-                _ => gateway::gateway_drop_connection(tables, connection),
+                _ => linked::gateway_drop_connection(tables, connection),
             }
         };
         black_box(number);

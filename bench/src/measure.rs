@@ -12,7 +12,7 @@
 //! another process has the processor. The result is the median of the rounds.
 
 use crate::clock::thread_time;
-use crate::gateway;
+use linked as gateway;
 use crate::requests::Request;
 use crate::scene::Scene;
 use second::message::{take_message, ROOM_BYTES};

@@ -1,6 +1,6 @@
 //! One call, and how either program makes it.
 
-use crate::gateway;
+use linked as gateway;
 use second::refusals::{number, Outcome};
 use second::words::{self, Words};
 

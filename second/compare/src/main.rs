@@ -8,7 +8,6 @@
 mod call;
 mod crash;
 mod damage;
-mod gateway;
 mod guarded;
 mod plan;
 mod report;
