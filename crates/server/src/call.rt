@@ -12,6 +12,9 @@ use chain::command::WRITE;
 use chain::header::is_dropped;
 use chain::reader::Chain;
 use chain::reader::read_chain;
+use host::answer::DONE;
+use host::answer::NOT_SOUND;
+use host::answer::WRONG_ROOM;
 use message::answer::Answer;
 use message::caller::Caller;
 use message::link::Link;
@@ -30,14 +33,8 @@ ghost use Rattle.message.specs.Message.{served, onlyStatus, answered, replied, 
 ghost use Rattle.demands.specs.Sound.{Good};
 ghost use Rattle.server.specs.TakenOf.{takenOf, refusal};
 
-// The rows of document 01's table "What a call returns" that a message can give.
-pub const DONE: u8 = 0;
-
+// Row 1 of document 01's table "What a call returns"; `host::answer` has the others.
 pub const DROPPED: u8 = 1;
-
-pub const WRONG_ROOM: u8 = 2;
-
-pub const NOT_SOUND: u8 = 4;
 
 // The row, the reply's length (0 where none was written), and the tables after the call.
 pub struct Taken {
