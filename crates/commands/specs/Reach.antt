@@ -1,12 +1,11 @@
 -- The open that a command names, or why it names none: the definition's order, as one answer. Assumes nothing.
 use mathlib.Core.Path.{_≡_, refl}
-use Prim.Native.Nat.{ℕ, _≤_, _<_}
+use Prim.Native.Nat.{ℕ, _≤_}
 use native.Mathlib.Omega.{arith}
 use mathlib.Core.Bool.{Bool, true, false, cond}
 use mathlib.Core.List.{List}
-use lib.ListN.{length, take, getD, length-take}
+use lib.ListN.{getD}
 use Rattle.lists.specs.Walk.{any, found}
-use Rattle.lists.specs.FoundLaws.{found-below}
 use Rattle.lists.specs.declared.Found.{Found}
 use Rattle.lists.specs.declared.Found.the-variants.{At, Nothing}
 use Rattle.records.specs.declared.Open.{Open}
@@ -75,13 +74,6 @@ unfolding reached
 reached-file c t fid o g e =
     who-file (any (isSession c) (sessionsOf t)) (any (isTree (c .tid) (c .uid)) (treesOf t)) (reachedAt (found (isOpen c fid) (opensOf t)) (opensOf t)) o
     (at-file (found (isOpen c fid) (opensOf t)) (opensOf t) o (λ k h. open-file c t fid k h (sound-says t (g .sound)))) e
-
--- the place found is one of those that count
-pub place-below : (p : Open → Bool) (opens : List Open) (n k : ℕ) → found p (take n opens) ≡ At k → (k < n) × (k < length opens)
-place-below p opens n k e =
-    let low : k < length (take n opens) = found-below p (take n opens) k e in
-    let long = length-take n opens in
-    (omega arith, omega arith)
 
 -- a command on an open that is not reached, and on one that is
 module _ (c : Caller) (t : Tables) (fid : ℕ) (m : List ℕ) (p : Performed) (next : Open → Given) where

@@ -5,12 +5,10 @@ use crate::barred::first_bar;
 use crate::barred::size_of;
 use crate::who::Reached;
 use crate::who::reach_open;
-use crate::who::refuse;
 use chain::block::ReadFields;
 use lists::Found;
 use locks::types::Purpose;
 use message::answer::Answer;
-use message::answer::Performed;
 use message::caller::Caller;
 use message::refusal::Refusal;
 use numbers::number::at_most;
@@ -20,7 +18,7 @@ ghost use mathlib.Core.Path.{_≡_};
 ghost use Prim.Native.Nat.{_≤_};
 ghost use Rattle.message.specs.Command.{doRead};
 ghost use Rattle.demands.specs.Sound.{Good};
-ghost use Rattle.commands.specs.Leaves.{Leaves};
+ghost use Rattle.commands.specs.Leaves.{Leaves, performed};
 ghost use Rattle.commands.specs.ReadPart.{readPart};
 ghost use Rattle.commands.specs.Steps.{readOpen};
 
@@ -42,33 +40,30 @@ fn read_part(t: Tables, file: u8, offset: u64, max: u16) -> Answer
 }
 
 // A read on an open that the caller may use: "1/5 is a read on access 1", then 1/33.
-fn read_open(c: Caller, t: Tables, f: ReadFields, o: Open) -> Performed
+fn read_open(c: Caller, t: Tables, f: ReadFields, o: Open) -> Answer
     requires { ⌜ Good t ⌝ }
     requires { ⌜ o .file ≤ 15 ⌝ }
-    ensures { λ r. ⌜ Leaves (λ m. readOpen c t m f o) t r ⌝ }
+    ensures { λ r. ⌜ Leaves (λ m. readOpen c t m f o) t (performed r t) ⌝ }
 {
     if o.access == 1 {
-        return refuse(t, Refusal::NoAccess);
+        return Answer::Refused(Refusal::NoAccess);
     }
     let q = ask_of(c, f.fid, f.offset, f.max, Purpose::Read);
     let bar = first_bar(t, q);
     match bar {
-        Found::At(place) => refuse(t, Refusal::Conflict(place)),
-        Found::Nothing => Performed {
-            answer: read_part(t, o.file, f.offset, f.max),
-            tables: t,
-        },
+        Found::At(place) => Answer::Refused(Refusal::Conflict(place)),
+        Found::Nothing => read_part(t, o.file, f.offset, f.max),
     }
 }
 
-// A READ block.
-pub(crate) fn do_read(c: Caller, t: Tables, f: ReadFields) -> Performed
+// A READ block: it leaves the tables as they are.
+pub(crate) fn do_read(c: Caller, t: Tables, f: ReadFields) -> Answer
     requires { ⌜ Good t ⌝ }
-    ensures { λ r. ⌜ Leaves (λ m. doRead c t m f) t r ⌝ }
+    ensures { λ r. ⌜ Leaves (λ m. doRead c t m f) t (performed r t) ⌝ }
 {
     let at = reach_open(c, t, f.fid);
     match at {
         Reached::Open(o) => read_open(c, t, f, o),
-        Reached::Refused(why) => refuse(t, why),
+        Reached::Refused(why) => Answer::Refused(why),
     }
 }

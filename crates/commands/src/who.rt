@@ -1,6 +1,5 @@
 // Who may ask: the session, the tree and the open that a command names.
 
-use lists::Found;
 use message::answer::Answer;
 use message::answer::Performed;
 use message::caller::Caller;
@@ -15,7 +14,7 @@ ghost use lib.ListN.{take};
 ghost use Rattle.lists.specs.Walk.{any, found};
 ghost use Rattle.message.specs.Command.{isSession, isOpen};
 ghost use Rattle.commands.specs.Leaves.{refusal};
-ghost use Rattle.commands.specs.Reach.{reached};
+ghost use Rattle.commands.specs.Reach.{reached, reachedAt};
 
 // The open that a command names, or why it names none.
 pub enum Reached {
@@ -72,22 +71,22 @@ fn open_is(c: Caller, fid: u16, o: Open) -> bool
     o.tid == c.tid
 }
 
-// The place of the first such open.
-fn find_open(c: Caller, fid: u16, opens: [Open; 64], count: usize) -> Found
-    ensures { λ r. ⌜ r ≡ found (isOpen c fid) (take count opens) ⌝ }
+// The first such open, or 1/6.
+fn find_open(c: Caller, fid: u16, opens: [Open; 64], count: usize) -> Reached
+    ensures { λ r. ⌜ r ≡ reachedAt (found (isOpen c fid) (take count opens)) (take count opens) ⌝ }
 {
     let mut i: usize = 0;
     while i < 64 {
         if count <= i {
-            return Found::Nothing;
+            return Reached::Refused(Refusal::NoOpen);
         }
         let o = opens[i];
         if open_is(c, fid, o) {
-            return Found::At(i);
+            return Reached::Open(o);
         }
         i += 1;
     }
-    Found::Nothing
+    Reached::Refused(Refusal::NoOpen)
 }
 
 // "2/91 no session of that UID on this connection; 2/5 no tree of that TID and UID; 1/6 no open of that FID, UID and TID".
@@ -103,9 +102,5 @@ pub(crate) fn reach_open(c: Caller, t: Tables, fid: u16) -> Reached
         return Reached::Refused(Refusal::NoTree);
     }
     let opens = t.opens;
-    let found = find_open(c, fid, opens, t.nopens);
-    match found {
-        Found::At(place) => Reached::Open(opens[place]),
-        Found::Nothing => Reached::Refused(Refusal::NoOpen),
-    }
+    find_open(c, fid, opens, t.nopens)
 }

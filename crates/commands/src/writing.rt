@@ -3,15 +3,14 @@
 use crate::barred::ask_of;
 use crate::barred::first_bar;
 use crate::barred::size_of;
+use crate::moved::Moved;
+use crate::moved::unmoved;
 use crate::who::Reached;
 use crate::who::reach_open;
-use crate::who::refuse;
 use chain::block::WriteFields;
-use host::load::with_size;
 use lists::Found;
 use locks::types::Purpose;
 use message::answer::Answer;
-use message::answer::Performed;
 use message::caller::Caller;
 use message::refusal::Refusal;
 use records::Open;
@@ -22,9 +21,9 @@ ghost use Prim.Native.Nat.{max, _+_, _-_, _≤_, _<_};
 ghost use lib.ListN.{length, replicate};
 ghost use Rattle.lists.specs.Put.{put};
 ghost use Rattle.message.specs.Command.{endsPast, doWrite};
-ghost use Rattle.message.specs.Contents.{written, resized};
-ghost use Rattle.message.specs.Given.{Gives};
+ghost use Rattle.message.specs.Contents.{sizeOf, written};
 ghost use Rattle.demands.specs.Sound.{Good};
+ghost use Rattle.commands.specs.Moves.{Moves};
 ghost use Rattle.commands.specs.Steps.{writeOpen, writeFree};
 
 // "write would end past 4,096", and "Length 0 writes nothing .. and is done at any offset".
@@ -84,39 +83,36 @@ fn larger(a: usize, b: usize) -> usize
 }
 
 // "and a size below the write's end becomes that end".
-fn raise_size(t: Tables, file: u8, offset: usize, count: u16) -> Tables
+fn raised_size(t: Tables, file: u8, offset: usize, count: u16) -> usize
     requires { ⌜ file ≤ 15 ⌝ }
     requires { ⌜ offset ≤ 4096 ⌝ }
-    requires { ⌜ 0 < count ⌝ }
-    ensures { λ r. ⌜ r ≡ resized t file offset count ⌝ }
+    ensures { λ r. ⌜ r ≡ max (sizeOf t file) (offset + count) ⌝ }
 {
     let end = offset + count as usize;
     let size = size_of(t, file);
-    with_size(t, file as usize, larger(size, end))
+    larger(size, end)
 }
 
 // A write that no lock bars.
-fn write_free(t: Tables, f: WriteFields, file: u8, source: &[u8], memory: &mut [u8]) -> Performed
+fn write_free(t: Tables, f: WriteFields, file: u8, source: &[u8], memory: &mut [u8]) -> Moved
     requires { ⌜ Good t ⌝ }
     requires { ⌜ file ≤ 15 ⌝ }
     requires { ⌜ length (now memory) ≡ 65536 ⌝ }
     requires { ⌜ length (now source) ≡ f .count ⌝ }
-    ensures { λ r. ⌜ Gives (writeFree t (now (memory .entry)) f file (now (source .entry))) t (now (memory .entry)) r (now (memory .exit)) ⌝ }
+    ensures { λ r. ⌜ Moves (writeFree t (now (memory .entry)) f file (now (source .entry))) t (now (memory .entry)) r (now (memory .exit)) ⌝ }
 {
     if ends_past(f.offset, f.count) {
-        return refuse(t, Refusal::NoSpace);
+        return unmoved(t, Answer::Refused(Refusal::NoSpace));
     }
     if f.count == 0 {
-        return Performed {
-            answer: Answer::Wrote(0),
-            tables: t,
-        };
+        return unmoved(t, Answer::Wrote(0));
     }
     let at = f.offset as usize;
     write_bytes(t, file, at, source, memory);
-    Performed {
+    Moved {
         answer: Answer::Wrote(f.count),
-        tables: raise_size(t, file, at, f.count),
+        file: file as usize,
+        size: raised_size(t, file, at, f.count),
     }
 }
 
@@ -128,20 +124,20 @@ fn write_open(
     o: Open,
     source: &[u8],
     memory: &mut [u8],
-) -> Performed
+) -> Moved
     requires { ⌜ Good t ⌝ }
     requires { ⌜ o .file ≤ 15 ⌝ }
     requires { ⌜ length (now memory) ≡ 65536 ⌝ }
     requires { ⌜ length (now source) ≡ f .count ⌝ }
-    ensures { λ r. ⌜ Gives (writeOpen c t (now (memory .entry)) f (now (source .entry)) o) t (now (memory .entry)) r (now (memory .exit)) ⌝ }
+    ensures { λ r. ⌜ Moves (writeOpen c t (now (memory .entry)) f (now (source .entry)) o) t (now (memory .entry)) r (now (memory .exit)) ⌝ }
 {
     if o.access == 0 {
-        return refuse(t, Refusal::NoAccess);
+        return unmoved(t, Answer::Refused(Refusal::NoAccess));
     }
     let q = ask_of(c, f.fid, f.offset, f.count, Purpose::Write);
     let bar = first_bar(t, q);
     match bar {
-        Found::At(place) => refuse(t, Refusal::Conflict(place)),
+        Found::At(place) => unmoved(t, Answer::Refused(Refusal::Conflict(place))),
         Found::Nothing => write_free(t, f, o.file, source, memory),
     }
 }
@@ -153,15 +149,15 @@ pub(crate) fn do_write(
     f: WriteFields,
     source: &[u8],
     memory: &mut [u8],
-) -> Performed
+) -> Moved
     requires { ⌜ Good t ⌝ }
     requires { ⌜ length (now memory) ≡ 65536 ⌝ }
     requires { ⌜ length (now source) ≡ f .count ⌝ }
-    ensures { λ r. ⌜ Gives (doWrite c t (now (memory .entry)) f (now (source .entry))) t (now (memory .entry)) r (now (memory .exit)) ⌝ }
+    ensures { λ r. ⌜ Moves (doWrite c t (now (memory .entry)) f (now (source .entry))) t (now (memory .entry)) r (now (memory .exit)) ⌝ }
 {
     let at = reach_open(c, t, f.fid);
     match at {
         Reached::Open(o) => write_open(c, t, f, o, source, memory),
-        Reached::Refused(why) => refuse(t, why),
+        Reached::Refused(why) => unmoved(t, Answer::Refused(why)),
     }
 }

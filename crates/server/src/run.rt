@@ -5,11 +5,14 @@ use crate::step::status_after;
 use chain::block::Next;
 use chain::block::Parsed;
 use chain::parse::parse_block;
+use commands::perform::is_transfer;
 use commands::perform::perform_block;
+use commands::perform::transfer_block;
 use message::answer::Answer;
 use message::caller::Caller;
 use message::refusal::Refusal;
 use message::refusal::Status;
+use records::File;
 use records::Tables;
 use reply::block::link_to;
 use reply::block::size_of;
@@ -18,9 +21,12 @@ ghost use mathlib.Core.Path.{_≡_};
 ghost use Prim.Native.Nat.{_+_, _≤_};
 ghost use mathlib.Core.Bool.{true};
 ghost use lib.ListN.{length};
+ghost use Rattle.lists.specs.Put.{put};
 ghost use Rattle.chain.specs.Chain.{blocks};
 ghost use Rattle.message.specs.Message.{runChain};
+ghost use Rattle.message.specs.Given.{inside, blockOf, answerSize};
 ghost use Rattle.demands.specs.Sound.{Good};
+ghost use Rattle.reply.specs.Links.{linkFor};
 ghost use Rattle.server.specs.Going.{Finished};
 ghost use Rattle.server.specs.Taking.{readable};
 
@@ -31,9 +37,30 @@ pub(crate) struct Ended {
     pub tables: Tables,
 }
 
-// The chain of a message that is a sentence. Each reply block is written into the room left after the one
-// before; the block's link is known before it is written, since a command done is followed by the next
-// one's block, refused or not.
+// The reply block of an answer, written into the room left after the one before; where it ends. The block's
+// link is known before it is written, since a command done is followed by the next one's block, refused or
+// not.
+fn add_block(answer: Answer, next: Next, place: usize, memory: &[u8], room: &mut [u8]) -> usize
+    requires { ⌜ length (now memory) ≡ 65536 ⌝ }
+    requires { ⌜ inside answer ≡ true ⌝ }
+    requires { ⌜ place + answerSize answer ≤ 12292 ⌝ }
+    requires { ⌜ 12292 ≤ length (now room) ⌝ }
+    ensures { λ r. ⌜ r ≡ place + answerSize answer ⌝ }
+    ensures { λ _. ⌜ now (room .exit) ≡ put (now (room .entry)) place (blockOf answer (now (memory .entry)) place (linkFor next (place + answerSize answer))) ⌝ }
+{
+    let end = place + size_of(answer);
+    write_block(
+        answer,
+        place,
+        link_to(next, end),
+        memory,
+        &mut room[place..],
+    );
+    end
+}
+
+// The chain of a message that is a sentence. READ and WRITE hand back no tables, only the size that they set:
+// the tables are long to copy.
 pub(crate) fn run_chain(
     c: Caller,
     s: &[u8],
@@ -60,19 +87,20 @@ pub(crate) fn run_chain(
                 tables: t,
             };
         };
-        let p = perform_block(c, t, s, b, memory);
-        t = p.tables;
-        let answer = p.answer;
+        let mut answer = Answer::Plain;
+        let body = b.body;
+        if is_transfer(body) {
+            let moved = transfer_block(c, t, s, b, memory);
+            let file = moved.file;
+            t.files[file] = File { size: moved.size };
+            answer = moved.answer;
+        } else {
+            let p = perform_block(c, t, s, b);
+            t = p.tables;
+            answer = p.answer;
+        }
         let next = b.next;
-        let end = place + size_of(answer);
-        write_block(
-            answer,
-            place,
-            link_to(next, end),
-            memory,
-            &mut room[place..],
-        );
-        place = end;
+        place = add_block(answer, next, place, memory, room);
         let Next::Follow(then, from) = goes_on(answer, next) else {
             return Ended {
                 status: status_after(answer),

@@ -1,45 +1,25 @@
--- `commands::perform::perform_block` meets its contract: each command is the definition's, and a block that was read has its bytes in the message.
+-- `commands::perform::perform_block` meets its contract: each command is the definition's, and a LOCKING block that was read has its bytes in the message; no READ and no WRITE comes here.
 -- Assumes nothing.
+use Rattle.message.specs.Command.{perform}
+use Rattle.message.specs.Message.{areaOf}
+use Rattle.commands.specs.Steps.{closing, loggingOff, disconnecting, exiting}
+use Rattle.commands.specs.Moves.{isTransfer, not-both}
+use Rattle.commands.specs.BlockPart.{locking-told}
 use borrow.Author.Needs.{needs}
 use Rattle.commands.proofs.perform.perform_block.Statement.{statement}
 use Rattle.commands.proofs.perform.perform_block.Tie as tie
-use native.Mathlib.Omega.{arith}
-use Rattle.message.specs.Command.{perform}
-use Rattle.message.specs.Message.{areaOf, dataOf}
-use Rattle.commands.specs.Steps.{closing, loggingOff, disconnecting, exiting}
-use Rattle.commands.specs.BlockPart.{locking-told, write-told}
 
 enum-known-body : tie.Need-enum-known-body
 enum-known-body c = search needs
 
 lock-block-requires : tie.Need-lock-block-requires
 lock-block-requires c κs =
-    let pre = c .before .before .before .before .before .pre in
-    let args = c .before .before .before .before .before .args in
-    (pre .0, locking-told (args .s .now) (args .b) (c .before .body .given .0 .0) (pre .1 .1) (c .before .body .given .1))
+    let pre = c .before .before .before .before .pre in
+    let args = c .before .before .before .before .args in
+    (pre .0, locking-told (args .s .now) (args .b) (c .before .body .given .0 .0) (pre .1 .0) (c .before .body .given .1))
 
 enum-known-body-2 : tie.Need-enum-known-body-2
 enum-known-body-2 c = search needs
-
-do-read-requires : tie.Need-do-read-requires
-do-read-requires c κs = search needs
-
-enum-known-body-3 : tie.Need-enum-known-body-3
-enum-known-body-3 c = search needs
-
-write-block-requires : tie.Need-write-block-requires
-write-block-requires c κs =
-    let pre = c .before .before .before .before .before .before .pre in
-    let args = c .before .before .before .before .before .before .args in
-    let body3 = c .before .before .body3 in
-    let w = (write-told (args .s .now) (args .b) (body3 .given .0 .0) (pre .1 .1) (body3 .given .1)) in
-    let from = w .from in
-    let count = w .count in
-    let inside = w .inside in
-    (pre .0, (pre .1 .0, omega arith))
-
-enum-known-body-4 : tie.Need-enum-known-body-4
-enum-known-body-4 c = search needs
 
 do-close-requires : tie.Need-do-close-requires
 do-close-requires c κs = search needs
@@ -62,48 +42,52 @@ enum-told-3 c = search needs
 do-exit-requires : tie.Need-do-exit-requires
 do-exit-requires c κs = search needs
 
+enum-told-4 : tie.Need-enum-told-4
+enum-told-4 c = search needs
+
+refuse-requires : tie.Need-refuse-requires
+refuse-requires c κs = search needs
+
+enum-told-5 : tie.Need-enum-told-5
+enum-told-5 c = search needs
+
+refuse-requires-2 : tie.Need-refuse-requires-2
+refuse-requires-2 c κs = search needs
+
 returns : tie.Need-returns
 unfolding perform areaOf
 returns c =
-    rw (c .before .before .body .given .1) (c .lock-block .ensures (c .before .before .before .before .before .before .args .memory .now))
+    λ m. rw (c .before .before .body .given .1) (c .lock-block .ensures m)
 
 returns-2 : tie.Need-returns-2
-unfolding perform
+unfolding perform closing
 returns-2 c =
-    rw (c .before .before .body2 .given .1) (c .do-read .ensures (c .before .before .before .before .before .before .args .memory .now))
-
-same-length : tie.Need-same-length
-same-length c = search needs
+    λ m. rw (c .before .before .body2 .given .1) (c .do-close .ensures m)
 
 returns-3 : tie.Need-returns-3
-unfolding perform dataOf
+unfolding perform loggingOff
 returns-3 c =
-    let pre = c .before .before .before .before .before .before .before .before .before .pre in
-    let args′ = c .before .before .before .before .before .before .before .before .before .args in
-    let body3 = c .before .before .before .before .before .body3 in
-    let args = args′ in
-    let w = (write-told (args .s .now) (args .b) (body3 .given .0 .0) (pre .1 .1) (body3 .given .1)) in
-    rw (body3 .given .1, ← (w .from), ← (w .count)) (c .before .before .write-block .ensures)
+    λ m. rw (c .before .enum-told .given .1) (c .do-logoff .ensures m)
 
 returns-4 : tie.Need-returns-4
-unfolding perform closing
+unfolding perform disconnecting
 returns-4 c =
-    rw (c .before .before .body4 .given .1) (c .do-close .ensures (c .before .before .before .before .before .before .args .memory .now))
+    λ m. rw (c .before .enum-told2 .given .1) (c .do-disconnect .ensures m)
 
 returns-5 : tie.Need-returns-5
-unfolding perform loggingOff
+unfolding perform exiting
 returns-5 c =
-    rw (c .before .enum-told .given .1) (c .do-logoff .ensures (c .before .before .before .before .before .args .memory .now))
+    λ m. rw (c .before .enum-told3 .given .1) (c .do-exit .ensures m)
 
 returns-6 : tie.Need-returns-6
-unfolding perform disconnecting
+unfolding isTransfer
 returns-6 c =
-    rw (c .before .enum-told2 .given .1) (c .do-disconnect .ensures (c .before .before .before .before .before .args .memory .now))
+    not-both (isTransfer (c .before .before .before .before .args .b .body)) (rw (c .before .enum-told4 .given .1)) (c .before .before .before .before .pre .1 .1)
 
 returns-7 : tie.Need-returns-7
-unfolding perform exiting
+unfolding isTransfer
 returns-7 c =
-    rw (c .before .enum-told3 .given .1) (c .do-exit .ensures (c .before .before .before .before .before .args .memory .now))
+    not-both (isTransfer (c .before .before .before .before .args .b .body)) (rw (c .before .enum-told5 .given .1)) (c .before .before .before .before .pre .1 .1)
 
 pub perform-block-spec : {M : Type 1} → statement M
 perform-block-spec =
@@ -112,10 +96,6 @@ perform-block-spec =
     enum-known-body
     lock-block-requires
     enum-known-body-2
-    do-read-requires
-    enum-known-body-3
-    write-block-requires
-    enum-known-body-4
     do-close-requires
     enum-told
     do-logoff-requires
@@ -123,9 +103,12 @@ perform-block-spec =
     do-disconnect-requires
     enum-told-3
     do-exit-requires
+    enum-told-4
+    refuse-requires
+    enum-told-5
+    refuse-requires-2
     returns
     returns-2
-    same-length
     returns-3
     returns-4
     returns-5

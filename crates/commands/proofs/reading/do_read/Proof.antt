@@ -3,7 +3,8 @@
 use borrow.Author.Needs.{needs}
 use Rattle.commands.proofs.reading.do_read.Statement.{statement}
 use Rattle.commands.proofs.reading.do_read.Tie as tie
-use mathlib.Core.Path.{sym, _∙_}
+use mathlib.Core.Path.{refl, sym, _∙_}
+use Rattle.commands.specs.Leaves.{performed, refusal}
 use Rattle.commands.specs.Reach.{reached-file, not-reached, is-reached}
 use Rattle.commands.specs.Steps.{read-steps}
 
@@ -22,18 +23,15 @@ read-open-requires c κs =
 enum-known-at-2 : tie.Need-enum-known-at-2
 enum-known-at-2 c = search needs
 
-refuse-requires : tie.Need-refuse-requires
-refuse-requires c κs = search needs
-
 returns : tie.Need-returns
 returns c =
     let args = c .before .before .before .before .before .args in
-    λ m. rw (read-steps (args .c) (args .t) m (args .f)) (is-reached (args .c) (args .t) (args .f .fid) m (c .read-open .result) _ m _ (sym (c .before .before .before .before .reach-open .ensures) ∙ c .before .before .at .given .1) (c .read-open .ensures m))
+    λ m. rw (read-steps (args .c) (args .t) m (args .f)) (is-reached (args .c) (args .t) (args .f .fid) m (performed (c .read-open .result) (args .t)) _ m _ (sym (c .before .before .before .before .reach-open .ensures) ∙ c .before .before .at .given .1) (c .read-open .ensures m))
 
 returns-2 : tie.Need-returns-2
 returns-2 c =
-    let args = c .before .before .before .before .before .args in
-    λ m. rw (read-steps (args .c) (args .t) m (args .f)) (not-reached (args .c) (args .t) (args .f .fid) m (c .refuse .result) _ _ (sym (c .before .before .before .before .reach-open .ensures) ∙ c .before .before .at2 .given .1) (c .refuse .ensures))
+    let args = c .before .before .before .before .args in
+    λ m. rw (read-steps (args .c) (args .t) m (args .f)) (not-reached (args .c) (args .t) (args .f .fid) m (refusal _ (args .t)) _ _ (sym (c .before .before .before .reach-open .ensures) ∙ c .before .at2 .given .1) refl)
 
 pub do-read-spec : {M : Type 1} → statement M
 do-read-spec =
@@ -43,6 +41,5 @@ do-read-spec =
     enum-known-at
     read-open-requires
     enum-known-at-2
-    refuse-requires
     returns
     returns-2)

@@ -3,7 +3,7 @@
 use borrow.Author.Needs.{needs}
 use Rattle.commands.proofs.reading.read_open.Statement.{statement}
 use Rattle.commands.proofs.reading.read_open.Tie as tie
-use mathlib.Core.Path.{ap}
+use mathlib.Core.Path.{refl, ap}
 use borrow.Author.Tests.{eq-eqb, ne-eqb}
 use Rattle.message.specs.declared.answer.Answer.{Answer}
 use Rattle.message.specs.Command.{unlessBarred}
@@ -11,13 +11,10 @@ use Rattle.commands.specs.Leaves.{performed, gives-refused, gives-done}
 use Rattle.commands.specs.Steps.{readOpen}
 use Rattle.commands.specs.ReadPart.{part-given, part-within}
 
-refuse-requires : tie.Need-refuse-requires
-refuse-requires c κs = search needs
-
 returns : tie.Need-returns
 unfolding readOpen
 returns c =
-    λ m. gives-refused _ (rw (eq-eqb _ _ (c .before .if1 .taken))) (c .refuse .ensures)
+    λ m. gives-refused _ (rw (eq-eqb _ _ (c .if1 .taken))) refl
 
 ask-of-requires : tie.Need-ask-of-requires
 ask-of-requires c κs = search needs
@@ -28,9 +25,6 @@ first-bar-requires c κs = search needs
 enum-known-bar : tie.Need-enum-known-bar
 enum-known-bar c = search needs
 
-refuse-requires-2 : tie.Need-refuse-requires-2
-refuse-requires-2 c κs = search needs
-
 enum-told : tie.Need-enum-told
 enum-told c = search needs
 
@@ -40,14 +34,13 @@ read-part-requires c κs = search needs
 returns-2 : tie.Need-returns-2
 unfolding readOpen unlessBarred
 returns-2 c =
-    λ m. gives-refused _ (rw (ne-eqb _ _ (c .before .before .before .before .before .before .if1 .left), ← (c .before .before .before .before .before .ask-of .ensures), ← (c .before .before .before .before .first-bar .ensures), c .before .before .bar .given .1)) (c .refuse2 .ensures)
+    λ m. gives-refused _ (rw (ne-eqb _ _ (c .before .before .before .before .before .if1 .left), ← (c .before .before .before .before .ask-of .ensures), ← (c .before .before .before .first-bar .ensures), c .before .bar .given .1)) refl
 
 returns-3 : tie.Need-returns-3
 unfolding readOpen unlessBarred
 returns-3 c =
     let pre = c .before .before .before .before .before .before .before .pre in
-    let args′ = c .before .before .before .before .before .before .before .args in
-    let args = args′ in
+    let args = c .before .before .before .before .before .before .before .args in
     λ m.
     gives-done _ (args .t) _ (rw (ne-eqb _ _ (c .before .before .before .before .before .if1 .left), ← (c .before .before .before .before .ask-of .ensures), ← (c .before .before .before .first-bar .ensures), c .before .enum-told .given .1)) (ap (λ (a : Answer). performed a (args .t)) (c .read-part .ensures))
     (part-given (args .t) (args .o .file) (args .f .offset) (args .f .max) m)
@@ -57,12 +50,10 @@ pub read-open-spec : {M : Type 1} → statement M
 read-open-spec =
     tie.close
     (tie.spec
-    refuse-requires
     returns
     ask-of-requires
     first-bar-requires
     enum-known-bar
-    refuse-requires-2
     enum-told
     read-part-requires
     returns-2

@@ -1,10 +1,15 @@
 -- `commands::who::find_open` meets its contract: the opens ahead give the same answer as the whole list.
 -- Assumes nothing.
+use mathlib.Core.Path.{ap, sym, _∙_}
+use lib.ListN.{take}
+use lib.Seq.{getD-take}
+use Rattle.lists.specs.declared.Found.{Found}
+use Rattle.commands.specs.declared.who.Reached.the-variants.{Open as Named}
+use Rattle.commands.specs.Reach.{reachedAt}
 use Rattle.commands.proofs.who.find_open.Statement.{statement}
 use Rattle.commands.proofs.who.find_open.Tie as tie
 use borrow.Author.Needs.{needs}
 use native.Mathlib.Omega.{arith}
-use mathlib.Core.Path.{sym, _∙_}
 use Prim.Native.Nat.{_-_, _≤_}
 use Rattle.lists.specs.FoundLaws.{Passed, passed-start, passed-here, passed-more, passed-none, passed-all}
 use Rattle.records.specs.Empty.{noOpen}
@@ -21,8 +26,10 @@ loop-holds c =
     (omega arith, passed-start)
 
 returns : tie.Need-returns Inv-loop μ-loop
+unfolding reachedAt
 returns c =
-    passed-none (c .before .before .loop .inv .1) (c .if1 .taken)
+    let args = c .before .before .before .args in
+    ap (λ (x : Found). reachedAt x (take (args .count) (args .t3))) (passed-none (c .before .before .loop .inv .1) (c .if1 .taken))
 
 mul-o : tie.Need-mul-o Inv-loop μ-loop
 mul-o c = omega arith
@@ -34,8 +41,12 @@ open-is-requires : tie.Need-open-is-requires Inv-loop μ-loop
 open-is-requires c κs = search needs
 
 returns-2 : tie.Need-returns-2 Inv-loop μ-loop
+unfolding reachedAt
 returns-2 c =
-    passed-here (c .before .before .before .before .before .loop .inv .1) noOpen (omega arith) (omega arith) (sym (c .before .open-is .ensures) ∙ c .if2 .taken)
+    let args = c .before .before .before .before .before .before .args in
+    let loop = c .before .before .before .before .before .loop in
+    ap Named (sym (getD-take (args .count) (args .t3) (loop .i) noOpen (omega arith)))
+    ∙ ap (λ (x : Found). reachedAt x (take (args .count) (args .t3))) (passed-here (loop .inv .1) noOpen (omega arith) (omega arith) (sym (c .before .open-is .ensures) ∙ c .if2 .taken))
 
 add-i : tie.Need-add-i Inv-loop μ-loop
 add-i c = omega arith
@@ -48,8 +59,9 @@ loop-again c =
     (omega arith, passed-more (c .before .before .before .before .before .loop .inv .1) noOpen (omega arith) (omega arith) (sym (c .before .open-is .ensures) ∙ c .if2 .left))
 
 returns-3 : tie.Need-returns-3 Inv-loop μ-loop
+unfolding reachedAt
 returns-3 c =
-    passed-all (c .before .loop .inv .1) (omega arith)
+    ap (λ (x : Found). reachedAt x (take (c .before .before .args .count) (c .before .before .args .t3))) (passed-all (c .before .loop .inv .1) (omega arith))
 
 pub find-open-spec : {M : Type 1} → statement M
 find-open-spec =

@@ -5,16 +5,16 @@ use Rattle.commands.proofs.writing.write_open.Statement.{statement}
 use Rattle.commands.proofs.writing.write_open.Tie as tie
 use borrow.Author.Tests.{eq-eqb, ne-eqb}
 use Rattle.message.specs.Command.{unlessBarred}
-use Rattle.commands.specs.Leaves.{gives-refused}
+use Rattle.commands.specs.Moves.{moves-refused}
 use Rattle.commands.specs.Steps.{writeOpen}
 
-refuse-requires : tie.Need-refuse-requires
-refuse-requires c κs = search needs
+unmoved-requires : tie.Need-unmoved-requires
+unmoved-requires c κs = search needs
 
 returns : tie.Need-returns
 unfolding writeOpen
 returns c =
-    gives-refused _ (rw (eq-eqb _ _ (c .before .if1 .taken))) (c .refuse .ensures)
+    moves-refused _ (rw (eq-eqb _ _ (c .before .if1 .taken))) (c .unmoved .ensures)
 
 ask-of-requires : tie.Need-ask-of-requires
 ask-of-requires c κs = search needs
@@ -25,8 +25,8 @@ first-bar-requires c κs = search needs
 enum-known-bar : tie.Need-enum-known-bar
 enum-known-bar c = search needs
 
-refuse-requires-2 : tie.Need-refuse-requires-2
-refuse-requires-2 c κs = search needs
+unmoved-requires-2 : tie.Need-unmoved-requires-2
+unmoved-requires-2 c κs = search needs
 
 enum-told : tie.Need-enum-told
 enum-told c = search needs
@@ -37,7 +37,7 @@ write-free-requires c κs = search needs
 returns-2 : tie.Need-returns-2
 unfolding writeOpen unlessBarred
 returns-2 c =
-    gives-refused _ (rw (ne-eqb _ _ (c .before .before .before .before .before .before .if1 .left), ← (c .before .before .before .before .before .ask-of .ensures), ← (c .before .before .before .before .first-bar .ensures), c .before .before .bar .given .1)) (c .refuse2 .ensures)
+    moves-refused _ (rw (ne-eqb _ _ (c .before .before .before .before .before .before .if1 .left), ← (c .before .before .before .before .before .ask-of .ensures), ← (c .before .before .before .before .first-bar .ensures), c .before .before .bar .given .1)) (c .unmoved2 .ensures)
 
 same-length : tie.Need-same-length
 same-length c = search needs
@@ -54,12 +54,12 @@ pub write-open-spec : {M : Type 1} → statement M
 write-open-spec =
     tie.close
     (tie.spec
-    refuse-requires
+    unmoved-requires
     returns
     ask-of-requires
     first-bar-requires
     enum-known-bar
-    refuse-requires-2
+    unmoved-requires-2
     enum-told
     write-free-requires
     returns-2

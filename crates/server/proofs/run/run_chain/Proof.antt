@@ -1,21 +1,37 @@
--- `server::run::run_chain` meets its contract: the loop's invariant is `Turn`: what is left to carry out completes the whole run, and the blocks written stand from 32 on.
+-- `server::run::run_chain` meets its contract: the loop's invariant is `Turn`: what is left to carry out completes the whole run, and the blocks written stand from 32 on. After READ and WRITE the tables are those with the size set.
 -- Assumes nothing.
+use Prim.Native.Nat.{_-_}
+use mathlib.Core.Path.{_≡_, sym, ap, _∙_}
+use mathlib.Core.Logic.{⊎-elim}
+use lib.ListN.{length}
+use Rattle.records.specs.Held.{withFiles}
+use Rattle.host.specs.HostCall.{loaded}
+use Rattle.message.specs.Command.{perform}
+use Rattle.message.specs.Message.{areaOf, dataOf}
+use Rattle.message.specs.Given.{Gives}
+use Rattle.commands.specs.Leaves.{performed}
+use Rattle.server.specs.Going.{finished-length}
+use Rattle.server.specs.Taking.{Turn, turn-start, turn-block, turn-length, turn-parse, block-fits, turn-ends, turn-goes, turn-falls}
 use Rattle.server.proofs.run.run_chain.Statement.{statement}
 use Rattle.server.proofs.run.run_chain.Tie as tie
 use borrow.Author.Needs.{needs}
 use native.Mathlib.Omega.{arith}
-use Prim.Native.Nat.{_+_, _-_}
-use mathlib.Core.Path.{sym, _∙_}
-use mathlib.Core.List.{_++_}
-use lib.ListN.{length, take, drop, length-take, length-drop}
-use Rattle.server.specs.Going.{finished-length}
-use Rattle.server.specs.Taking.{Turn, turn-start, turn-block, turn-place, turn-length, turn-parse, block-fits, turn-ends, turn-goes, turn-falls, block-laid}
 
 abbrev Inv-loop : tie.InvT-loop
 Inv-loop c s memory₀ room₀ t₀ command₀ at₀ place₀ memory room t command at place = Turn c s room₀ t₀ memory₀ command at place t memory room
 
 abbrev μ-loop : tie.MeasureT-loop
 μ-loop c s memory₀ room₀ t₀ command₀ at₀ place₀ memory room t command at place = length s - at
+
+-- what was performed: where the two ways meet
+given-here : (c : tie.Joined1 Inv-loop μ-loop) → (Gives (perform (c .before .before .before .before .before .before .before .before .before .before .before .args .c) (c .before .before .before .before .before .before .loop .t) (c .before .before .before .before .before .before .loop .memory) (c .before .before .before .b .given .0 .0 .body) (areaOf (c .before .before .before .before .before .before .before .before .before .before .before .args .s .now) (c .before .before .before .b .given .0 .0)) (dataOf (c .before .before .before .before .before .before .before .before .before .before .before .args .s .now) (c .before .before .before .b .given .0 .0))) (c .before .before .before .before .before .before .loop .t) (c .before .before .before .before .before .before .loop .memory) (performed (c .if1 .answer) (c .if1 .t)) (c .if1 .memory)) × (length (c .if1 .memory) ≡ 65536)
+unfolding loaded withFiles
+given-here c =
+    let loop = c .before .before .before .before .before .before .loop in
+    ⊎-elim
+    (λ w. (rw (w .5, w .6, w .7) (w .2 .ensures .gives), ap length (w .5) ∙ w .2 .kept .1 .1 .1 .1 .0 ∙ loop .inv .going .memory-size))
+    (λ w. (rw (w .3, w .4, w .5) (w .1 .ensures (loop .memory)), ap length (w .3) ∙ loop .inv .going .memory-size))
+    (c .if1 .came)
 
 byte-at-requires : tie.Need-byte-at-requires Inv-loop μ-loop
 byte-at-requires c κs = search needs
@@ -51,50 +67,38 @@ returns : tie.Need-returns Inv-loop μ-loop
 returns c =
     absurd (turn-block (c .before .before .before .before .loop .inv) (sym (c .before .before .before .parse-block .ensures) ∙ c .before .enum-told .given .1))
 
+is-transfer-requires : tie.Need-is-transfer-requires Inv-loop μ-loop
+is-transfer-requires c κs = search needs
+
+transfer-block-requires : tie.Need-transfer-block-requires Inv-loop μ-loop
+transfer-block-requires c κs =
+    let loop = c .before .before .before .before .before .before .before .loop in
+    let parse-block = c .before .before .before .before .before .before .parse-block in
+    let b = c .before .before .before .before .b in
+    (loop .inv .going .good, (loop .inv .going .memory-size, (turn-parse (loop .inv) (b .given .0 .0) (sym (parse-block .ensures) ∙ b .given .1), sym (c .before .before .is-transfer .ensures) ∙ c .before .if1 .taken)))
+
+mul-t29 : tie.Need-mul-t29 Inv-loop μ-loop
+mul-t29 c =
+    let low = c .before .before .transfer-block .ensures .file-there in omega arith
+
+element-set-from-t : tie.Need-element-set-from-t Inv-loop μ-loop
+element-set-from-t c =
+    let low = c .before .before .transfer-block .ensures .file-there in omega arith
+
 perform-block-requires : tie.Need-perform-block-requires Inv-loop μ-loop
 perform-block-requires c κs =
-    let loop = c .before .before .before .before .before .loop in
-    (loop .inv .going .good, (loop .inv .going .memory-size, turn-parse (loop .inv) (c .before .before .b .given .0 .0) (sym (c .before .before .before .before .parse-block .ensures) ∙ c .before .before .b .given .1)))
+    let loop = c .before .before .before .before .before .before .loop in
+    (loop .inv .going .good, (turn-parse (loop .inv) (c .before .before .before .b .given .0 .0) (sym (c .before .before .before .before .before .parse-block .ensures) ∙ c .before .before .before .b .given .1), sym (c .before .is-transfer .ensures) ∙ c .if1 .left))
 
-size-of-requires : tie.Need-size-of-requires Inv-loop μ-loop
-size-of-requires c κs = (c .before .before .before .perform-block .ensures) .within
-
-add-end : tie.Need-add-end Inv-loop μ-loop
-add-end c =
-    let loop = c .before .before .before .before .before .before .before .before .before .before .loop in
-    let parse-block = c .before .before .before .before .before .before .before .before .before .parse-block in
-    let b = c .before .before .before .before .before .before .before .b in
-    let perform-block = c .before .before .before .before .perform-block in
-    let f = block-fits (loop .inv) (b .given .0 .0) (sym (parse-block .ensures) ∙ b .given .1) (perform-block .result) (perform-block .last .1 .1 .1 .1 .0) (perform-block .ensures) (perform-block .kept .1 .1 .1 .1 .0 ∙ loop .inv .going .memory-size) in let s = c .size-of .ensures in omega arith
-
-link-to-requires : tie.Need-link-to-requires Inv-loop μ-loop
-link-to-requires c κs = search needs
-
-sub-write-block : tie.Need-sub-write-block Inv-loop μ-loop
-sub-write-block c =
-    let loop = c .before .before .before .before .before .before .before .before .before .before .before .before .loop in
-    let f = turn-place (loop .inv) in let l = turn-length (loop .inv) in let n = loop .inv .enough in omega arith
-
-part-write-block-start : tie.Need-part-write-block-start Inv-loop μ-loop
-part-write-block-start c =
-    let loop = c .before .before .before .before .before .before .before .before .before .before .before .before .loop in
-    let f = turn-place (loop .inv) in let l = turn-length (loop .inv) in let n = loop .inv .enough in omega arith
-
-part-write-block-end : tie.Need-part-write-block-end Inv-loop μ-loop
-part-write-block-end c =
-    let loop = c .before .before .before .before .before .before .before .before .before .before .before .before .loop in
-    let f = turn-place (loop .inv) in let l = turn-length (loop .inv) in let n = loop .inv .enough in omega arith
-
-write-block-requires : tie.Need-write-block-requires Inv-loop μ-loop
-write-block-requires c κs =
-    let loop = c .before .before .before .before .before .before .before .before .before .before .before .before .before .loop in
-    let parse-block = c .before .before .before .before .before .before .before .before .before .before .before .before .parse-block in
-    let b = c .before .before .before .before .before .before .before .before .before .before .b in
-    let perform-block = c .before .before .before .before .before .before .before .perform-block in
-    let f = block-fits (loop .inv) (b .given .0 .0) (sym (parse-block .ensures) ∙ b .given .1) (perform-block .result) (perform-block .last .1 .1 .1 .1 .0) (perform-block .ensures) (perform-block .kept .1 .1 .1 .1 .0 ∙ loop .inv .going .memory-size) in
+add-block-requires : tie.Need-add-block-requires Inv-loop μ-loop
+add-block-requires c κs =
+    let loop = c .before .before .before .before .before .before .before .before .loop in
+    let parse-block = c .before .before .before .before .before .before .before .parse-block in
+    let b = c .before .before .before .before .before .b in
+    let if1 = c .before .before .if1 in
     let l = turn-length (loop .inv) in
     let n = loop .inv .enough in
-    ((perform-block .kept .1 .1 .1 .1 .0 ∙ loop .inv .going .memory-size), ((perform-block .ensures) .within, (rw (length-take, length-drop) (omega arith), turn-place (loop .inv))))
+    (given-here (c .before .before) .1, (given-here (c .before .before) .0 .within, (block-fits (loop .inv) (b .given .0 .0) (sym (parse-block .ensures) ∙ b .given .1) (performed (if1 .answer) (if1 .t)) (if1 .memory) (given-here (c .before .before) .0) (given-here (c .before .before) .1), omega arith)))
 
 goes-on-requires : tie.Need-goes-on-requires Inv-loop μ-loop
 goes-on-requires c κs = search needs
@@ -110,54 +114,47 @@ status-after-requires-2 c κs = search needs
 
 same-length-3 : tie.Need-same-length-3 Inv-loop μ-loop
 same-length-3 c =
-    let pre = c .before .before .before .before .before .before .before .before .before .before .before .before .before .before .before .before .before .before .before .before .before .before .before .before .before .pre in
-    let loop = c .before .before .before .before .before .before .before .before .before .before .before .before .before .before .before .before .before .before .before .before .loop in
-    let perform-block = c .before .before .before .before .before .before .before .before .before .before .before .before .before .before .perform-block in
-    (perform-block .kept .1 .1 .1 .1 .0 ∙ loop .inv .going .memory-size) ∙ sym (pre .1 .0)
+    let pre = c .before .before .before .before .before .before .before .before .before .before .before .before .before .before .before .before .before .before .before .before .pre in
+    let before = c .before .before .before .before .before .before .before .before .before in
+    given-here (before) .1 ∙ sym (pre .1 .0)
 
 same-length-4 : tie.Need-same-length-4 Inv-loop μ-loop
 same-length-4 c =
-    let loop = c .before .before .before .before .before .before .before .before .before .before .before .before .before .before .before .before .before .before .before .before .loop in
-    let parse-block = c .before .before .before .before .before .before .before .before .before .before .before .before .before .before .before .before .before .before .before .parse-block in
-    let b = c .before .before .before .before .before .before .before .before .before .before .before .before .before .before .before .before .before .b in
-    let perform-block = c .before .before .before .before .before .before .before .before .before .before .before .before .before .before .perform-block in
-    let size-of = c .before .before .before .before .before .before .before .before .before .before .size-of in
-    let link-to = c .before .before .before .before .before .before .before .before .before .link-to in
-    let write-block = c .before .before .before .before .before .before .write-block in
-    finished-length (turn-ends (loop .inv) (b .given .0 .0) (sym (parse-block .ensures) ∙ b .given .1) (perform-block .result) (perform-block .last .1 .1 .1 .1 .0) (perform-block .ensures) (perform-block .kept .1 .1 .1 .1 .0 ∙ loop .inv .going .memory-size) (take (loop .place) (loop .room) ++ ((write-block .last .1 .1 .1 .1 .0) ++ drop (length (loop .room) - (loop .place)) (drop (loop .place) (loop .room)))) (block-laid (loop .room) (write-block .last .1 .1 .1 .1 .0) (perform-block .last .1 .1 .1 .1 .0) (loop .place) ((perform-block .result) .answer) (link-to .result) ((b .given .0 .0) .next) (size-of .result) (size-of .ensures) (link-to .ensures) (write-block .ensures) ((perform-block .ensures) .within) (perform-block .kept .1 .1 .1 .1 .0 ∙ loop .inv .going .memory-size)
-    (let f = block-fits (loop .inv) (b .given .0 .0) (sym (parse-block .ensures) ∙ b .given .1) (perform-block .result) (perform-block .last .1 .1 .1 .1 .0) (perform-block .ensures) (perform-block .kept .1 .1 .1 .1 .0 ∙ loop .inv .going .memory-size) in let l = turn-length (loop .inv) in let n = loop .inv .enough in omega arith)) (sym (c .before .before .before .goes-on .ensures) ∙ c .before .enum-told2 .given .1)) (let m = loop .inv .most in let n = loop .inv .enough in omega arith)
+    let loop = c .before .before .before .before .before .before .before .before .before .before .before .before .before .before .before .loop in
+    let parse-block = c .before .before .before .before .before .before .before .before .before .before .before .before .before .before .parse-block in
+    let b = c .before .before .before .before .before .before .before .before .before .before .before .before .b in
+    let if1 = c .before .before .before .before .before .before .before .before .before .if1 in
+    let before = c .before .before .before .before .before .before .before .before .before in
+    let add-block = c .before .before .before .before .before .before .add-block in
+    finished-length (turn-ends (loop .inv) (b .given .0 .0) (sym (parse-block .ensures) ∙ b .given .1) (performed (if1 .answer) (if1 .t)) (if1 .memory) (given-here (before) .0) (given-here (before) .1) (add-block .last .1 .1 .1 .1 .0) (add-block .ensures .1) (sym (c .before .before .before .goes-on .ensures) ∙ c .before .enum-told2 .given .1)) (let m = loop .inv .most in let n = loop .inv .enough in omega arith)
 
 returns-2 : tie.Need-returns-2 Inv-loop μ-loop
 returns-2 c =
-    let loop = c .before .before .before .before .before .before .before .before .before .before .before .before .before .before .before .before .before .before .before .before .loop in
-    let parse-block = c .before .before .before .before .before .before .before .before .before .before .before .before .before .before .before .before .before .before .before .parse-block in
-    let b = c .before .before .before .before .before .before .before .before .before .before .before .before .before .before .before .before .before .b in
-    let perform-block = c .before .before .before .before .before .before .before .before .before .before .before .before .before .before .perform-block in
-    let size-of = c .before .before .before .before .before .before .before .before .before .before .size-of in
-    let link-to = c .before .before .before .before .before .before .before .before .before .link-to in
-    let write-block = c .before .before .before .before .before .before .write-block in
-    rw (c .status-after2 .ensures, size-of .ensures) (turn-ends (loop .inv) (b .given .0 .0) (sym (parse-block .ensures) ∙ b .given .1) (perform-block .result) (perform-block .last .1 .1 .1 .1 .0) (perform-block .ensures) (perform-block .kept .1 .1 .1 .1 .0 ∙ loop .inv .going .memory-size) (take (loop .place) (loop .room) ++ ((write-block .last .1 .1 .1 .1 .0) ++ drop (length (loop .room) - (loop .place)) (drop (loop .place) (loop .room)))) (block-laid (loop .room) (write-block .last .1 .1 .1 .1 .0) (perform-block .last .1 .1 .1 .1 .0) (loop .place) ((perform-block .result) .answer) (link-to .result) ((b .given .0 .0) .next) (size-of .result) (size-of .ensures) (link-to .ensures) (write-block .ensures) ((perform-block .ensures) .within) (perform-block .kept .1 .1 .1 .1 .0 ∙ loop .inv .going .memory-size)
-    (let f = block-fits (loop .inv) (b .given .0 .0) (sym (parse-block .ensures) ∙ b .given .1) (perform-block .result) (perform-block .last .1 .1 .1 .1 .0) (perform-block .ensures) (perform-block .kept .1 .1 .1 .1 .0 ∙ loop .inv .going .memory-size) in let l = turn-length (loop .inv) in let n = loop .inv .enough in omega arith)) (sym (c .before .before .before .goes-on .ensures) ∙ c .before .enum-told2 .given .1))
+    let loop = c .before .before .before .before .before .before .before .before .before .before .before .before .before .before .before .loop in
+    let parse-block = c .before .before .before .before .before .before .before .before .before .before .before .before .before .before .parse-block in
+    let b = c .before .before .before .before .before .before .before .before .before .before .before .before .b in
+    let if1 = c .before .before .before .before .before .before .before .before .before .if1 in
+    let before = c .before .before .before .before .before .before .before .before .before in
+    let add-block = c .before .before .before .before .before .before .add-block in
+    rw (c .status-after2 .ensures, add-block .ensures .0) (turn-ends (loop .inv) (b .given .0 .0) (sym (parse-block .ensures) ∙ b .given .1) (performed (if1 .answer) (if1 .t)) (if1 .memory) (given-here (before) .0) (given-here (before) .1) (add-block .last .1 .1 .1 .1 .0) (add-block .ensures .1) (sym (c .before .before .before .goes-on .ensures) ∙ c .before .enum-told2 .given .1))
 
 loop-less : tie.Need-loop-less Inv-loop μ-loop
 loop-less c =
-    let loop = c .before .before .before .before .before .before .before .before .before .before .before .before .before .before .before .before .before .before .before .before .loop in
-    let parse-block = c .before .before .before .before .before .before .before .before .before .before .before .before .before .before .before .before .before .before .before .parse-block in
-    let b = c .before .before .before .before .before .before .before .before .before .before .before .before .before .before .before .before .before .b in
-    let perform-block = c .before .before .before .before .before .before .before .before .before .before .before .before .before .before .perform-block in
-    turn-falls (loop .inv) (b .given .0 .0) (sym (parse-block .ensures) ∙ b .given .1) ((perform-block .result) .answer) (c .before .then .given .0 .0) (c .before .then .given .0 .1 .0) (sym (c .before .before .before .goes-on .ensures) ∙ c .before .then .given .1)
+    let loop = c .before .before .before .before .before .before .before .before .before .before .before .before .before .before .before .loop in
+    let parse-block = c .before .before .before .before .before .before .before .before .before .before .before .before .before .before .parse-block in
+    let b = c .before .before .before .before .before .before .before .before .before .before .before .before .b in
+    let if1 = c .before .before .before .before .before .before .before .before .before .if1 in
+    turn-falls (loop .inv) (b .given .0 .0) (sym (parse-block .ensures) ∙ b .given .1) (if1 .answer) (c .before .then .given .0 .0) (c .before .then .given .0 .1 .0) (sym (c .before .before .before .goes-on .ensures) ∙ c .before .then .given .1)
 
 loop-again : tie.Need-loop-again Inv-loop μ-loop
 loop-again c =
-    let loop = c .before .before .before .before .before .before .before .before .before .before .before .before .before .before .before .before .before .before .before .before .loop in
-    let parse-block = c .before .before .before .before .before .before .before .before .before .before .before .before .before .before .before .before .before .before .before .parse-block in
-    let b = c .before .before .before .before .before .before .before .before .before .before .before .before .before .before .before .before .before .b in
-    let perform-block = c .before .before .before .before .before .before .before .before .before .before .before .before .before .before .perform-block in
-    let size-of = c .before .before .before .before .before .before .before .before .before .before .size-of in
-    let link-to = c .before .before .before .before .before .before .before .before .before .link-to in
-    let write-block = c .before .before .before .before .before .before .write-block in
-    rw (size-of .ensures) (turn-goes (loop .inv) (b .given .0 .0) (sym (parse-block .ensures) ∙ b .given .1) (perform-block .result) (perform-block .last .1 .1 .1 .1 .0) (perform-block .ensures) (perform-block .kept .1 .1 .1 .1 .0 ∙ loop .inv .going .memory-size) (take (loop .place) (loop .room) ++ ((write-block .last .1 .1 .1 .1 .0) ++ drop (length (loop .room) - (loop .place)) (drop (loop .place) (loop .room)))) (block-laid (loop .room) (write-block .last .1 .1 .1 .1 .0) (perform-block .last .1 .1 .1 .1 .0) (loop .place) ((perform-block .result) .answer) (link-to .result) ((b .given .0 .0) .next) (size-of .result) (size-of .ensures) (link-to .ensures) (write-block .ensures) ((perform-block .ensures) .within) (perform-block .kept .1 .1 .1 .1 .0 ∙ loop .inv .going .memory-size)
-    (let f = block-fits (loop .inv) (b .given .0 .0) (sym (parse-block .ensures) ∙ b .given .1) (perform-block .result) (perform-block .last .1 .1 .1 .1 .0) (perform-block .ensures) (perform-block .kept .1 .1 .1 .1 .0 ∙ loop .inv .going .memory-size) in let l = turn-length (loop .inv) in let n = loop .inv .enough in omega arith)) (c .before .then .given .0 .0) (c .before .then .given .0 .1 .0) (sym (c .before .before .before .goes-on .ensures) ∙ c .before .then .given .1))
+    let loop = c .before .before .before .before .before .before .before .before .before .before .before .before .before .before .before .loop in
+    let parse-block = c .before .before .before .before .before .before .before .before .before .before .before .before .before .before .parse-block in
+    let b = c .before .before .before .before .before .before .before .before .before .before .before .before .b in
+    let if1 = c .before .before .before .before .before .before .before .before .before .if1 in
+    let before = c .before .before .before .before .before .before .before .before .before in
+    let add-block = c .before .before .before .before .before .before .add-block in
+    rw (add-block .ensures .0) (turn-goes (loop .inv) (b .given .0 .0) (sym (parse-block .ensures) ∙ b .given .1) (performed (if1 .answer) (if1 .t)) (if1 .memory) (given-here (before) .0) (given-here (before) .1) (add-block .last .1 .1 .1 .1 .0) (add-block .ensures .1) (c .before .then .given .0 .0) (c .before .then .given .0 .1 .0) (sym (c .before .before .before .goes-on .ensures) ∙ c .before .then .given .1))
 
 pub run-chain-spec : {M : Type 1} → statement M
 run-chain-spec =
@@ -174,14 +171,12 @@ run-chain-spec =
     same-length
     same-length-2
     returns
+    is-transfer-requires
+    transfer-block-requires
+    mul-t29
+    element-set-from-t
     perform-block-requires
-    size-of-requires
-    add-end
-    link-to-requires
-    sub-write-block
-    part-write-block-start
-    part-write-block-end
-    write-block-requires
+    add-block-requires
     goes-on-requires
     enum-known-then
     enum-told-2
