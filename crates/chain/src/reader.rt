@@ -3,7 +3,7 @@
 
 use crate::block::Next;
 use crate::block::Parsed;
-use crate::parse::parse_block;
+use crate::cursor::block_at;
 ghost use mathlib.Core.Path.{_≡_};
 ghost use Rattle.chain.specs.Chain.{blocksFrom};
 ghost use Rattle.chain.specs.Judged.{judged};
@@ -18,7 +18,7 @@ pub enum Chain {
 pub fn read_chain(s: &[u8], command: u8, at: usize) -> Chain
     ensures { λ r. ⌜ r ≡ judged (blocksFrom (now (s .entry)) command at) ⌝ }
 {
-    let Parsed::Whole(b) = parse_block(s, command, at) else {
+    let Parsed::Whole(b) = block_at(s, command, at) else {
         return Chain::NoSentence;
     };
     let next = b.next;

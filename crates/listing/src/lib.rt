@@ -3,8 +3,8 @@
 use chain::block::Block;
 use chain::block::Next;
 use chain::block::Parsed;
+use chain::cursor::block_at;
 use chain::header::is_dropped;
-use chain::parse::parse_block;
 use chain::reader::Chain;
 use chain::reader::read_chain;
 use text::put_byte;
@@ -39,7 +39,7 @@ fn put_blocks(s: &[u8], out: &mut [u8], at: usize, k: usize, command: u8, place:
     requires { ⌜ Sentence (now s) command place ⌝ }
     ensures { λ r. ⌜ Written (now (out .entry)) at (linesOf k (blocksFrom (now (s .entry)) command place)) (now (out .exit)) r ⌝ }
 {
-    let Parsed::Whole(b) = parse_block(s, command, place) else {
+    let Parsed::Whole(b) = block_at(s, command, place) else {
         return at;
     };
     let to = put_line(out, at, k, b);

@@ -4,7 +4,7 @@ use crate::step::goes_on;
 use crate::step::status_after;
 use chain::block::Next;
 use chain::block::Parsed;
-use chain::parse::parse_block;
+use chain::cursor::block_at;
 use commands::perform::is_transfer;
 use commands::perform::perform_block;
 use commands::perform::transfer_block;
@@ -80,7 +80,7 @@ pub(crate) fn run_chain(
     let mut at: usize = 32;
     let mut place: usize = 32;
     loop {
-        let Parsed::Whole(b) = parse_block(s, command, at) else {
+        let Parsed::Whole(b) = block_at(s, command, at) else {
             return Ended {
                 status: status_after(Answer::Refused(Refusal::NotSentence)),
                 length: place,

@@ -12,7 +12,7 @@ use borrow.Fn.PlainCycle.{Measures, is, falls, and}
 use Rattle.listing.proofs.put_blocks.Reads as put-blocks
 use Rattle.listing.proofs.put_blocks.Kinds as put-blocks-kinds
 use Rattle.listing.proofs.+put_blocks.Lts-put_blocks as put-blocks-lts
-use Rattle.chain.proofs.parse.parse_block.Reads as parse-block-reads
+use Rattle.chain.proofs.cursor.block_at.Reads as block-at-reads
 use Rattle.listing.proofs.put_line.Reads as put-line-reads
 use Rattle.text.proofs.put_text.Reads as put-text-reads
 use Rattle.listing.proofs.+put_blocks.{statement}
@@ -31,9 +31,9 @@ abbrev put-blocks-below : ℕ → In 2 put-blocks-kinds.ps
 put-blocks-below t =
     and 2 put-blocks-kinds.ps (falls 2 put-blocks-kinds.ps _<_ μ-put-blocks t) put-blocks.Pre
 
-put-blocks-parse-block-requires : (t : ℕ) → put-blocks-lts.Need-parse-block-requires (
-  parse-block-reads.Asked,
-  parse-block-reads.Learnt,
+put-blocks-block-at-requires : (t : ℕ) → put-blocks-lts.Need-block-at-requires (
+  block-at-reads.Asked,
+  block-at-reads.Learnt,
   put-line-reads.Asked,
   put-line-reads.Learnt,
   put-text-reads.Asked,
@@ -41,11 +41,11 @@ put-blocks-parse-block-requires : (t : ℕ) → put-blocks-lts.Need-parse-block-
   put-blocks-below t,
   put-blocks.Post,
 ) (put-blocks-at t) put-blocks.Post
-put-blocks-parse-block-requires t c κs = search needs
+put-blocks-block-at-requires t c κs = search needs
 
 put-blocks-enum-known-b : (t : ℕ) → put-blocks-lts.Need-enum-known-b (
-  parse-block-reads.Asked,
-  parse-block-reads.Learnt,
+  block-at-reads.Asked,
+  block-at-reads.Learnt,
   put-line-reads.Asked,
   put-line-reads.Learnt,
   put-text-reads.Asked,
@@ -56,8 +56,8 @@ put-blocks-enum-known-b : (t : ℕ) → put-blocks-lts.Need-enum-known-b (
 put-blocks-enum-known-b t c = search needs
 
 put-blocks-enum-told : (t : ℕ) → put-blocks-lts.Need-enum-told (
-  parse-block-reads.Asked,
-  parse-block-reads.Learnt,
+  block-at-reads.Asked,
+  block-at-reads.Learnt,
   put-line-reads.Asked,
   put-line-reads.Learnt,
   put-text-reads.Asked,
@@ -68,8 +68,8 @@ put-blocks-enum-told : (t : ℕ) → put-blocks-lts.Need-enum-told (
 put-blocks-enum-told t c = search needs
 
 put-blocks-returns : (t : ℕ) → put-blocks-lts.Need-returns (
-  parse-block-reads.Asked,
-  parse-block-reads.Learnt,
+  block-at-reads.Asked,
+  block-at-reads.Learnt,
   put-line-reads.Asked,
   put-line-reads.Learnt,
   put-text-reads.Asked,
@@ -77,11 +77,11 @@ put-blocks-returns : (t : ℕ) → put-blocks-lts.Need-returns (
   put-blocks-below t,
   put-blocks.Post,
 ) (put-blocks-at t) put-blocks.Post
-put-blocks-returns t c = rw (lines-refused (c .before .before .before .before .before .args .s .now) (c .before .before .before .before .before .args .command) (c .before .before .before .before .before .args .place) (c .before .before .before .before .before .args .k) (sym (c .before .before .parse-block .ensures) ∙ c .enum-told .given .1)) (written-nothing (c .before .before .before .before .before .args .out .now) (c .before .before .before .before .before .args .at))
+put-blocks-returns t c = rw (lines-refused (c .before .before .before .before .before .args .s .now) (c .before .before .before .before .before .args .command) (c .before .before .before .before .before .args .place) (c .before .before .before .before .before .args .k) (sym (c .before .before .block-at .ensures) ∙ c .enum-told .given .1)) (written-nothing (c .before .before .before .before .before .args .out .now) (c .before .before .before .before .before .args .at))
 
 put-blocks-put-line-requires : (t : ℕ) → put-blocks-lts.Need-put-line-requires (
-  parse-block-reads.Asked,
-  parse-block-reads.Learnt,
+  block-at-reads.Asked,
+  block-at-reads.Learnt,
   put-line-reads.Asked,
   put-line-reads.Learnt,
   put-text-reads.Asked,
@@ -92,8 +92,8 @@ put-blocks-put-line-requires : (t : ℕ) → put-blocks-lts.Need-put-line-requir
 put-blocks-put-line-requires t c κs = search needs
 
 put-blocks-enum-known-next : (t : ℕ) → put-blocks-lts.Need-enum-known-next (
-  parse-block-reads.Asked,
-  parse-block-reads.Learnt,
+  block-at-reads.Asked,
+  block-at-reads.Learnt,
   put-line-reads.Asked,
   put-line-reads.Learnt,
   put-text-reads.Asked,
@@ -104,8 +104,8 @@ put-blocks-enum-known-next : (t : ℕ) → put-blocks-lts.Need-enum-known-next (
 put-blocks-enum-known-next t c = search needs
 
 put-blocks-enum-told-2 : (t : ℕ) → put-blocks-lts.Need-enum-told-2 (
-  parse-block-reads.Asked,
-  parse-block-reads.Learnt,
+  block-at-reads.Asked,
+  block-at-reads.Learnt,
   put-line-reads.Asked,
   put-line-reads.Learnt,
   put-text-reads.Asked,
@@ -116,8 +116,8 @@ put-blocks-enum-told-2 : (t : ℕ) → put-blocks-lts.Need-enum-told-2 (
 put-blocks-enum-told-2 t c = search needs
 
 put-blocks-slice-aggregate-put-text : (t : ℕ) → put-blocks-lts.Need-slice-aggregate-put-text (
-  parse-block-reads.Asked,
-  parse-block-reads.Learnt,
+  block-at-reads.Asked,
+  block-at-reads.Learnt,
   put-line-reads.Asked,
   put-line-reads.Learnt,
   put-text-reads.Asked,
@@ -128,8 +128,8 @@ put-blocks-slice-aggregate-put-text : (t : ℕ) → put-blocks-lts.Need-slice-ag
 put-blocks-slice-aggregate-put-text t c = omega arith
 
 put-blocks-put-text-requires : (t : ℕ) → put-blocks-lts.Need-put-text-requires (
-  parse-block-reads.Asked,
-  parse-block-reads.Learnt,
+  block-at-reads.Asked,
+  block-at-reads.Learnt,
   put-line-reads.Asked,
   put-line-reads.Learnt,
   put-text-reads.Asked,
@@ -140,8 +140,8 @@ put-blocks-put-text-requires : (t : ℕ) → put-blocks-lts.Need-put-text-requir
 put-blocks-put-text-requires t c κs = search needs
 
 put-blocks-same-length : (t : ℕ) → put-blocks-lts.Need-same-length (
-  parse-block-reads.Asked,
-  parse-block-reads.Learnt,
+  block-at-reads.Asked,
+  block-at-reads.Learnt,
   put-line-reads.Asked,
   put-line-reads.Learnt,
   put-text-reads.Asked,
@@ -152,8 +152,8 @@ put-blocks-same-length : (t : ℕ) → put-blocks-lts.Need-same-length (
 put-blocks-same-length t c = written-length (written-then (c .before .before .before .before .before .before .before .before .before .put-line .ensures) (c .before .before .put-text .ensures))
 
 put-blocks-returns-2 : (t : ℕ) → put-blocks-lts.Need-returns-2 (
-  parse-block-reads.Asked,
-  parse-block-reads.Learnt,
+  block-at-reads.Asked,
+  block-at-reads.Learnt,
   put-line-reads.Asked,
   put-line-reads.Learnt,
   put-text-reads.Asked,
@@ -162,12 +162,12 @@ put-blocks-returns-2 : (t : ℕ) → put-blocks-lts.Need-returns-2 (
   put-blocks.Post,
 ) (put-blocks-at t) put-blocks.Post
 unfolding endLine
-put-blocks-returns-2 t c = rw (lines-end (c .before .before .before .before .before .before .before .before .before .before .before .before .before .before .before .before .before .args .s .now) (c .before .before .before .before .before .before .before .before .before .before .before .before .before .before .before .before .before .args .command) (c .before .before .before .before .before .before .before .before .before .before .before .before .before .before .before .before .before .args .place) (c .before .before .before .before .before .before .before .before .before .before .before .before .before .before .before .before .before .args .k) (c .before .before .before .before .before .before .before .before .before .before .before .before .b .given .0 .0) (sym (c .before .before .before .before .before .before .before .before .before .before .before .before .before .before .parse-block .ensures) ∙ c .before .before .before .before .before .before .before .before .before .before .before .before .b .given .1) (c .before .before .before .before .before .enum-told2 .given .1)) (written-then (c .before .before .before .before .before .before .before .before .before .put-line .ensures) (c .before .before .put-text .ensures))
+put-blocks-returns-2 t c = rw (lines-end (c .before .before .before .before .before .before .before .before .before .before .before .before .before .before .before .before .before .args .s .now) (c .before .before .before .before .before .before .before .before .before .before .before .before .before .before .before .before .before .args .command) (c .before .before .before .before .before .before .before .before .before .before .before .before .before .before .before .before .before .args .place) (c .before .before .before .before .before .before .before .before .before .before .before .before .before .before .before .before .before .args .k) (c .before .before .before .before .before .before .before .before .before .before .before .before .b .given .0 .0) (sym (c .before .before .before .before .before .before .before .before .before .before .before .before .before .before .block-at .ensures) ∙ c .before .before .before .before .before .before .before .before .before .before .before .before .b .given .1) (c .before .before .before .before .before .enum-told2 .given .1)) (written-then (c .before .before .before .before .before .before .before .before .before .put-line .ensures) (c .before .before .put-text .ensures))
 
 abbrev At-follower : ℕ → Type 0
 At-follower t = put-blocks-lts.After-put-blocks-arg (
-  parse-block-reads.Asked,
-  parse-block-reads.Learnt,
+  block-at-reads.Asked,
+  block-at-reads.Learnt,
   put-line-reads.Asked,
   put-line-reads.Learnt,
   put-text-reads.Asked,
@@ -179,11 +179,11 @@ At-follower t = put-blocks-lts.After-put-blocks-arg (
 -- the block that was read and its follower
 followed : (t : ℕ) (c : At-follower t)
     → Followed (c .before .before .before .before .before .before .before .before .before .before .before .before .before .before .args .s .now) (c .before .before .before .before .before .before .before .before .before .before .before .before .before .before .args .command) (c .before .before .before .before .before .before .before .before .before .before .before .before .before .before .args .place) (c .before .before .before .before .before .before .before .before .before .b .given .0 .0) (c .before .before .next .given .0 .0) (c .before .before .next .given .0 .1 .0)
-followed t c = record { chained = c .before .before .before .before .before .before .before .before .before .before .before .before .before .before .pre .1 .1; whole = sym (c .before .before .before .before .before .before .before .before .before .before .before .parse-block .ensures) ∙ c .before .before .before .before .before .before .before .before .before .b .given .1; follows = c .before .before .next .given .1 }
+followed t c = record { chained = c .before .before .before .before .before .before .before .before .before .before .before .before .before .before .pre .1 .1; whole = sym (c .before .before .before .before .before .before .before .before .before .before .before .block-at .ensures) ∙ c .before .before .before .before .before .before .before .before .before .b .given .1; follows = c .before .before .next .given .1 }
 
 put-blocks-add-put-blocks : (t : ℕ) → put-blocks-lts.Need-add-put-blocks (
-  parse-block-reads.Asked,
-  parse-block-reads.Learnt,
+  block-at-reads.Asked,
+  block-at-reads.Learnt,
   put-line-reads.Asked,
   put-line-reads.Learnt,
   put-text-reads.Asked,
@@ -197,8 +197,8 @@ put-blocks-add-put-blocks t c =
     record { fits = omega arith }
 
 put-blocks-put-blocks-requires : (t : ℕ) → put-blocks-lts.Need-put-blocks-requires (
-  parse-block-reads.Asked,
-  parse-block-reads.Learnt,
+  block-at-reads.Asked,
+  block-at-reads.Learnt,
   put-line-reads.Asked,
   put-line-reads.Learnt,
   put-text-reads.Asked,
@@ -210,8 +210,8 @@ put-blocks-put-blocks-requires t c κs =
     (rw (c .before .before .before .before .before .before .before .before .before .before .before .before .before .before .pre .0) at (left-falls (followed t c)), (count-more (followed t c) (c .before .before .before .before .before .before .before .before .before .before .before .before .before .before .args .k) (c .before .before .before .before .before .before .before .before .before .before .before .before .before .before .pre .1 .0), sentence-more (followed t c)))
 
 put-blocks-same-length-2 : (t : ℕ) → put-blocks-lts.Need-same-length-2 (
-  parse-block-reads.Asked,
-  parse-block-reads.Learnt,
+  block-at-reads.Asked,
+  block-at-reads.Learnt,
   put-line-reads.Asked,
   put-line-reads.Learnt,
   put-text-reads.Asked,
@@ -222,8 +222,8 @@ put-blocks-same-length-2 : (t : ℕ) → put-blocks-lts.Need-same-length-2 (
 put-blocks-same-length-2 t c = written-length (written-then (c .before .before .before .before .before .before .before .before .before .put-line .ensures) (c .before .before .put-blocks .ensures))
 
 put-blocks-returns-3 : (t : ℕ) → put-blocks-lts.Need-returns-3 (
-  parse-block-reads.Asked,
-  parse-block-reads.Learnt,
+  block-at-reads.Asked,
+  block-at-reads.Learnt,
   put-line-reads.Asked,
   put-line-reads.Learnt,
   put-text-reads.Asked,
@@ -235,8 +235,8 @@ put-blocks-returns-3 t c = rw (lines-more (followed t (c .before .before .before
 
 pub +put-blocks-spec : {M : Type 1} → statement M
 +put-blocks-spec = close μ-put-blocks λ t. put-blocks-lts.spec (
-  parse-block-reads.Asked,
-  parse-block-reads.Learnt,
+  block-at-reads.Asked,
+  block-at-reads.Learnt,
   put-line-reads.Asked,
   put-line-reads.Learnt,
   put-text-reads.Asked,
@@ -246,7 +246,7 @@ pub +put-blocks-spec : {M : Type 1} → statement M
 )
     (put-blocks-at t)
     put-blocks.Post
-    (put-blocks-parse-block-requires t)
+    (put-blocks-block-at-requires t)
     (put-blocks-enum-known-b t)
     (put-blocks-enum-told t)
     (put-blocks-returns t)

@@ -10,7 +10,7 @@ use borrow.Fn.PlainCycle.{Measures, is, falls, and}
 use Rattle.chain.proofs.reader.read_chain.Reads as read-chain
 use Rattle.chain.proofs.reader.read_chain.Kinds as read-chain-kinds
 use Rattle.chain.proofs.reader.+read_chain.Lts-read_chain as read-chain-lts
-use Rattle.chain.proofs.parse.parse_block.Reads as parse-block-reads
+use Rattle.chain.proofs.cursor.block_at.Reads as block-at-reads
 use Rattle.chain.proofs.reader.+read_chain.{statement}
 use Rattle.chain.proofs.reader.+read_chain.Tie.{close}
 use borrow.Author.Needs.{needs}
@@ -27,66 +27,66 @@ abbrev read-chain-below : ℕ → In 1 read-chain-kinds.ps
 read-chain-below t =
     and 1 read-chain-kinds.ps (falls 1 read-chain-kinds.ps _<_ μ-read-chain t) read-chain.Pre
 
-read-chain-parse-block-requires : (t : ℕ) → read-chain-lts.Need-parse-block-requires (
-  parse-block-reads.Asked,
-  parse-block-reads.Learnt,
+read-chain-block-at-requires : (t : ℕ) → read-chain-lts.Need-block-at-requires (
+  block-at-reads.Asked,
+  block-at-reads.Learnt,
   read-chain-below t,
   read-chain.Post,
 ) (read-chain-at t) read-chain.Post
-read-chain-parse-block-requires t c κs = search needs
+read-chain-block-at-requires t c κs = search needs
 
 read-chain-enum-known-b : (t : ℕ) → read-chain-lts.Need-enum-known-b (
-  parse-block-reads.Asked,
-  parse-block-reads.Learnt,
+  block-at-reads.Asked,
+  block-at-reads.Learnt,
   read-chain-below t,
   read-chain.Post,
 ) (read-chain-at t) read-chain.Post
 read-chain-enum-known-b t c = search needs
 
 read-chain-enum-told : (t : ℕ) → read-chain-lts.Need-enum-told (
-  parse-block-reads.Asked,
-  parse-block-reads.Learnt,
+  block-at-reads.Asked,
+  block-at-reads.Learnt,
   read-chain-below t,
   read-chain.Post,
 ) (read-chain-at t) read-chain.Post
 read-chain-enum-told t c = search needs
 
 read-chain-returns : (t : ℕ) → read-chain-lts.Need-returns (
-  parse-block-reads.Asked,
-  parse-block-reads.Learnt,
+  block-at-reads.Asked,
+  block-at-reads.Learnt,
   read-chain-below t,
   read-chain.Post,
 ) (read-chain-at t) read-chain.Post
-read-chain-returns t c = counted-refused (c .before .before .before .before .args .s .now) (c .before .before .before .before .args .command) (c .before .before .before .before .args .at) (sym (c .before .before .parse-block .ensures) ∙ c .enum-told .given .1)
+read-chain-returns t c = counted-refused (c .before .before .before .before .args .s .now) (c .before .before .before .before .args .command) (c .before .before .before .before .args .at) (sym (c .before .before .block-at .ensures) ∙ c .enum-told .given .1)
 
 read-chain-enum-known-next : (t : ℕ) → read-chain-lts.Need-enum-known-next (
-  parse-block-reads.Asked,
-  parse-block-reads.Learnt,
+  block-at-reads.Asked,
+  block-at-reads.Learnt,
   read-chain-below t,
   read-chain.Post,
 ) (read-chain-at t) read-chain.Post
 read-chain-enum-known-next t c = search needs
 
 read-chain-enum-told-2 : (t : ℕ) → read-chain-lts.Need-enum-told-2 (
-  parse-block-reads.Asked,
-  parse-block-reads.Learnt,
+  block-at-reads.Asked,
+  block-at-reads.Learnt,
   read-chain-below t,
   read-chain.Post,
 ) (read-chain-at t) read-chain.Post
 read-chain-enum-told-2 t c = search needs
 
 read-chain-returns-2 : (t : ℕ) → read-chain-lts.Need-returns-2 (
-  parse-block-reads.Asked,
-  parse-block-reads.Learnt,
+  block-at-reads.Asked,
+  block-at-reads.Learnt,
   read-chain-below t,
   read-chain.Post,
 ) (read-chain-at t) read-chain.Post
-read-chain-returns-2 t c = counted-end (c .before .before .before .before .before .before .before .args .s .now) (c .before .before .before .before .before .before .before .args .command) (c .before .before .before .before .before .before .before .args .at) (c .before .before .before .b .given .0 .0) (sym (c .before .before .before .before .before .parse-block .ensures) ∙ c .before .before .before .b .given .1) (c .enum-told2 .given .1)
+read-chain-returns-2 t c = counted-end (c .before .before .before .before .before .before .before .args .s .now) (c .before .before .before .before .before .before .before .args .command) (c .before .before .before .before .before .before .before .args .at) (c .before .before .before .b .given .0 .0) (sym (c .before .before .before .before .before .block-at .ensures) ∙ c .before .before .before .b .given .1) (c .enum-told2 .given .1)
 
 abbrev At-follower : ℕ → Type 0
 At-follower t = read-chain-lts.After-known-told2 (
-  parse-block-reads.Asked,
-  parse-block-reads.Learnt,
+  block-at-reads.Asked,
+  block-at-reads.Learnt,
   read-chain-below t,
   read-chain.Post,
 ) (read-chain-at t) read-chain.Post
@@ -94,43 +94,43 @@ At-follower t = read-chain-lts.After-known-told2 (
 -- the block that was read and its follower
 followed : (t : ℕ) (c : At-follower t)
     → Followed (c .before .before .before .before .before .before .before .before .args .s .now) (c .before .before .before .before .before .before .before .before .args .command) (c .before .before .before .before .before .before .before .before .args .at) (c .before .before .before .before .b .given .0 .0) (c .before .next .given .0 .0) (c .before .next .given .0 .1 .0)
-followed t c = record { whole = sym (c .before .before .before .before .before .before .parse-block .ensures) ∙ c .before .before .before .before .b .given .1; follows = c .before .next .given .1 }
+followed t c = record { whole = sym (c .before .before .before .before .before .before .block-at .ensures) ∙ c .before .before .before .before .b .given .1; follows = c .before .next .given .1 }
 
 read-chain-read-chain-requires : (t : ℕ) → read-chain-lts.Need-read-chain-requires (
-  parse-block-reads.Asked,
-  parse-block-reads.Learnt,
+  block-at-reads.Asked,
+  block-at-reads.Learnt,
   read-chain-below t,
   read-chain.Post,
 ) (read-chain-at t) read-chain.Post
 read-chain-read-chain-requires t c κs = (rw (c .before .before .before .before .before .before .before .before .pre .0) at (left-falls (followed t c)), tt)
 
 read-chain-enum-known-n : (t : ℕ) → read-chain-lts.Need-enum-known-n (
-  parse-block-reads.Asked,
-  parse-block-reads.Learnt,
+  block-at-reads.Asked,
+  block-at-reads.Learnt,
   read-chain-below t,
   read-chain.Post,
 ) (read-chain-at t) read-chain.Post
 read-chain-enum-known-n t c = search needs
 
 read-chain-enum-told-3 : (t : ℕ) → read-chain-lts.Need-enum-told-3 (
-  parse-block-reads.Asked,
-  parse-block-reads.Learnt,
+  block-at-reads.Asked,
+  block-at-reads.Learnt,
   read-chain-below t,
   read-chain.Post,
 ) (read-chain-at t) read-chain.Post
 read-chain-enum-told-3 t c = search needs
 
 read-chain-returns-3 : (t : ℕ) → read-chain-lts.Need-returns-3 (
-  parse-block-reads.Asked,
-  parse-block-reads.Learnt,
+  block-at-reads.Asked,
+  block-at-reads.Learnt,
   read-chain-below t,
   read-chain.Post,
 ) (read-chain-at t) read-chain.Post
 read-chain-returns-3 t c = counted-none (followed t (c .before .before .before)) (sym (c .enum-told3 .given .1) ∙ c .before .before .read-chain .ensures)
 
 read-chain-add-t11 : (t : ℕ) → read-chain-lts.Need-add-t11 (
-  parse-block-reads.Asked,
-  parse-block-reads.Learnt,
+  block-at-reads.Asked,
+  block-at-reads.Learnt,
   read-chain-below t,
   read-chain.Post,
 ) (read-chain-at t) read-chain.Post
@@ -140,8 +140,8 @@ read-chain-add-t11 t c =
     record { fits = omega arith }
 
 read-chain-returns-4 : (t : ℕ) → read-chain-lts.Need-returns-4 (
-  parse-block-reads.Asked,
-  parse-block-reads.Learnt,
+  block-at-reads.Asked,
+  block-at-reads.Learnt,
   read-chain-below t,
   read-chain.Post,
 ) (read-chain-at t) read-chain.Post
@@ -149,14 +149,14 @@ read-chain-returns-4 t c = counted-more (followed t (c .before .before .before .
 
 pub +read-chain-spec : {M : Type 1} → statement M
 +read-chain-spec = close μ-read-chain λ t. read-chain-lts.spec (
-  parse-block-reads.Asked,
-  parse-block-reads.Learnt,
+  block-at-reads.Asked,
+  block-at-reads.Learnt,
   read-chain-below t,
   read-chain.Post,
 )
     (read-chain-at t)
     read-chain.Post
-    (read-chain-parse-block-requires t)
+    (read-chain-block-at-requires t)
     (read-chain-enum-known-b t)
     (read-chain-enum-told t)
     (read-chain-returns t)

@@ -42,8 +42,8 @@ loop-holds c =
     let args = c .before .before .before .before .args in
     rw (c .byte-at .ensures) (turn-start (args .c) (args .s .now) (args .room .now) (args .tables) (args .memory .now) (pre .1 .1 .1 .1) (pre .0) (pre .1 .0) (pre .1 .1 .0) (pre .1 .1 .1 .0))
 
-parse-block-requires : tie.Need-parse-block-requires Inv-loop μ-loop
-parse-block-requires c κs = search needs
+block-at-requires : tie.Need-block-at-requires Inv-loop μ-loop
+block-at-requires c κs = search needs
 
 enum-known-b : tie.Need-enum-known-b Inv-loop μ-loop
 enum-known-b c = search needs
@@ -65,7 +65,7 @@ same-length-2 c =
 
 returns : tie.Need-returns Inv-loop μ-loop
 returns c =
-    absurd (turn-block (c .before .before .before .before .loop .inv) (sym (c .before .before .before .parse-block .ensures) ∙ c .before .enum-told .given .1))
+    absurd (turn-block (c .before .before .before .before .loop .inv) (sym (c .before .before .before .block-at .ensures) ∙ c .before .enum-told .given .1))
 
 is-transfer-requires : tie.Need-is-transfer-requires Inv-loop μ-loop
 is-transfer-requires c κs = search needs
@@ -73,9 +73,9 @@ is-transfer-requires c κs = search needs
 transfer-block-requires : tie.Need-transfer-block-requires Inv-loop μ-loop
 transfer-block-requires c κs =
     let loop = c .before .before .before .before .before .before .before .loop in
-    let parse-block = c .before .before .before .before .before .before .parse-block in
+    let block-at = c .before .before .before .before .before .before .block-at in
     let b = c .before .before .before .before .b in
-    (loop .inv .going .good, (loop .inv .going .memory-size, (turn-parse (loop .inv) (b .given .0 .0) (sym (parse-block .ensures) ∙ b .given .1), sym (c .before .before .is-transfer .ensures) ∙ c .before .if1 .taken)))
+    (loop .inv .going .good, (loop .inv .going .memory-size, (turn-parse (loop .inv) (b .given .0 .0) (sym (block-at .ensures) ∙ b .given .1), sym (c .before .before .is-transfer .ensures) ∙ c .before .if1 .taken)))
 
 mul-t29 : tie.Need-mul-t29 Inv-loop μ-loop
 mul-t29 c =
@@ -88,17 +88,17 @@ element-set-from-t c =
 perform-block-requires : tie.Need-perform-block-requires Inv-loop μ-loop
 perform-block-requires c κs =
     let loop = c .before .before .before .before .before .before .loop in
-    (loop .inv .going .good, (turn-parse (loop .inv) (c .before .before .before .b .given .0 .0) (sym (c .before .before .before .before .before .parse-block .ensures) ∙ c .before .before .before .b .given .1), sym (c .before .is-transfer .ensures) ∙ c .if1 .left))
+    (loop .inv .going .good, (turn-parse (loop .inv) (c .before .before .before .b .given .0 .0) (sym (c .before .before .before .before .before .block-at .ensures) ∙ c .before .before .before .b .given .1), sym (c .before .is-transfer .ensures) ∙ c .if1 .left))
 
 add-block-requires : tie.Need-add-block-requires Inv-loop μ-loop
 add-block-requires c κs =
     let loop = c .before .before .before .before .before .before .before .before .loop in
-    let parse-block = c .before .before .before .before .before .before .before .parse-block in
+    let block-at = c .before .before .before .before .before .before .before .block-at in
     let b = c .before .before .before .before .before .b in
     let if1 = c .before .before .if1 in
     let l = turn-length (loop .inv) in
     let n = loop .inv .enough in
-    (given-here (c .before .before) .1, (given-here (c .before .before) .0 .within, (block-fits (loop .inv) (b .given .0 .0) (sym (parse-block .ensures) ∙ b .given .1) (performed (if1 .answer) (if1 .t)) (if1 .memory) (given-here (c .before .before) .0) (given-here (c .before .before) .1), omega arith)))
+    (given-here (c .before .before) .1, (given-here (c .before .before) .0 .within, (block-fits (loop .inv) (b .given .0 .0) (sym (block-at .ensures) ∙ b .given .1) (performed (if1 .answer) (if1 .t)) (if1 .memory) (given-here (c .before .before) .0) (given-here (c .before .before) .1), omega arith)))
 
 goes-on-requires : tie.Need-goes-on-requires Inv-loop μ-loop
 goes-on-requires c κs = search needs
@@ -121,40 +121,40 @@ same-length-3 c =
 same-length-4 : tie.Need-same-length-4 Inv-loop μ-loop
 same-length-4 c =
     let loop = c .before .before .before .before .before .before .before .before .before .before .before .before .before .before .before .loop in
-    let parse-block = c .before .before .before .before .before .before .before .before .before .before .before .before .before .before .parse-block in
+    let block-at = c .before .before .before .before .before .before .before .before .before .before .before .before .before .before .block-at in
     let b = c .before .before .before .before .before .before .before .before .before .before .before .before .b in
     let if1 = c .before .before .before .before .before .before .before .before .before .if1 in
     let before = c .before .before .before .before .before .before .before .before .before in
     let add-block = c .before .before .before .before .before .before .add-block in
-    finished-length (turn-ends (loop .inv) (b .given .0 .0) (sym (parse-block .ensures) ∙ b .given .1) (performed (if1 .answer) (if1 .t)) (if1 .memory) (given-here (before) .0) (given-here (before) .1) (add-block .last .1 .1 .1 .1 .0) (add-block .ensures .1) (sym (c .before .before .before .goes-on .ensures) ∙ c .before .enum-told2 .given .1)) (let m = loop .inv .most in let n = loop .inv .enough in omega arith)
+    finished-length (turn-ends (loop .inv) (b .given .0 .0) (sym (block-at .ensures) ∙ b .given .1) (performed (if1 .answer) (if1 .t)) (if1 .memory) (given-here (before) .0) (given-here (before) .1) (add-block .last .1 .1 .1 .1 .0) (add-block .ensures .1) (sym (c .before .before .before .goes-on .ensures) ∙ c .before .enum-told2 .given .1)) (let m = loop .inv .most in let n = loop .inv .enough in omega arith)
 
 returns-2 : tie.Need-returns-2 Inv-loop μ-loop
 returns-2 c =
     let loop = c .before .before .before .before .before .before .before .before .before .before .before .before .before .before .before .loop in
-    let parse-block = c .before .before .before .before .before .before .before .before .before .before .before .before .before .before .parse-block in
+    let block-at = c .before .before .before .before .before .before .before .before .before .before .before .before .before .before .block-at in
     let b = c .before .before .before .before .before .before .before .before .before .before .before .before .b in
     let if1 = c .before .before .before .before .before .before .before .before .before .if1 in
     let before = c .before .before .before .before .before .before .before .before .before in
     let add-block = c .before .before .before .before .before .before .add-block in
-    rw (c .status-after2 .ensures, add-block .ensures .0) (turn-ends (loop .inv) (b .given .0 .0) (sym (parse-block .ensures) ∙ b .given .1) (performed (if1 .answer) (if1 .t)) (if1 .memory) (given-here (before) .0) (given-here (before) .1) (add-block .last .1 .1 .1 .1 .0) (add-block .ensures .1) (sym (c .before .before .before .goes-on .ensures) ∙ c .before .enum-told2 .given .1))
+    rw (c .status-after2 .ensures, add-block .ensures .0) (turn-ends (loop .inv) (b .given .0 .0) (sym (block-at .ensures) ∙ b .given .1) (performed (if1 .answer) (if1 .t)) (if1 .memory) (given-here (before) .0) (given-here (before) .1) (add-block .last .1 .1 .1 .1 .0) (add-block .ensures .1) (sym (c .before .before .before .goes-on .ensures) ∙ c .before .enum-told2 .given .1))
 
 loop-less : tie.Need-loop-less Inv-loop μ-loop
 loop-less c =
     let loop = c .before .before .before .before .before .before .before .before .before .before .before .before .before .before .before .loop in
-    let parse-block = c .before .before .before .before .before .before .before .before .before .before .before .before .before .before .parse-block in
+    let block-at = c .before .before .before .before .before .before .before .before .before .before .before .before .before .before .block-at in
     let b = c .before .before .before .before .before .before .before .before .before .before .before .before .b in
     let if1 = c .before .before .before .before .before .before .before .before .before .if1 in
-    turn-falls (loop .inv) (b .given .0 .0) (sym (parse-block .ensures) ∙ b .given .1) (if1 .answer) (c .before .then .given .0 .0) (c .before .then .given .0 .1 .0) (sym (c .before .before .before .goes-on .ensures) ∙ c .before .then .given .1)
+    turn-falls (loop .inv) (b .given .0 .0) (sym (block-at .ensures) ∙ b .given .1) (if1 .answer) (c .before .then .given .0 .0) (c .before .then .given .0 .1 .0) (sym (c .before .before .before .goes-on .ensures) ∙ c .before .then .given .1)
 
 loop-again : tie.Need-loop-again Inv-loop μ-loop
 loop-again c =
     let loop = c .before .before .before .before .before .before .before .before .before .before .before .before .before .before .before .loop in
-    let parse-block = c .before .before .before .before .before .before .before .before .before .before .before .before .before .before .parse-block in
+    let block-at = c .before .before .before .before .before .before .before .before .before .before .before .before .before .before .block-at in
     let b = c .before .before .before .before .before .before .before .before .before .before .before .before .b in
     let if1 = c .before .before .before .before .before .before .before .before .before .if1 in
     let before = c .before .before .before .before .before .before .before .before .before in
     let add-block = c .before .before .before .before .before .before .add-block in
-    rw (add-block .ensures .0) (turn-goes (loop .inv) (b .given .0 .0) (sym (parse-block .ensures) ∙ b .given .1) (performed (if1 .answer) (if1 .t)) (if1 .memory) (given-here (before) .0) (given-here (before) .1) (add-block .last .1 .1 .1 .1 .0) (add-block .ensures .1) (c .before .then .given .0 .0) (c .before .then .given .0 .1 .0) (sym (c .before .before .before .goes-on .ensures) ∙ c .before .then .given .1))
+    rw (add-block .ensures .0) (turn-goes (loop .inv) (b .given .0 .0) (sym (block-at .ensures) ∙ b .given .1) (performed (if1 .answer) (if1 .t)) (if1 .memory) (given-here (before) .0) (given-here (before) .1) (add-block .last .1 .1 .1 .1 .0) (add-block .ensures .1) (c .before .then .given .0 .0) (c .before .then .given .0 .1 .0) (sym (c .before .before .before .goes-on .ensures) ∙ c .before .then .given .1))
 
 pub run-chain-spec : {M : Type 1} → statement M
 run-chain-spec =
@@ -164,7 +164,7 @@ run-chain-spec =
     μ-loop
     byte-at-requires
     loop-holds
-    parse-block-requires
+    block-at-requires
     enum-known-b
     enum-told
     status-after-requires

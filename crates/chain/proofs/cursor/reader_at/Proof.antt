@@ -1,4 +1,4 @@
--- `cursor::reader_at` meets its contract: a walk of its MIR, by hand. A `MessageReader` is made of the slice and the place passed, in the result's local.
+-- `chain::cursor::reader_at` meets its contract: a walk of its MIR, by hand. A `MessageReader` is made of the slice and the place passed, in the result's local.
 -- A `&[u8]` is Copy, so what it owns is had twice: once for message at exit, and once inside the result, beside the facts of at.
 -- Assumes nothing.
 use mathlib.Core.Path.{refl}
@@ -34,13 +34,13 @@ use denote.Triple.Spec.{Meets, tripleOf}
 use denote.Triple.Table.{entered}
 use denote.Triple.Walked.{says, Stays, stay-none, stay-none-slice, walkOf, goes-none, goes-none-slice, Walks, ends-at, walked, walk-meets}
 use denote.Exit.{yes}
-use Rattle.cursor.specs.declared.MessageReader.{MessageReader}
-use Rattle.cursor.proofs.MessageReader as T
-use Rattle.cursor.proofs.MessageReader.Laws as T′
-use Rattle.cursor.proofs.reader_at.Key.{name as #cursor·reader-at}
-use Rattle.cursor.proofs.reader_at as reader-at
-use Rattle.cursor.proofs.reader_at.Statement as stated
-use Rattle.cursor.proofs.reader_at.Code as code
+use Rattle.chain.specs.declared.cursor.MessageReader.{MessageReader}
+use Rattle.chain.proofs.cursor.MessageReader as T
+use Rattle.chain.proofs.cursor.MessageReader.Laws as T′
+use Rattle.chain.proofs.cursor.reader_at.Key.{name as #cursor·reader-at}
+use Rattle.chain.proofs.cursor.reader_at as reader-at
+use Rattle.chain.proofs.cursor.reader_at.Statement as stated
+use Rattle.chain.proofs.cursor.reader_at.Code as code
 
 abbrev stayed : Stays (reader-at.ended .signature .params) (reader-at.ended .kept)
 stayed = (stay-none-slice (0 ∷ []) tt (plain (λ _. u8)) yes, (stay-none (λ _. usize) yes, tt))

@@ -1,11 +1,11 @@
-// The reader of a message: "a record that holds the message slice and a place" (document 01, "Layers"), thin over `chain::parse`.
+// The reader of a message: "a record that holds the message slice and a place" (document 01, "Layers"), thin over `parse`.
 // The borrow checker covers no function over such a record, so `reader_at`, `next_block` and `block_at` are proved by hand. Who calls `block_at`, whose
 // parameters are plain, needs no walk.
 
-use chain::block::Parsed;
-use chain::parse::parse_block;
+use crate::block::Parsed;
+use crate::parse::parse_block;
 ghost use mathlib.Core.Path.{_≡_};
 ghost use Rattle.chain.specs.Parse.{parse};
 
 pub struct MessageReader<'a> {
     pub message: &'a [u8],

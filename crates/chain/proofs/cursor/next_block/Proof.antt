@@ -1,4 +1,4 @@
--- `cursor::next_block` meets its contract: a walk of its MIR, by hand. The struct is taken apart, and `chain::parse::parse_block` is called on the slice, the command and the place. All that the proof knows of `parse_block` is that it meets its contract.
+-- `chain::cursor::next_block` meets its contract: a walk of its MIR, by hand. The struct is taken apart, and `chain::parse::parse_block` is called on the slice, the command and the place. All that the proof knows of `parse_block` is that it meets its contract.
 -- The struct is Copy: what it owns is had twice, one copy is kept whole for the exit, and of the other what message owns goes to the callee, beside the lifetime's token, which comes back. What the two numbers own is made anew.
 -- Assumes nothing.
 use mathlib.Core.Path.{_≡_, refl}
@@ -43,21 +43,21 @@ use denote.Triple.Table.{entered, cited}
 use denote.Triple.Walked.{says, Stays, stay-none, walkOf, goes-none, Walks, ends-at, walked, walk-meets}
 use denote.Exit.{yes}
 use denote.Triple.Clauses.{ensured, lasts}
 use Rattle.chain.specs.Parse.{parse}
 use Rattle.chain.specs.declared.block.Parsed.{Parsed}
 use Rattle.chain.proofs.block.Parsed as S
 use Rattle.chain.proofs.block.Parsed.Laws as S′
 use Rattle.chain.proofs.parse.parse_block as block
 use Rattle.chain.proofs.parse.parse_block.Symbol as block-def
 use Rattle.chain.proofs.parse.parse_block.Symbol.{name as #chain·parse·parse-block}
 use Rattle.chain.proofs.parse.parse_block.Met as block-thm
-use Rattle.cursor.specs.declared.MessageReader.{MessageReader}
-use Rattle.cursor.proofs.MessageReader as T
-use Rattle.cursor.proofs.MessageReader.Laws as T′
-use Rattle.cursor.proofs.next_block.Key.{name as #cursor·next-block}
-use Rattle.cursor.proofs.next_block as next
-use Rattle.cursor.proofs.next_block.Statement as stated
-use Rattle.cursor.proofs.next_block.Code as code
+use Rattle.chain.specs.declared.cursor.MessageReader.{MessageReader}
+use Rattle.chain.proofs.cursor.MessageReader as T
+use Rattle.chain.proofs.cursor.MessageReader.Laws as T′
+use Rattle.chain.proofs.cursor.next_block.Key.{name as #cursor·next-block}
+use Rattle.chain.proofs.cursor.next_block as next
+use Rattle.chain.proofs.cursor.next_block.Statement as stated
+use Rattle.chain.proofs.cursor.next_block.Code as code
 
 -- the struct's type, over the signature's lifetimes
 abbrev B : Lfts 1 → RattleType

@@ -1,4 +1,4 @@
--- `cursor::block_at` meets its contract: a walk of its MIR, by hand. A `MessageReader` that one call returns is held in a local and passed to the next, with the command. All that the proof knows of `reader_at` and of `next_block` is that each meets its contract.
+-- `chain::cursor::block_at` meets its contract: a walk of its MIR, by hand. A `MessageReader` that one call returns is held in a local and passed to the next, with the command. All that the proof knows of `reader_at` and of `next_block` is that each meets its contract.
 -- The machine value that `reader_at` returns is stored and passed on as it is. In a local of a body MIR erases the lifetime of the struct's type, so the value is shown to have the type at `erased`: what the struct owns does not say the lifetime's name.
 -- Assumes nothing.
 use mathlib.Core.Path.{_≡_, refl, ap, _∙_}
@@ -38,25 +38,25 @@ use denote.Triple.Table.{entered, cited}
 use denote.Triple.Walked.{says, Stays, stay-none, stay-none-slice, walkOf, goes-none, goes-none-slice, Walks, ends-at, walked, walk-meets}
 use denote.Exit.{yes}
 use denote.Triple.Clauses.{ensured, lasts}
 use Rattle.chain.specs.Parse.{parse}
 use Rattle.chain.specs.declared.block.Parsed.{Parsed}
 use Rattle.chain.proofs.block.Parsed as S
 use Rattle.chain.proofs.block.Parsed.Laws as S′
-use Rattle.cursor.specs.declared.MessageReader.{MessageReader}
-use Rattle.cursor.proofs.MessageReader as T
-use Rattle.cursor.proofs.MessageReader.Laws as T′
-use Rattle.cursor.proofs.reader_at as new
-use Rattle.cursor.proofs.reader_at.Symbol as new-def
-use Rattle.cursor.proofs.reader_at.Symbol.{name as #cursor·reader-at}
-use Rattle.cursor.proofs.reader_at.Met as new-thm
-use Rattle.cursor.proofs.next_block as next
-use Rattle.cursor.proofs.next_block.Symbol as next-def
-use Rattle.cursor.proofs.next_block.Symbol.{name as #cursor·next-block}
-use Rattle.cursor.proofs.next_block.Met as next-thm
-use Rattle.cursor.proofs.block_at.Key.{name as #cursor·block-at}
-use Rattle.cursor.proofs.block_at as block-at
-use Rattle.cursor.proofs.block_at.Statement as stated
-use Rattle.cursor.proofs.block_at.Code as code
+use Rattle.chain.specs.declared.cursor.MessageReader.{MessageReader}
+use Rattle.chain.proofs.cursor.MessageReader as T
+use Rattle.chain.proofs.cursor.MessageReader.Laws as T′
+use Rattle.chain.proofs.cursor.reader_at as new
+use Rattle.chain.proofs.cursor.reader_at.Symbol as new-def
+use Rattle.chain.proofs.cursor.reader_at.Symbol.{name as #cursor·reader-at}
+use Rattle.chain.proofs.cursor.reader_at.Met as new-thm
+use Rattle.chain.proofs.cursor.next_block as next
+use Rattle.chain.proofs.cursor.next_block.Symbol as next-def
+use Rattle.chain.proofs.cursor.next_block.Symbol.{name as #cursor·next-block}
+use Rattle.chain.proofs.cursor.next_block.Met as next-thm
+use Rattle.chain.proofs.cursor.block_at.Key.{name as #cursor·block-at}
+use Rattle.chain.proofs.cursor.block_at as block-at
+use Rattle.chain.proofs.cursor.block_at.Statement as stated
+use Rattle.chain.proofs.cursor.block_at.Code as code
 
 -- the struct's type, over the signature's lifetimes
 abbrev B : Lfts 1 → RattleType
@@ -175,5 +175,5 @@ block-at-spec 𝓤 H 𝓜 𝓖 𝓡 =
     entered 𝓤 H (tripleOf 𝓤 H (𝓖 .A) block-at.signature (block-at.spec 𝓤 H (𝓖 .A) (𝓜 .mem) (𝓡 .run)))
     (tables 𝓤 H 𝓜 𝓡 code.env .C) (tables 𝓤 H 𝓜 𝓡 code.env .Λ) #cursor·block-at code.function (code.unfolded 𝓤 H 𝓜 𝓡)
     (block-at-meets 𝓤 H (𝓖 .A) (givenOf 𝓤 H 𝓜 𝓖) (𝓜 .mem) (𝓡 .run) (tablesOf 𝓤 H 𝓜 (tables 𝓤 H 𝓜 𝓡 code.env))
-    (cited 𝓤 H (New 𝓤 H (𝓖 .A) (𝓜 .mem) (𝓡 .run)) 𝓜 𝓡 code.env #cursor·reader-at new-def.routine code.calls-cursor·reader-at (new-thm.met 𝓤 H 𝓜 𝓖 𝓡))
-    (cited 𝓤 H (Next 𝓤 H (𝓖 .A) (𝓜 .mem) (𝓡 .run)) 𝓜 𝓡 code.env #cursor·next-block next-def.routine code.calls-cursor·next-block (next-thm.met 𝓤 H 𝓜 𝓖 𝓡)))
+    (cited 𝓤 H (New 𝓤 H (𝓖 .A) (𝓜 .mem) (𝓡 .run)) 𝓜 𝓡 code.env #cursor·reader-at new-def.routine code.calls-chain·cursor·reader-at (new-thm.met 𝓤 H 𝓜 𝓖 𝓡))
+    (cited 𝓤 H (Next 𝓤 H (𝓖 .A) (𝓜 .mem) (𝓡 .run)) 𝓜 𝓡 code.env #cursor·next-block next-def.routine code.calls-chain·cursor·next-block (next-thm.met 𝓤 H 𝓜 𝓖 𝓡)))
