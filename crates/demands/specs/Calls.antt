@@ -35,16 +35,24 @@ status-replied s room r small =
     let e : r .status .code % 256 + 256 * (r .status .code / 256 % 256) ≡ r .status .code = omega arith in
     ap (λ (n : ℕ). record { class = r .status .class; code = n }) e
 
+-- so the call's reply has the status of what was answered
+pub status-call : (connection : ℕ) (s : List ℕ) (t : Tables) (memory room : List ℕ) → Fit s t memory room
+    → statusRead (take-message connection s t memory room .room) ≡ answered connection s t memory .status
+unfolding replied
+status-call connection s t memory room f =
+    ap (λ (k : Taken). statusRead (k .room)) (fit-answered connection s t memory room f)
+    ∙ status-replied s room (answered connection s t memory) (answered-small connection s t memory)
+
 -- "A message fit to be answered that begins with a known command is answered as malformed exactly if it is not a sentence": "Answered as malformed: 0,
 -- Status 2/1"
 pub malformed-call : (connection : ℕ) (s : List ℕ) (t : Tables) (memory room : List ℕ) → Fit s t memory room → served (headerCommand s) ≡ true
     → ((take-message connection s t memory room .number ≡ 0) × (statusRead (take-message connection s t memory room .room) ≡ status 2 1)) ↔ (Sentence s → ⊥)
 unfolding replied
 malformed-call connection s t memory room f e =
-    let fit : take-message connection s t memory room ≡ replied s room (answered connection s t memory) = fit-answered connection s t memory room f in
-    let same : statusRead (take-message connection s t memory room .room) ≡ answered connection s t memory .status =
-    ap (λ (k : Taken). statusRead (k .room)) fit ∙ status-replied s room (answered connection s t memory) (answered-small connection s t memory) in
-    (λ h. malformed connection s t memory e .0 (sym same ∙ h .1), λ n. (ap (λ (k : Taken). k .number) fit, same ∙ malformed connection s t memory e .1 n))
+    let same : statusRead (take-message connection s t memory room .room) ≡ answered connection s t memory .status = status-call connection s t memory room f in (
+      λ h. malformed connection s t memory e .0 (sym same ∙ h .1),
+      λ n. (ap (λ (k : Taken). k .number) (fit-answered connection s t memory room f), same ∙ malformed connection s t memory e .1 n),
+    )
 
 -- "This is a single claim about the whole list of blocks": of any reading its blocks are those sent
 pub reading-one-by-one : (connection : ℕ) (s : List ℕ) {spans : List Span} → Reading s spans → (t : Tables) (memory room small : List ℕ) → Good t → Fit s t memory room

@@ -15,3 +15,4 @@ pub mod MemorySize
 pub mod Taken
 pub mod CallsOneByOne
 pub mod Calls
+pub mod LoneCall

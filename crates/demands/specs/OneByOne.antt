@@ -273,7 +273,7 @@ one-by-one-from {s} connection (chained-more {command} {at} {c} {a} {rest} h l r
     (sym (alone-answered connection (Follow c a) t memory h from small))
 
 -- the header's command of a sentence is served
-chained-served : {s : List ℕ} {command at : ℕ} {bs : List Block} → Chained s command at bs → served command ≡ true
+pub chained-served : {s : List ℕ} {command at : ℕ} {bs : List Block} → Chained s command at bs → served command ≡ true
 chained-served (chained-end h l) = served-true (block-served h)
 chained-served (chained-more h l r) = served-true (block-served h)
 

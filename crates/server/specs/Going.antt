@@ -32,6 +32,7 @@ use Rattle.message.specs.declared.answer.Answer.the-variants.{Refused, Locked, 
 use Rattle.demands.specs.Sound.{Good, keeps-good, perform-keeps}
 use Rattle.demands.specs.ReplySize.{length-block}
 use Rattle.reply.specs.Links.{linkFor}
+use Rattle.reply.specs.BlockLaws.{length-yielded, read-inside}
 use Rattle.server.specs.Step.{statusAfter, goesOn}
 
 -- ---- a chain at its first block
@@ -86,11 +87,6 @@ record Says (a : Answer) (memory : List ℕ) : Type 0 where
   pub size : answerSize a ≡ replySize said
   pub status-is : statusAfter a ≡ status 0 0
   pub next-is : (n : Next) → goesOn a n ≡ n
-
-read-size : (place count : ℕ) (memory : List ℕ) → length memory ≡ 65536 → leb (place + count) 65536 ≡ true → 27 + count ≡ 27 + length (take count (drop place memory))
-read-size place count memory m e =
-    let h : place + count ≤ 65536 = leb-true (place + count) 65536 e in
-    rw (length-take, length-drop) (omega arith)
 
 -- ---- what a chain's head gives
 
@@ -193,7 +189,7 @@ kind (Read place count) memory i m =
       said = read (take count (drop place memory));
       given = λ t. refl;
       block = λ p l. refl;
-      size = read-size place count memory m i;
+      size = ap (λ (n : ℕ). 27 + n) (sym (length-yielded memory place count (let h = read-inside (Read place count) place count refl i in omega arith)));
       status-is = refl;
       next-is = λ n. refl;
     })
