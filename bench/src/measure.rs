@@ -12,9 +12,9 @@
 //! another process has the processor. The result is the median of the rounds.
 
 use crate::clock::thread_time;
-use linked as gateway;
 use crate::requests::Request;
 use crate::scene::Scene;
+use linked as gateway;
 use second::message::{take_message, ROOM_BYTES};
 use second::words::{self, Words};
 use std::hint::black_box;
@@ -76,29 +76,30 @@ pub fn by_library(
     (number, length)
 }
 
-/// So many calls of the library, the tables restored before each.
-fn library_calls<'a>(scene: &'a Scene, message: &'a [u8]) -> impl FnMut(usize) + 'a {
-    let (mut words, mut lent) = (scene.words, Lent::new(scene));
-    move |calls| {
-        for _ in 0..calls {
-            words.copy_from_slice(black_box(&scene.words));
-            let (connection, message) = (scene.asker.connection, black_box(message));
-            let Lent { memory, room } = &mut lent;
-            black_box(by_library(&mut words, connection, message, memory, room));
-        }
-    }
+/// A call of the second program over the words.
+fn by_second(
+    words: &mut Words,
+    connection: u32,
+    message: &[u8],
+    memory: &mut [u8],
+    room: &mut [u8],
+) -> (u8, usize) {
+    let length = words::take_message(words, connection, message, memory, room);
+    (0, length.unwrap())
 }
 
-/// So many calls of the second program over the words.
-fn words_calls<'a>(scene: &'a Scene, message: &'a [u8]) -> impl FnMut(usize) + 'a {
+/// A program's call over words, message, file memory and room.
+type Call = fn(&mut Words, u32, &[u8], &mut [u8], &mut [u8]) -> (u8, usize);
+
+/// So many calls over the words, which are restored before each.
+fn words_calls<'a>(scene: &'a Scene, message: &'a [u8], call: Call) -> impl FnMut(usize) + 'a {
     let (mut words, mut lent) = (scene.words, Lent::new(scene));
     move |calls| {
         for _ in 0..calls {
             words.copy_from_slice(black_box(&scene.words));
             let (connection, message) = (scene.asker.connection, black_box(message));
             let Lent { memory, room } = &mut lent;
-            let taken = words::take_message(&mut words, connection, message, memory, room);
-            black_box(taken).unwrap();
+            black_box(call(&mut words, connection, message, memory, room));
         }
     }
 }
@@ -179,20 +180,21 @@ fn in_turns(rounds: usize, batches: Vec<Batch>) -> Vec<f64> {
 /// measured.
 fn check(scene: &Scene, request: &Request) {
     let (connection, message) = (scene.asker.connection, &request.bytes);
-    let (
-        mut words,
-        Lent {
-            mut memory,
-            mut room,
-        },
-    ) = (scene.words, Lent::new(scene));
-    let given = by_library(&mut words, connection, message, &mut memory, &mut room);
-    let (mut own, mut lent) = (scene.words, Lent::new(scene));
-    let Lent { memory: m, room: r } = &mut lent;
-    let length = words::take_message(&mut own, connection, message, m, r).unwrap();
-    let same = given == (0, length) && (words, memory, &room) == (own, lent.memory, &lent.room);
+    let called = |call: Call| {
+        let (mut words, mut lent) = (scene.words, Lent::new(scene));
+        let Lent { memory, room } = &mut lent;
+        let given = call(&mut words, connection, message, memory, room);
+        (given, words, lent)
+    };
+    let (given, words, lent) = called(by_library);
+    let (own_given, own_words, own) = called(by_second);
+    let same = given == own_given
+        && (words, &lent.memory, &lent.room) == (own_words, &own.memory, &own.room);
     assert!(same, "the programs differ: {}", request.name);
-    let status = (room[5], u16::from_le_bytes([room[7], room[8]]));
+    let status = (
+        lent.room[5],
+        u16::from_le_bytes([lent.room[7], lent.room[8]]),
+    );
     assert_eq!(status, request.status, "{}", request.name);
 }
 
@@ -201,8 +203,8 @@ pub fn cost(scene: &Scene, request: &Request, rounds: usize) -> Cost {
     check(scene, request);
     let message = &request.bytes;
     let batches: Vec<Batch> = vec![
-        Box::new(library_calls(scene, message)),
-        Box::new(words_calls(scene, message)),
+        Box::new(words_calls(scene, message, by_library)),
+        Box::new(words_calls(scene, message, by_second)),
         Box::new(own_calls(scene, message)),
         Box::new(words_restored(scene)),
         Box::new(own_restored(scene)),
@@ -221,8 +223,8 @@ pub fn costs(scene: &Scene, requests: &[Request], rounds: usize) -> Vec<(f64, f6
     let mut batches: Vec<Batch> = vec![Box::new(words_restored(scene))];
     for request in requests {
         check(scene, request);
-        batches.push(Box::new(library_calls(scene, &request.bytes)));
-        batches.push(Box::new(words_calls(scene, &request.bytes)));
+        batches.push(Box::new(words_calls(scene, &request.bytes, by_library)));
+        batches.push(Box::new(words_calls(scene, &request.bytes, by_second)));
     }
     let times = in_turns(rounds, batches);
     let net = |pair: &[f64]| (pair[0] - times[0], pair[1] - times[0]);

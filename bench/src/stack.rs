@@ -1,18 +1,10 @@
 //! How much stack a call uses: it is made on a thread whose stack was filled
 //! with a pattern, and the deepest byte that no longer has it is looked for.
 
+use linked::guarded::Guarded;
 use std::ffi::c_void;
 
 extern "C" {
-    fn mmap(
-        address: *mut c_void,
-        length: usize,
-        protection: i32,
-        flags: i32,
-        file: i32,
-        offset: i64,
-    ) -> *mut c_void;
-    fn mprotect(address: *mut c_void, length: usize, protection: i32) -> i32;
     fn pthread_attr_init(attributes: *mut Attributes) -> i32;
     fn pthread_attr_setstack(attributes: *mut Attributes, start: *mut c_void, size: usize) -> i32;
     fn pthread_attr_destroy(attributes: *mut Attributes) -> i32;
@@ -29,16 +21,12 @@ extern "C" {
 #[repr(C)]
 struct Attributes([u64; 16]);
 
-const PAGE: usize = 4096;
 const SIZE: usize = 16 << 20;
 const PATTERN: u64 = 0xA5C3_96E1_5A3C_691E;
-const PROT_NONE: i32 = 0;
-const PROT_READ_WRITE: i32 = 3;
-const MAP_PRIVATE_ANONYMOUS: i32 = 0x22;
 
-/// A stack with a page below it that can't be touched.
+/// A stack between two pages that can't be touched.
 pub struct Stack {
-    start: *mut u64,
+    room: Guarded,
 }
 
 /// What the thread does, and where its stack stood when it began to.
@@ -58,22 +46,13 @@ extern "C" fn start(job: *mut c_void) -> *mut c_void {
 
 impl Stack {
     pub fn new() -> Stack {
-        // SAFETY: a fresh mapping, whose first page is then closed.
-        unsafe {
-            let all = mmap(
-                std::ptr::null_mut(),
-                SIZE + PAGE,
-                PROT_READ_WRITE,
-                MAP_PRIVATE_ANONYMOUS,
-                -1,
-                0,
-            );
-            assert!(all as isize != -1, "mmap");
-            assert_eq!(mprotect(all, PAGE, PROT_NONE), 0);
-            Stack {
-                start: all.cast::<u8>().add(PAGE).cast(),
-            }
+        Stack {
+            room: Guarded::new(SIZE),
         }
+    }
+
+    fn start(&self) -> *mut u64 {
+        self.room.start().cast()
     }
 
     /// Bytes of stack that the call uses. It is made once before, so that
@@ -81,13 +60,13 @@ impl Stack {
     pub fn used(&mut self, call: &mut dyn FnMut()) -> usize {
         call();
         // SAFETY: the mapping has SIZE bytes, and no thread runs on it now.
-        let words = unsafe { std::slice::from_raw_parts_mut(self.start, SIZE / 8) };
+        let words = unsafe { std::slice::from_raw_parts_mut(self.start(), SIZE / 8) };
         words.fill(PATTERN);
         let entry = self.run(call);
         // SAFETY: the thread has ended.
-        let words = unsafe { std::slice::from_raw_parts(self.start, SIZE / 8) };
+        let words = unsafe { std::slice::from_raw_parts(self.start(), SIZE / 8) };
         let untouched = words.iter().take_while(|word| **word == PATTERN).count();
-        entry - (self.start as usize + 8 * untouched)
+        entry - (self.start() as usize + 8 * untouched)
     }
 
     fn run(&mut self, call: &mut dyn FnMut()) -> usize {
@@ -98,7 +77,7 @@ impl Stack {
         // waited for here.
         unsafe {
             assert_eq!(pthread_attr_init(&mut attributes), 0);
-            let stack = self.start.cast();
+            let stack = self.start().cast();
             assert_eq!(pthread_attr_setstack(&mut attributes, stack, SIZE), 0);
             let argument = (&raw mut job).cast();
             let made = pthread_create(&mut thread, &attributes, start, argument);

@@ -50,6 +50,16 @@ pub enum Ask {
     ProcessExit,
 }
 
+/// A LOCKING block of these ranges.
+pub fn locking(fid: u16, kind: u8, unlocks: &[Asked], locks: &[Asked]) -> Ask {
+    Ask::Locking {
+        fid,
+        kind,
+        unlocks: unlocks.to_vec(),
+        locks: locks.to_vec(),
+    }
+}
+
 impl Ask {
     pub fn command(&self) -> u8 {
         match self {

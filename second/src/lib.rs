@@ -8,6 +8,7 @@
 #![forbid(unsafe_code)]
 
 pub mod builder;
+pub mod call;
 pub mod commands;
 pub mod grammar;
 pub mod host;

@@ -118,6 +118,16 @@ impl Form {
     }
 }
 
+/// The successions of "May be followed by".
+pub const SUCCESSIONS: [(u8, u8); 6] = [
+    (LOCKING_ANDX, READ_ANDX),
+    (LOCKING_ANDX, WRITE_ANDX),
+    (READ_ANDX, CLOSE),
+    (WRITE_ANDX, WRITE_ANDX),
+    (WRITE_ANDX, READ_ANDX),
+    (WRITE_ANDX, CLOSE),
+];
+
 /// Places in a block, counted from its WordCount.
 const ANDX_COMMAND: usize = 1;
 const ANDX_OFFSET: usize = 3;

@@ -2,8 +2,8 @@
 
 mod common;
 
-use common::{hex, lock, locking, read, share, status, unlock, write, World};
-use second::builder::Ask;
+use common::{hex, lock, read, share, status, unlock, write, World};
+use second::builder::{locking, Ask};
 use second::host;
 use second::messages::worked;
 use second::refusals::CallRefusal;

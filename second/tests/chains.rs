@@ -3,7 +3,7 @@
 mod common;
 
 use common::{hex, lock, read, status, write, World};
-use second::builder::{Ask, Header};
+use second::builder::{locking, Ask, Header};
 use second::grammar::{blocks, Block, WRITE_ANDX};
 use second::host;
 use second::rng::Rng;
@@ -157,7 +157,7 @@ fn random_ask(rng: &mut Rng, follows: Option<&Ask>) -> Ask {
         _ => &[3],
     };
     match rng.pick(kinds) {
-        0 => common::locking(
+        0 => locking(
             fid,
             rng.pick(&[0, 1, 0x10, 0x11, 2]),
             &[(7, offset, 4)][..rng.below(2)],

@@ -1,88 +1,80 @@
-//! One call, and how either program makes it.
+//! One call, what it is lent, and how either program makes it.
 
 use linked as gateway;
-use second::refusals::{number, Outcome};
-use second::words::{self, Words};
+use second::call::Call;
+use second::refusals::number;
+use second::words::Words;
 
-#[derive(Clone, Debug, PartialEq, Eq)]
-pub enum Call {
+/// What is asked of both programs.
+#[derive(Clone, Debug)]
+pub enum Trial {
+    /// Tables to start from.
     Empty,
-    AddSession {
-        connection: u32,
-    },
-    AddTree {
-        uid: u16,
-        right: u8,
-    },
-    AddOpen {
-        uid: u16,
-        tid: u16,
-        process: u32,
-        file: u8,
-        access: u8,
-    },
-    LoadFile {
-        file: u8,
-        contents: Vec<u8>,
+    Call {
+        call: Call,
         /// Another length of the file memory.
         memory: Option<usize>,
-    },
-    DropConnection {
-        connection: u32,
-    },
-    TakeMessage {
-        connection: u32,
-        message: Vec<u8>,
-        /// Another length of the file memory.
-        memory: Option<usize>,
+        /// Bytes of reply room.
         room: usize,
     },
 }
 
-impl Call {
+impl Trial {
+    /// A call that is lent no reply room, and the file memory at most.
+    pub fn plain(call: Call) -> Trial {
+        Trial::Call {
+            call,
+            memory: None,
+            room: 0,
+        }
+    }
+
     pub fn name(&self) -> &'static str {
+        match self.call() {
+            None => "empty",
+            Some(Call::AddSession { .. }) => "add_session",
+            Some(Call::AddTree { .. }) => "add_tree",
+            Some(Call::AddOpen { .. }) => "add_open",
+            Some(Call::LoadFile { .. }) => "load_file",
+            Some(Call::DropConnection { .. }) => "drop_connection",
+            Some(Call::TakeMessage { .. }) => "take_message",
+        }
+    }
+
+    pub fn call(&self) -> Option<&Call> {
         match self {
-            Call::Empty => "empty",
-            Call::AddSession { .. } => "add_session",
-            Call::AddTree { .. } => "add_tree",
-            Call::AddOpen { .. } => "add_open",
-            Call::LoadFile { .. } => "load_file",
-            Call::DropConnection { .. } => "drop_connection",
-            Call::TakeMessage { .. } => "take_message",
+            Trial::Empty => None,
+            Trial::Call { call, .. } => Some(call),
         }
     }
 
     /// The message, or the contents to load.
     pub fn input(&self) -> &[u8] {
-        match self {
-            Call::LoadFile { contents, .. } => contents,
-            Call::TakeMessage { message, .. } => message,
-            _ => &[],
-        }
+        self.call().map_or(&[], Call::input)
     }
 
     /// Another length of the file memory.
     pub fn other_memory(&self) -> Option<usize> {
         match self {
-            Call::LoadFile { memory, .. } | Call::TakeMessage { memory, .. } => *memory,
-            _ => None,
+            Trial::Empty => None,
+            Trial::Call { memory, .. } => *memory,
         }
     }
 
     /// Bytes of reply room.
     pub fn room(&self) -> usize {
         match self {
-            Call::TakeMessage { room, .. } => *room,
-            _ => 0,
+            Trial::Empty => 0,
+            Trial::Call { room, .. } => *room,
         }
     }
 
     /// Bytes of the parameter for a number given: a UID, TID, FID, or the
     /// reply's length.
     pub fn out_bytes(&self) -> usize {
-        match self {
-            Call::AddSession { .. } | Call::AddTree { .. } | Call::AddOpen { .. } => 2,
-            Call::TakeMessage { .. } => 8,
+        match self.call() {
+            Some(Call::AddSession { .. } | Call::AddTree { .. } | Call::AddOpen { .. }) => 2,
+            Some(Call::TakeMessage { .. }) => 8,
             _ => 0,
         }
     }
@@ -90,59 +82,29 @@ impl Call {
 
 /// What a call works on besides its arguments.
 pub struct Places<'p> {
+    /// A copy of the call's input, for the library.
     pub input: &'p [u8],
     pub memory: &'p mut [u8],
     pub room: &'p mut [u8],
     pub out: &'p mut [u8],
 }
 
-fn put_out<T>(outcome: Outcome<T>, out: &mut [u8], bytes: impl Fn(T) -> Vec<u8>) -> u8 {
-    let given = number(&outcome);
-    if let Ok(value) = outcome {
-        out.copy_from_slice(&bytes(value));
-    }
-    given
-}
-
 /// Makes the call by this package's own program. Gives its number.
-pub fn own(call: &Call, tables: &mut Words, places: Places) -> u8 {
-    let Places {
-        input,
-        memory,
-        room,
-        out,
-    } = places;
-    let of_u16 = |number: u16| number.to_ne_bytes().to_vec();
-    match *call {
-        Call::Empty => {
-            tables.fill(0);
-            0
-        }
-        Call::AddSession { connection } => {
-            put_out(words::add_session(tables, connection), out, of_u16)
-        }
-        Call::AddTree { uid, right } => put_out(words::add_tree(tables, uid, right), out, of_u16),
-        Call::AddOpen {
-            uid,
-            tid,
-            process,
-            file,
-            access,
-        } => {
-            let outcome = words::add_open(tables, uid, tid, process, file, access);
-            put_out(outcome, out, of_u16)
-        }
-        Call::LoadFile { file, .. } => number(&words::load_file(tables, file, input, memory)),
-        Call::DropConnection { connection } => number(&words::drop_connection(tables, connection)),
-        Call::TakeMessage { connection, .. } => {
-            let outcome = words::take_message(tables, connection, input, memory, room);
-            put_out(outcome, out, |length| length.to_ne_bytes().to_vec())
-        }
+pub fn own(trial: &Trial, tables: &mut Words, places: Places) -> u8 {
+    let Some(call) = trial.call() else {
+        tables.fill(0);
+        return 0;
+    };
+    let outcome = call.make(tables, places.memory, places.room);
+    if let Ok(value) = outcome {
+        let bytes = &value.to_le_bytes()[..places.out.len()];
+        places.out.copy_from_slice(bytes);
     }
+    number(&outcome)
 }
 
 /// Makes the call by the library. Gives its number.
-pub fn theirs(call: &Call, tables: &mut [u8], places: Places) -> u8 {
+pub fn theirs(trial: &Trial, tables: &mut [u8], places: Places) -> u8 {
     let Places {
         input,
         memory,
@@ -154,11 +116,11 @@ pub fn theirs(call: &Call, tables: &mut [u8], places: Places) -> u8 {
     // SAFETY: the pointers are to whole slices, aligned for their types, and
     // the lengths are theirs.
     unsafe {
+        let Some(call) = trial.call() else {
+            gateway::gateway_empty(tables);
+            return 0;
+        };
         match *call {
-            Call::Empty => {
-                gateway::gateway_empty(tables);
-                0
-            }
             Call::AddSession { connection } => {
                 gateway::gateway_add_session(tables, connection, out.cast())
             }

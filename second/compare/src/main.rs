@@ -8,14 +8,13 @@
 mod call;
 mod crash;
 mod damage;
-mod guarded;
 mod plan;
 mod report;
 mod sides;
 mod tally;
 
-use call::Call;
-use guarded::Side;
+use call::Trial;
+use linked::guarded::Side;
 use plan::Planner;
 use second::rng::Rng;
 use second::tables::Tables;
@@ -39,16 +38,16 @@ struct Run {
 
 impl Run {
     /// A call on both sides, counted.
-    fn make(&mut self, call: &Call) -> Result<u8, String> {
+    fn make(&mut self, trial: &Trial) -> Result<u8, String> {
         crash::CALL.store(self.tally.calls, Ordering::Relaxed);
         if self.show == Some(self.tally.calls) {
             println!("call {}:", self.tally.calls);
-            println!("{}", report::described(call, &self.sides.words));
+            println!("{}", report::described(trial, &self.sides.words));
         }
         let side = self.planner.rng.pick(&[Side::Start, Side::End]);
         let shift = self.planner.rng.below(4096);
-        let given = self.sides.make(call, side, shift)?;
-        self.tally.count(call, given, &self.sides.room);
+        let given = self.sides.make(trial, side, shift)?;
+        self.tally.count(trial, given, &self.sides.room);
         Ok(given.number)
     }
 
@@ -57,7 +56,7 @@ impl Run {
         self.tally.histories += 1;
         let words = &mut self.sides.words;
         words.fill_with(|| self.planner.rng.number());
-        self.make(&Call::Empty)?;
+        self.make(&Trial::Empty)?;
         if self.planner.rng.below(2) == 0 {
             damage::litter(&mut self.sides.words, &mut self.planner.rng);
         }
@@ -73,8 +72,8 @@ impl Run {
         if self.planner.rng.below(20) == 0 {
             return self.step_on_damaged(&tables);
         }
-        let call = self.planner.next(&tables);
-        self.make(&call)?;
+        let trial = self.planner.next(&tables);
+        self.make(&trial)?;
         self.tally.count_tables(&self.sides.words);
         Ok(())
     }
@@ -82,7 +81,7 @@ impl Run {
     /// A call on damaged tables. Of the damage only what leaves them sound
     /// stays.
     fn step_on_damaged(&mut self, tables: &Tables) -> Result<(), String> {
-        let call = match self.planner.rng.below(3) {
+        let trial = match self.planner.rng.below(3) {
             0 => self.planner.any(tables),
             _ => self.planner.next(tables),
         };
@@ -90,7 +89,7 @@ impl Run {
         for _ in 0..1 + self.planner.rng.below(2) {
             damage::damage(&mut self.sides.words, &mut self.planner.rng);
         }
-        self.make(&call)?;
+        self.make(&trial)?;
         self.tally.damaged += 1;
         if unpack(&self.sides.words).is_some_and(|tables| tables.sound()) {
             self.tally.damaged_but_sound += 1;

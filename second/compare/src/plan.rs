@@ -1,9 +1,10 @@
 //! Plans the calls: mostly plausible ones for the tables as they are, so
 //! that every answer is met often, with errors and damage mixed in.
 
-use crate::call::Call;
+use crate::call::Trial;
 use crate::sides::LARGEST;
 use second::builder::{message, Ask, Asked, Header};
+use second::call::Call;
 use second::grammar::blocks;
 use second::listing::dropped;
 use second::message::ROOM_BYTES;
@@ -112,7 +113,7 @@ impl Planner {
     }
 
     /// The next call for these tables.
-    pub fn next(&mut self, tables: &Tables) -> Call {
+    pub fn next(&mut self, tables: &Tables) -> Trial {
         if self.left == 0 {
             self.mood = self.rng.pick(&[
                 Mood::Grow,
@@ -130,22 +131,22 @@ impl Planner {
     }
 
     /// A call of any kind, one as often as the other.
-    pub fn any(&mut self, tables: &Tables) -> Call {
+    pub fn any(&mut self, tables: &Tables) -> Trial {
         let kind = self.rng.below(6);
         self.call(kind, tables)
     }
 
-    fn call(&mut self, kind: usize, tables: &Tables) -> Call {
+    fn call(&mut self, kind: usize, tables: &Tables) -> Trial {
         match kind {
-            0 => Call::AddSession {
+            0 => Trial::plain(Call::AddSession {
                 connection: self.connection(),
-            },
+            }),
             1 => self.add_tree(tables),
             2 => self.add_open(tables),
             3 => self.load_file(tables),
-            4 => Call::DropConnection {
+            4 => Trial::plain(Call::DropConnection {
                 connection: self.connection(),
-            },
+            }),
             _ => self.take_message(tables),
         }
     }
@@ -170,7 +171,7 @@ impl Planner {
         self.rng.pick(&CONNECTIONS)
     }
 
-    fn add_tree(&mut self, tables: &Tables) -> Call {
+    fn add_tree(&mut self, tables: &Tables) -> Trial {
         let sessions = tables.sessions.in_use();
         let uid = match sessions.is_empty() || self.once_in(12) {
             true => self.any_number(),
@@ -178,10 +179,10 @@ impl Planner {
         };
         let right = self.rng.pick(&[0, 1, 1, 1, 1]);
         let right = self.seldom(right, &[2, 3, 255]);
-        Call::AddTree { uid, right }
+        Trial::plain(Call::AddTree { uid, right })
     }
 
-    fn add_open(&mut self, tables: &Tables) -> Call {
+    fn add_open(&mut self, tables: &Tables) -> Trial {
         let trees = tables.trees.in_use();
         let (mut uid, mut tid) = (self.any_number(), self.any_number());
         if !trees.is_empty() {
@@ -199,16 +200,16 @@ impl Planner {
         let file = self.seldom(file, &[16, 17, 128, 255, any_file, any_file]);
         let access = self.rng.pick(&[0, 1, 2, 2, 2]);
         let low = u32::from(self.rng.pick(&PROCESSES));
-        Call::AddOpen {
+        Trial::plain(Call::AddOpen {
             uid,
             tid,
             process: self.rng.pick(&[low, low, low, low + 0x1_0000, u32::MAX]),
             file,
             access: self.seldom(access, &[3, 4, 255]),
-        }
+        })
     }
 
-    fn load_file(&mut self, tables: &Tables) -> Call {
+    fn load_file(&mut self, tables: &Tables) -> Trial {
         let any = self.rng.below(16) as u8;
         let opens = tables.opens.in_use();
         let unopened = (0..16).find(|&file| opens.iter().all(|open| open.file != file));
@@ -217,10 +218,13 @@ impl Planner {
         let length = self
             .rng
             .pick(&[small, small, small, 0, 4095, 4096, 4096, 4097, 9000]);
-        Call::LoadFile {
-            file: self.seldom(file, &[16, 17, 255]),
-            contents: self.rng.bytes(length),
+        Trial::Call {
+            call: Call::LoadFile {
+                file: self.seldom(file, &[16, 17, 255]),
+                contents: self.rng.bytes(length),
+            },
             memory: self.memory_length(),
+            room: 0,
         }
     }
 
@@ -254,7 +258,7 @@ impl Planner {
         }
     }
 
-    fn take_message(&mut self, tables: &Tables) -> Call {
+    fn take_message(&mut self, tables: &Tables) -> Trial {
         let scene = self.scene(tables);
         let mut message = if self.once_in(25) {
             self.listed_message(&scene)
@@ -265,9 +269,11 @@ impl Planner {
         if message.len() >= 35 && self.once_in(14) {
             self.damage(&mut message);
         }
-        Call::TakeMessage {
-            connection: scene.connection,
-            message,
+        Trial::Call {
+            call: Call::TakeMessage {
+                connection: scene.connection,
+                message,
+            },
             memory: self.memory_length(),
             room: self.room_length(),
         }

@@ -1,7 +1,8 @@
 //! What is said of a difference.
 
-use crate::call::Call;
-use crate::guarded::Side;
+use crate::call::Trial;
+use linked::guarded::Side;
+use second::call::Call;
 use second::listing::{answer, Answer};
 use second::request::{Ranges, Request};
 use second::words::{Words, WORDS};
@@ -91,36 +92,33 @@ pub fn hex(bytes: &[u8]) -> String {
 }
 
 /// What differs, then the call and the tables before it.
-pub fn whole(call: &Call, side: Side, before: &Words, differences: &[String]) -> String {
+pub fn whole(trial: &Trial, side: Side, before: &Words, differences: &[String]) -> String {
     let mut text = "differences (second program first):\n".to_string();
     for line in differences {
         text += &format!("  {line}\n");
     }
     text += &format!("buffers against the guard page at their {side:?}\n");
-    text + &described(call, before)
+    text + &described(trial, before)
 }
 
 /// A call and the tables that it gets.
-pub fn described(call: &Call, before: &Words) -> String {
-    let input = call.input();
-    let mut text = match call {
-        Call::LoadFile { file, memory, .. } => format!(
+pub fn described(trial: &Trial, before: &Words) -> String {
+    let input = trial.input();
+    let (memory, room) = (trial.other_memory(), trial.room());
+    let mut text = match trial.call() {
+        Some(Call::LoadFile { file, .. }) => format!(
             "load_file: file {file}, {} bytes, memory {memory:?}\n{}\n",
             input.len(),
             hex(input)
         ),
-        Call::TakeMessage {
-            connection,
-            memory,
-            room,
-            ..
-        } => format!(
+        Some(Call::TakeMessage { connection, .. }) => format!(
             "take_message: connection {connection}, {} bytes, memory {memory:?}, room {room}\n{}{}\n",
             input.len(),
             explained(input),
             hex(input)
         ),
-        other => format!("{other:?}\n"),
+        Some(other) => format!("{other:?}\n"),
+        None => "empty\n".to_string(),
     };
     text += "tables before, records and counts that are not 0:\n";
     text + &records(before)

@@ -1,8 +1,8 @@
 //! Both programs side by side: the state of each, and a call made on both.
 
-use crate::call::{own, theirs, Call, Places};
-use crate::guarded::{Guarded, Side};
+use crate::call::{own, theirs, Places, Trial};
 use crate::report;
+use linked::guarded::{Guarded, Side};
 use second::rng::Rng;
 use second::tables::MEMORY_BYTES;
 use second::words::{Words, WORDS};
@@ -51,22 +51,22 @@ impl Sides {
     /// Makes the call on both sides and compares everything. The error is a
     /// report. The library's places are against the side; what is prefilled
     /// is so from place `shift` of the pattern.
-    pub fn make(&mut self, call: &Call, side: Side, shift: usize) -> Result<Given, String> {
+    pub fn make(&mut self, trial: &Trial, side: Side, shift: usize) -> Result<Given, String> {
         let before = self.words;
-        self.prefill(call, shift);
-        let their_number = self.make_theirs(call, side);
-        let number = self.make_own(call);
-        let mut differences = self.differences(call, side);
+        self.prefill(trial, shift);
+        let their_number = self.make_theirs(trial, side);
+        let number = self.make_own(trial);
+        let mut differences = self.differences(trial, side);
         if number != their_number {
             differences.insert(0, format!("number: {number}, library's {their_number}"));
-        } else if !differences.is_empty() && call.room() > 9 {
-            let room = self.library.room.place(call.room(), side);
+        } else if !differences.is_empty() && trial.room() > 9 {
+            let room = self.library.room.place(trial.room(), side);
             let status = |reply: &[u8]| (reply[5], u16::from_le_bytes([reply[7], reply[8]]));
             let (own, theirs) = (status(&self.room), status(room));
             differences.insert(0, format!("status: {own:?}, library's {theirs:?}"));
         }
         if !differences.is_empty() {
-            return Err(report::whole(call, side, &before, &differences));
+            return Err(report::whole(trial, side, &before, &differences));
         }
         let mut value = [0; 8];
         value[..self.out.len()].copy_from_slice(&self.out);
@@ -76,12 +76,12 @@ impl Sides {
         })
     }
 
-    fn prefill(&mut self, call: &Call, shift: usize) {
+    fn prefill(&mut self, trial: &Trial, shift: usize) {
         let filling = &self.pattern[shift..];
-        let odd = call.other_memory().unwrap_or(0);
+        let odd = trial.other_memory().unwrap_or(0);
         for (bytes, length) in [
-            (&mut self.room, call.room()),
-            (&mut self.out, call.out_bytes()),
+            (&mut self.room, trial.room()),
+            (&mut self.out, trial.out_bytes()),
             (&mut self.odd_memory, odd),
         ] {
             bytes.clear();
@@ -90,38 +90,38 @@ impl Sides {
     }
 
     /// By the library, on copies of what the second program gets.
-    fn make_theirs(&mut self, call: &Call, side: Side) -> u8 {
+    fn make_theirs(&mut self, trial: &Trial, side: Side) -> u8 {
         let library = &mut self.library;
         let tables = library.tables.place(TABLE_BYTES, side);
         put_words(&self.words, tables);
         let places = Places {
-            input: library.input.put(call.input(), side),
-            memory: match call.other_memory() {
+            input: library.input.put(trial.input(), side),
+            memory: match trial.other_memory() {
                 None => library.memory.place(MEMORY_BYTES, side),
                 Some(_) => library.odd_memory.put(&self.odd_memory, side),
             },
             room: library.room.put(&self.room, side),
             out: library.out.put(&self.out, side),
         };
-        theirs(call, tables, places)
+        theirs(trial, tables, places)
     }
 
-    fn make_own(&mut self, call: &Call) -> u8 {
+    fn make_own(&mut self, trial: &Trial) -> u8 {
         let places = Places {
-            input: call.input(),
-            memory: match call.other_memory() {
+            input: trial.input(),
+            memory: match trial.other_memory() {
                 None => &mut self.memory,
                 Some(_) => &mut self.odd_memory,
             },
             room: &mut self.room,
             out: &mut self.out,
         };
-        own(call, &mut self.words, places)
+        own(trial, &mut self.words, places)
     }
 
     /// What differs after a call: tables, out parameter, room and memory, and
     /// the input, which nobody may write.
-    fn differences(&mut self, call: &Call, side: Side) -> Vec<String> {
+    fn differences(&mut self, trial: &Trial, side: Side) -> Vec<String> {
         let library = &mut self.library;
         let mut words = [0; WORDS];
         get_words(library.tables.place(TABLE_BYTES, side), &mut words);
@@ -133,7 +133,7 @@ impl Sides {
         compare("reply room", &self.room, &mut library.room);
         compare("file memory", &self.memory, &mut library.memory);
         compare("odd memory", &self.odd_memory, &mut library.odd_memory);
-        compare("input", call.input(), &mut library.input);
+        compare("input", trial.input(), &mut library.input);
         found
     }
 }

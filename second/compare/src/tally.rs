@@ -1,7 +1,8 @@
 //! Counts what was met, and says what was not met often enough.
 
-use crate::call::Call;
+use crate::call::Trial;
 use crate::sides::Given;
+use second::call::Call;
 use second::grammar::SERVED;
 use second::refusals::WireRefusal;
 use std::collections::BTreeMap;
@@ -71,10 +72,13 @@ fn length_class(blocks: usize) -> &'static str {
 }
 
 impl Tally {
-    pub fn count(&mut self, call: &Call, given: Given, reply: &[u8]) {
+    pub fn count(&mut self, trial: &Trial, given: Given, reply: &[u8]) {
         self.calls += 1;
-        *self.numbers.entry((call.name(), given.number)).or_default() += 1;
-        if let (Call::TakeMessage { message, .. }, 0) = (call, given.number) {
+        *self
+            .numbers
+            .entry((trial.name(), given.number))
+            .or_default() += 1;
+        if let (Some(Call::TakeMessage { message, .. }), 0) = (trial.call(), given.number) {
             self.count_reply(message, &reply[..given.value]);
         }
     }

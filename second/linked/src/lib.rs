@@ -1,4 +1,7 @@
-//! The library's functions, as its C header declares them.
+//! The library's functions, as its C header declares them, and memory to lend
+//! it.
+
+pub mod guarded;
 
 #[link(name = "gateway", kind = "static")]
 extern "C" {

@@ -11,7 +11,7 @@ use second::grammar::{
     TREE_DISCONNECT, WRITE_ANDX,
 };
 use second::listing::{answer, listing, text, Answer, Dropped};
-use second::messages::{all, Made};
+use second::messages::{all, Made, SUCCESSIONS};
 use std::collections::{BTreeMap, BTreeSet};
 use std::io::{ErrorKind, Read, Write};
 use std::process::{Command, ExitCode, Stdio};
@@ -277,14 +277,7 @@ fn check_own(messages: &[Made]) -> bool {
     for ((first, next), count) in &successions {
         println!("  {first:02X} {next:02X}: {count}");
     }
-    for pair in [
-        (LOCKING_ANDX, READ_ANDX),
-        (LOCKING_ANDX, WRITE_ANDX),
-        (READ_ANDX, CLOSE),
-        (WRITE_ANDX, WRITE_ANDX),
-        (WRITE_ANDX, READ_ANDX),
-        (WRITE_ANDX, CLOSE),
-    ] {
+    for pair in SUCCESSIONS {
         let count = successions.get(&pair).copied().unwrap_or(0);
         good &= met(count, &format!("succession {pair:02X?}"));
     }

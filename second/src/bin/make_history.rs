@@ -26,7 +26,7 @@ mod plan;
 #[path = "make_history/tally.rs"]
 mod tally;
 
-use calls::{Call, State};
+use calls::{decode, State};
 use maker::Maker;
 use std::process::ExitCode;
 
@@ -100,7 +100,7 @@ fn replay(mut history: &[u8]) -> Option<String> {
     let mut state = State::new();
     let mut lines = String::new();
     while !history.is_empty() {
-        let call = Call::decode(&mut history)?;
+        let call = decode(&mut history)?;
         let answer = state.make(&call);
         lines += &state.line(&answer);
     }

@@ -1,7 +1,7 @@
 //! A small gateway to try messages on.
 #![allow(dead_code)]
 
-use second::builder::{message, Ask, Asked, Header};
+use second::builder::{locking, message, Ask, Asked, Header};
 use second::host;
 use second::message::{take_message, ROOM_BYTES};
 use second::refusals::Outcome;
@@ -97,15 +97,6 @@ pub fn share(fid: u16, ranges: &[Asked]) -> Ask {
 
 pub fn unlock(fid: u16, ranges: &[Asked]) -> Ask {
     locking(fid, 0x10, ranges, &[])
-}
-
-pub fn locking(fid: u16, kind: u8, unlocks: &[Asked], locks: &[Asked]) -> Ask {
-    Ask::Locking {
-        fid,
-        kind,
-        unlocks: unlocks.to_vec(),
-        locks: locks.to_vec(),
-    }
 }
 
 pub fn read(fid: u16, offset: u64, max: u16) -> Ask {

@@ -1,119 +1,89 @@
-//! A call, its bytes in a history, and the line of its answer.
+//! A call's bytes in a history, and the line of its answer.
 
+use second::call::Call;
 use second::message::ROOM_BYTES;
-use second::refusals::{number, Outcome};
+use second::refusals::number;
 use second::tables::MEMORY_BYTES;
-use second::words::{self, Words, WORDS};
+use second::words::{Words, WORDS};
 
 /// The digest counts modulo this prime.
 const P: u64 = 4_294_967_291;
 
-#[derive(Clone, Debug, PartialEq, Eq)]
-pub enum Call {
-    AddSession {
-        connection: u32,
-    },
-    AddTree {
-        uid: u16,
-        right: u8,
-    },
-    AddOpen {
-        uid: u16,
-        tid: u16,
-        process: u32,
-        file: u8,
-        access: u8,
-    },
-    Load {
-        file: u8,
-        contents: Vec<u8>,
-    },
-    Drop {
-        connection: u32,
-    },
-    Take {
-        connection: u32,
-        message: Vec<u8>,
-    },
-}
-
-impl Call {
-    /// Puts the call's bytes behind a history.
-    pub fn encode(&self, history: &mut Vec<u8>) {
-        match self {
-            Call::AddSession { connection } => {
-                history.push(1);
-                history.extend(connection.to_le_bytes());
-            }
-            Call::AddTree { uid, right } => {
-                history.push(2);
-                history.extend(uid.to_le_bytes());
-                history.push(*right);
-            }
-            Call::AddOpen {
-                uid,
-                tid,
-                process,
-                file,
-                access,
-            } => {
-                history.push(3);
-                history.extend(uid.to_le_bytes());
-                history.extend(tid.to_le_bytes());
-                history.extend(process.to_le_bytes());
-                history.extend([*file, *access]);
-            }
-            Call::Load { file, contents } => {
-                history.extend([4, *file]);
-                put_counted(history, contents);
-            }
-            Call::Drop { connection } => {
-                history.push(5);
-                history.extend(connection.to_le_bytes());
-            }
-            Call::Take {
-                connection,
-                message,
-            } => {
-                history.push(6);
-                history.extend(connection.to_le_bytes());
-                put_counted(history, message);
-            }
+/// Puts the call's bytes behind a history.
+pub fn encode(call: &Call, history: &mut Vec<u8>) {
+    match call {
+        Call::AddSession { connection } => {
+            history.push(1);
+            history.extend(connection.to_le_bytes());
+        }
+        Call::AddTree { uid, right } => {
+            history.push(2);
+            history.extend(uid.to_le_bytes());
+            history.push(*right);
+        }
+        Call::AddOpen {
+            uid,
+            tid,
+            process,
+            file,
+            access,
+        } => {
+            history.push(3);
+            history.extend(uid.to_le_bytes());
+            history.extend(tid.to_le_bytes());
+            history.extend(process.to_le_bytes());
+            history.extend([*file, *access]);
+        }
+        Call::LoadFile { file, contents } => {
+            history.extend([4, *file]);
+            put_counted(history, contents);
+        }
+        Call::DropConnection { connection } => {
+            history.push(5);
+            history.extend(connection.to_le_bytes());
+        }
+        Call::TakeMessage {
+            connection,
+            message,
+        } => {
+            history.push(6);
+            history.extend(connection.to_le_bytes());
+            put_counted(history, message);
         }
     }
+}
 
-    /// Reads a call from the front of a history, which moves on behind it.
-    pub fn decode(history: &mut &[u8]) -> Option<Call> {
-        let [kind] = take_array(history)?;
-        Some(match kind {
-            1 => Call::AddSession {
-                connection: take_u32(history)?,
-            },
-            2 => Call::AddTree {
-                uid: take_u16(history)?,
-                right: take_u8(history)?,
-            },
-            3 => Call::AddOpen {
-                uid: take_u16(history)?,
-                tid: take_u16(history)?,
-                process: take_u32(history)?,
-                file: take_u8(history)?,
-                access: take_u8(history)?,
-            },
-            4 => Call::Load {
-                file: take_u8(history)?,
-                contents: take_counted(history)?,
-            },
-            5 => Call::Drop {
-                connection: take_u32(history)?,
-            },
-            6 => Call::Take {
-                connection: take_u32(history)?,
-                message: take_counted(history)?,
-            },
-            _ => return None,
-        })
-    }
+/// Reads a call from the front of a history, which moves on behind it.
+pub fn decode(history: &mut &[u8]) -> Option<Call> {
+    let [kind] = take_array(history)?;
+    Some(match kind {
+        1 => Call::AddSession {
+            connection: take_u32(history)?,
+        },
+        2 => Call::AddTree {
+            uid: take_u16(history)?,
+            right: take_u8(history)?,
+        },
+        3 => Call::AddOpen {
+            uid: take_u16(history)?,
+            tid: take_u16(history)?,
+            process: take_u32(history)?,
+            file: take_u8(history)?,
+            access: take_u8(history)?,
+        },
+        4 => Call::LoadFile {
+            file: take_u8(history)?,
+            contents: take_counted(history)?,
+        },
+        5 => Call::DropConnection {
+            connection: take_u32(history)?,
+        },
+        6 => Call::TakeMessage {
+            connection: take_u32(history)?,
+            message: take_counted(history)?,
+        },
+        _ => return None,
+    })
 }
 
 /// A 16-bit length, then the bytes.
@@ -158,34 +128,6 @@ pub struct Answer {
     pub reply: Vec<u8>,
 }
 
-impl Answer {
-    fn of_add(outcome: Outcome<u16>) -> Answer {
-        Answer {
-            number: number(&outcome),
-            value: outcome.map_or(0, usize::from),
-            reply: Vec::new(),
-        }
-    }
-
-    fn of_other(outcome: Outcome<()>) -> Answer {
-        Answer {
-            number: number(&outcome),
-            value: 0,
-            reply: Vec::new(),
-        }
-    }
-
-    fn of_message(outcome: Outcome<usize>, room: &[u8]) -> Answer {
-        let number = number(&outcome);
-        let value = outcome.unwrap_or(0);
-        Answer {
-            number,
-            value,
-            reply: room[..value].to_vec(),
-        }
-    }
-}
-
 /// All that is carried from call to call.
 #[derive(Clone)]
 pub struct State {
@@ -205,36 +147,17 @@ impl State {
     }
 
     pub fn make(&mut self, call: &Call) -> Answer {
-        let State {
-            words,
-            memory,
-            room,
-        } = self;
-        match *call {
-            Call::AddSession { connection } => {
-                Answer::of_add(words::add_session(words, connection))
-            }
-            Call::AddTree { uid, right } => Answer::of_add(words::add_tree(words, uid, right)),
-            Call::AddOpen {
-                uid,
-                tid,
-                process,
-                file,
-                access,
-            } => Answer::of_add(words::add_open(words, uid, tid, process, file, access)),
-            Call::Load { file, ref contents } => {
-                Answer::of_other(words::load_file(words, file, contents, memory))
-            }
-            Call::Drop { connection } => {
-                Answer::of_other(words::drop_connection(words, connection))
-            }
-            Call::Take {
-                connection,
-                ref message,
-            } => {
-                let outcome = words::take_message(words, connection, message, memory, room);
-                Answer::of_message(outcome, room)
-            }
+        let outcome = call.make(&mut self.words, &mut self.memory, &mut self.room);
+        let number = number(&outcome);
+        let value = outcome.unwrap_or(0);
+        let reply = match call {
+            Call::TakeMessage { .. } => self.room[..value].to_vec(),
+            _ => Vec::new(),
+        };
+        Answer {
+            number,
+            value,
+            reply,
         }
     }
 

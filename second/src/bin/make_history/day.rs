@@ -1,8 +1,8 @@
 //! A plant's day: calls drawn by lot, most of them sensible.
 
-use crate::calls::Call;
-use crate::maker::{lengthened, locking, read, write, Maker, User};
-use second::builder::{Ask, Asked};
+use crate::maker::{lengthened, read, write, Maker, User};
+use second::builder::{locking, Ask, Asked};
+use second::call::Call;
 use second::rng::Rng;
 use second::tables::{Open, Tables};
 
@@ -43,11 +43,11 @@ fn host_call(rng: &mut Rng, tables: &Tables, lot: usize) -> Option<Call> {
         },
         5..=11 => any_open(rng, tables),
         12..=21 if few => any_open(rng, tables),
-        22..=23 => Call::Load {
+        22..=23 => Call::LoadFile {
             file: (BUSY_FILES - 1 + rng.below(16 - BUSY_FILES)) as u8,
             contents: some_bytes(rng, 90),
         },
-        24 => Call::Drop { connection },
+        24 => Call::DropConnection { connection },
         _ => return None,
     })
 }

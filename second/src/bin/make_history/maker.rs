@@ -1,8 +1,9 @@
 //! Makes the calls one by one, keeping the history and its lines.
 
-use crate::calls::{Answer, Call, State};
+use crate::calls::{encode, Answer, State};
 use crate::tally::{status, Tally};
-use second::builder::{self, Ask, Asked, Header};
+use second::builder::{self, Ask, Header};
+use second::call::Call;
 use second::refusals::WireRefusal;
 use second::rng::Rng;
 use second::tables::Tables;
@@ -50,7 +51,7 @@ impl Maker {
     pub fn call(&mut self, call: Call) -> Answer {
         let before = (self.tables(), self.state.memory.clone());
         let answer = self.state.make(&call);
-        call.encode(&mut self.history);
+        encode(&call, &mut self.history);
         self.lines += &self.state.line(&answer);
         self.calls += 1;
         let after = self.tables();
@@ -111,15 +112,15 @@ impl Maker {
 
     pub fn load(&mut self, file: u8, size: usize) {
         let contents = self.rng.bytes(size);
-        self.host(Call::Load { file, contents }, 0);
+        self.host(Call::LoadFile { file, contents }, 0);
     }
 
     pub fn drop_connection(&mut self, connection: u32) {
-        self.host(Call::Drop { connection }, 0);
+        self.host(Call::DropConnection { connection }, 0);
     }
 
     pub fn take(&mut self, connection: u32, message: Vec<u8>) -> Answer {
-        self.call(Call::Take {
+        self.call(Call::TakeMessage {
             connection,
             message,
         })
@@ -161,7 +162,7 @@ impl Maker {
     pub fn take_for(&mut self, connection: u32, message: Vec<u8>, wanted: (u8, u16)) -> Answer {
         let answer = self.take(connection, message.clone());
         if answer.number != 0 || status(&answer.reply) != wanted {
-            let call = Call::Take {
+            let call = Call::TakeMessage {
                 connection,
                 message,
             };
@@ -172,7 +173,7 @@ impl Maker {
 
     /// Takes a message that must be dropped.
     pub fn dropped(&mut self, connection: u32, message: Vec<u8>) {
-        let call = Call::Take {
+        let call = Call::TakeMessage {
             connection,
             message,
         };
@@ -187,15 +188,6 @@ pub fn open_call(user: User, process: u32, file: u8, access: u8) -> Call {
         process,
         file,
         access,
-    }
-}
-
-pub fn locking(fid: u16, kind: u8, unlocks: &[Asked], locks: &[Asked]) -> Ask {
-    Ask::Locking {
-        fid,
-        kind,
-        unlocks: unlocks.to_vec(),
-        locks: locks.to_vec(),
     }
 }
 

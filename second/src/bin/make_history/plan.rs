@@ -1,13 +1,12 @@
 //! The planned parts of the history, each with the answers that document 01
 //! foretells: its cases, every refusal, every edge.
 
-use crate::calls::Call;
 use crate::day::CONNECTIONS;
-use crate::maker::{lengthened, locking, open_call, read, write, Maker, User};
-use crate::tally::SUCCESSIONS;
-use second::builder::{Ask, Asked};
+use crate::maker::{lengthened, open_call, read, write, Maker, User};
+use second::builder::{locking, Ask, Asked};
+use second::call::Call;
 use second::grammar::{CLOSE, LOCKING_ANDX, PROCESS_EXIT, READ_ANDX, WRITE_ANDX};
-use second::messages::worked;
+use second::messages::{worked, SUCCESSIONS};
 use second::refusals::WireRefusal::{self, *};
 use second::tables::{LOCKS, OPENS, SESSIONS, TREES};
 use std::slice::from_ref;
@@ -654,7 +653,7 @@ fn evening(maker: &mut Maker) {
     let busy = tables.opens.in_use().iter().map(|open| open.file).take(3);
     for file in busy {
         let contents = vec![1, 2, 3];
-        maker.host(Call::Load { file, contents }, 9);
+        maker.host(Call::LoadFile { file, contents }, 9);
     }
     for session in tables.sessions.in_use().iter().take(2) {
         let user = User {
@@ -746,7 +745,7 @@ fn host_orders(maker: &mut Maker) {
         (0, 5, 9),
     ] {
         let contents = vec![0x77; size];
-        maker.host(Call::Load { file, contents }, number);
+        maker.host(Call::LoadFile { file, contents }, number);
     }
 }
 

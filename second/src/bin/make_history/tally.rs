@@ -1,26 +1,18 @@
 //! Counts what a history reaches, and tells what it must reach.
 
-use crate::calls::{Answer, Call};
+use crate::calls::Answer;
+use second::call::Call;
 use second::grammar::{
     Block, Why, CLOSE, LOCKING_ANDX, LOGOFF_ANDX, PROCESS_EXIT, READ_ANDX, SERVED, TREE_DISCONNECT,
     WRITE_ANDX,
 };
 use second::listing::{self, Dropped};
+use second::messages::SUCCESSIONS;
 use second::refusals::WireRefusal;
 use second::reply::header_numbers;
 use second::request::Request;
 use second::tables::{Tables, FILE_BYTES, LOCKS, OPENS, SESSIONS, TREES};
 use std::collections::{BTreeMap, BTreeSet};
-
-/// The successions of "May be followed by".
-pub const SUCCESSIONS: [(u8, u8); 6] = [
-    (LOCKING_ANDX, READ_ANDX),
-    (LOCKING_ANDX, WRITE_ANDX),
-    (READ_ANDX, CLOSE),
-    (WRITE_ANDX, WRITE_ANDX),
-    (WRITE_ANDX, READ_ANDX),
-    (WRITE_ANDX, CLOSE),
-];
 
 /// The numbers that these calls can return, on sound tables.
 const NUMBERS: [u8; 7] = [0, 1, 5, 6, 7, 8, 9];
@@ -99,14 +91,14 @@ impl Tally {
                 self.note_add("an open", "FID", answer);
                 self.count_if(answer.number == 0, &format!("open of access {access}"));
             }
-            Call::Load { .. } => self.count(format!("load a file: {}", answer.number)),
-            Call::Drop { connection } => {
+            Call::LoadFile { .. } => self.count(format!("load a file: {}", answer.number)),
+            Call::DropConnection { connection } => {
                 let mut sessions = before.sessions.in_use().iter();
                 let known = sessions.any(|session| session.connection == *connection);
                 let which = if known { "a known" } else { "an unknown" };
                 self.count(format!("drop {which} connection: {}", answer.number));
             }
-            Call::Take { message, .. } => {
+            Call::TakeMessage { message, .. } => {
                 self.note_message(message, answer, before, after, unchanged)
             }
         }

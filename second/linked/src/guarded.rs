@@ -68,6 +68,11 @@ impl Guarded {
         unsafe { std::slice::from_raw_parts_mut(self.start.add(from), length) }
     }
 
+    /// The room's first byte. It stays mapped as long as the program runs.
+    pub fn start(&self) -> *mut u8 {
+        self.start
+    }
+
     /// A copy of the bytes against a side.
     pub fn put(&mut self, bytes: &[u8], side: Side) -> &mut [u8] {
         let place = self.place(bytes.len(), side);

@@ -1,0 +1,72 @@
+//! A call of the host's as a value, so that histories of calls can be made.
+
+use crate::refusals::Outcome;
+use crate::words::{self, Words};
+
+#[derive(Clone, Debug, PartialEq, Eq)]
+pub enum Call {
+    AddSession {
+        connection: u32,
+    },
+    AddTree {
+        uid: u16,
+        right: u8,
+    },
+    AddOpen {
+        uid: u16,
+        tid: u16,
+        process: u32,
+        file: u8,
+        access: u8,
+    },
+    LoadFile {
+        file: u8,
+        contents: Vec<u8>,
+    },
+    DropConnection {
+        connection: u32,
+    },
+    TakeMessage {
+        connection: u32,
+        message: Vec<u8>,
+    },
+}
+
+impl Call {
+    /// Makes the call. It gives the number of what was added, the reply's
+    /// length, or else 0.
+    pub fn make(&self, words: &mut Words, memory: &mut [u8], room: &mut [u8]) -> Outcome<usize> {
+        match *self {
+            Call::AddSession { connection } => {
+                words::add_session(words, connection).map(usize::from)
+            }
+            Call::AddTree { uid, right } => words::add_tree(words, uid, right).map(usize::from),
+            Call::AddOpen {
+                uid,
+                tid,
+                process,
+                file,
+                access,
+            } => words::add_open(words, uid, tid, process, file, access).map(usize::from),
+            Call::LoadFile { file, ref contents } => {
+                words::load_file(words, file, contents, memory).map(|()| 0)
+            }
+            Call::DropConnection { connection } => {
+                words::drop_connection(words, connection).map(|()| 0)
+            }
+            Call::TakeMessage {
+                connection,
+                ref message,
+            } => words::take_message(words, connection, message, memory, room),
+        }
+    }
+
+    /// The message, or the contents to load.
+    pub fn input(&self) -> &[u8] {
+        match self {
+            Call::LoadFile { contents, .. } => contents,
+            Call::TakeMessage { message, .. } => message,
+            _ => &[],
+        }
+    }
+}
