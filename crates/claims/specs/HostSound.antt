@@ -34,10 +34,10 @@ module _ (t : Tables) (s : Sound t) where
       sound-lists (withSessions t (sessionsOf t ++ (newSession t c ∷ []))) (sessionsOf t ++ (newSession t c ∷ [])) (treesOf t) (opensOf t) (locksOf t)
       (sessions-with t (sessionsOf t ++ (newSession t c ∷ []))) refl refl refl
       (record {
-        sessionRoom = held-more (t .nsessions) (t .sessions) 16 h (newSession t c);
-        treeRoom = r .treeRoom;
-        openRoom = r .openRoom;
-        lockRoom = r .lockRoom;
+        sessions-fit = held-more (t .nsessions) (t .sessions) 16 h (newSession t c);
+        trees-fit = r .trees-fit;
+        opens-fit = r .opens-fit;
+        locks-fit = r .locks-fit;
       })
       (s .sizes)
       (records-session (sessionsOf t) (treesOf t) (opensOf t) (s .records) (newSession t c) refl (held-fewer (t .nsessions) (t .sessions) 16 h))
@@ -51,10 +51,10 @@ module _ (t : Tables) (s : Sound t) where
       sound-lists (withTrees t (treesOf t ++ (newTree t uid right ∷ []))) (sessionsOf t) (treesOf t ++ (newTree t uid right ∷ [])) (opensOf t) (locksOf t)
       refl (trees-with t (treesOf t ++ (newTree t uid right ∷ []))) refl refl
       (record {
-        sessionRoom = r .sessionRoom;
-        treeRoom = held-more (t .ntrees) (t .trees) 32 h (newTree t uid right);
-        openRoom = r .openRoom;
-        lockRoom = r .lockRoom;
+        sessions-fit = r .sessions-fit;
+        trees-fit = held-more (t .ntrees) (t .trees) 32 h (newTree t uid right);
+        opens-fit = r .opens-fit;
+        locks-fit = r .locks-fit;
       })
       (s .sizes)
       (records-tree (sessionsOf t) (treesOf t) (opensOf t) (s .records) (newTree t uid right) refl
@@ -71,10 +71,10 @@ module _ (t : Tables) (s : Sound t) where
       (opensOf t ++ (newOpen t uid tid process file access ∷ [])) (locksOf t)
       refl refl (opens-with t (opensOf t ++ (newOpen t uid tid process file access ∷ []))) refl
       (record {
-        sessionRoom = r .sessionRoom;
-        treeRoom = r .treeRoom;
-        openRoom = held-more (t .nopens) (t .opens) 64 (p .room) (newOpen t uid tid process file access);
-        lockRoom = r .lockRoom;
+        sessions-fit = r .sessions-fit;
+        trees-fit = r .trees-fit;
+        opens-fit = held-more (t .nopens) (t .opens) 64 (p .room) (newOpen t uid tid process file access);
+        locks-fit = r .locks-fit;
       })
       (s .sizes)
       (records-open (sessionsOf t) (treesOf t) (opensOf t) (s .records) (newOpen t uid tid process file access) refl

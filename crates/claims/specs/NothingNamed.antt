@@ -27,7 +27,8 @@ use Rattle.removal.specs.declared.Gone.the-variants.{Connection}
 use Rattle.lists.specs.Truth.{hold-both, not-holds, fails}
 use Rattle.lists.specs.Members.{all-each, each-all, none-each, any-one, keep-all}
 use Rattle.claims.specs.Numbered.{one-named}
-use Rattle.claims.specs.SoundParts.{Sound, Room, sound-says}
+use Rattle.soundness.specs.SoundLaws.{Room}
+use Rattle.claims.specs.SoundParts.{Sound, sound-says}
 use Rattle.claims.specs.RuleLaws.{tree-says, holds-says, open-says, lock-says}
 use Rattle.claims.specs.Shaped.{Shaped}
 use Rattle.claims.specs.RemovalSound.{sessionsLeft, treesLeft, opensLeft, locksLeft, left, remove-left}

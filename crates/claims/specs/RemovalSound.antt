@@ -18,7 +18,8 @@ use Rattle.soundness.specs.Sound.{sound}
 use Rattle.removal.specs.Removal.{sessionStays, treeStays, treeNamed, openStays, openNamed, lockStays, sweepSessions, sweepTrees, sweepOpens, sweepLocks, remove}
 use Rattle.removal.specs.declared.Gone.{Gone}
 use Rattle.lists.specs.Truth.{both-hold}
-use Rattle.claims.specs.SoundParts.{Sound, Room, sound-says, sound-lists}
+use Rattle.soundness.specs.SoundLaws.{Room}
+use Rattle.claims.specs.SoundParts.{Sound, sound-says, sound-lists}
 use Rattle.claims.specs.KeptRecords.{Filters, records-keep, locks-keep}
 use Rattle.claims.specs.Shaped.{Shaped, sessions-with, trees-with, opens-with, locks-with, shaped-sessions, shaped-trees, shaped-opens, shaped-locks}
 
@@ -100,10 +101,10 @@ module _ (gone : Gone) (t : Tables) where
       → Room (length sessionsLeft) (length treesLeft) (length opensLeft) (length locksLeft)
   left-room r =
       record {
-        sessionRoom = keep-fewer (sessionStays gone) (t .nsessions) (t .sessions) 16 (r .sessionRoom);
-        treeRoom = keep-fewer (treeStays gone (map uidOf sessionsLeft)) (t .ntrees) (t .trees) 32 (r .treeRoom);
-        openRoom = keep-fewer (openStays gone (map tidOf treesLeft)) (t .nopens) (t .opens) 64 (r .openRoom);
-        lockRoom = keep-fewer (lockStays (map fidOf opensLeft)) (t .nlocks) (t .locks) 128 (r .lockRoom);
+        sessions-fit = keep-fewer (sessionStays gone) (t .nsessions) (t .sessions) 16 (r .sessions-fit);
+        trees-fit = keep-fewer (treeStays gone (map uidOf sessionsLeft)) (t .ntrees) (t .trees) 32 (r .trees-fit);
+        opens-fit = keep-fewer (openStays gone (map tidOf treesLeft)) (t .nopens) (t .opens) 64 (r .opens-fit);
+        locks-fit = keep-fewer (lockStays (map fidOf opensLeft)) (t .nlocks) (t .locks) 128 (r .locks-fit);
       }
 
   left-sound : Sound t → sound left ≡ true
@@ -117,10 +118,10 @@ module _ (gone : Gone) (t : Tables) where
   unfolding left
   left-shaped s r =
       let room = left-room r in
-      let a = shaped-sessions t s sessionsLeft (room .sessionRoom) in
-      let b = shaped-trees (withSessions t sessionsLeft) a treesLeft (room .treeRoom) in
-      let c = shaped-opens (withTrees (withSessions t sessionsLeft) treesLeft) b opensLeft (room .openRoom) in
-      shaped-locks (withOpens (withTrees (withSessions t sessionsLeft) treesLeft) opensLeft) c locksLeft (room .lockRoom)
+      let a = shaped-sessions t s sessionsLeft (room .sessions-fit) in
+      let b = shaped-trees (withSessions t sessionsLeft) a treesLeft (room .trees-fit) in
+      let c = shaped-opens (withTrees (withSessions t sessionsLeft) treesLeft) b opensLeft (room .opens-fit) in
+      shaped-locks (withOpens (withTrees (withSessions t sessionsLeft) treesLeft) opensLeft) c locksLeft (room .locks-fit)
 
 -- "Every call on sound tables leaves sound tables": a removal does
 pub remove-sound : (gone : Gone) (t : Tables) → sound t ≡ true → sound (remove gone t) ≡ true

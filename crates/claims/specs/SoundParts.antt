@@ -16,15 +16,9 @@ use Rattle.records.specs.Held.{sessionsOf, treesOf, opensOf, locksOf}
 use Rattle.numbers.specs.Number.{numbered}
 use Rattle.numbers.specs.Column.{uidOf, tidOf, fidOf}
 use Rattle.soundness.specs.File.{fileOf}
+use Rattle.soundness.specs.SoundLaws.{Room, room}
 use Rattle.soundness.specs.Sound.{sound, soundRecords, soundLocks, withinRoom, fileOk, treeOk, openOk, lockOk, agreeAll}
 use Rattle.lists.specs.Truth.{both-hold, hold-both}
-
--- counts within room
-pub record Room (sessions trees opens locks : ℕ) : Type 0 where
-  pub sessionRoom : sessions ≤ 16
-  pub treeRoom : trees ≤ 32
-  pub openRoom : opens ≤ 64
-  pub lockRoom : locks ≤ 128
 
 -- the rules for sessions, trees and opens
 pub record RecordsOk (ss : List Session) (ts : List Tree) (os : List Open) : Type 0 where
@@ -47,25 +41,12 @@ pub record Sound (t : Tables) : Type 0 where
   pub locks : LocksOk (opensOf t) (locksOf t)
 
 module _ (a b c d : ℕ) where
-  room-says : withinRoom a b c d ≡ true → Room a b c d
-  unfolding withinRoom
-  room-says e =
-      let f = both-hold (leb a 16) (leb b 32 && (leb c 64 && leb d 128)) e in
-      let g = both-hold (leb b 32) (leb c 64 && leb d 128) (f .1) in
-      let h = both-hold (leb c 64) (leb d 128) (g .1) in
-      record {
-        sessionRoom = leb-true a 16 (f .0);
-        treeRoom = leb-true b 32 (g .0);
-        openRoom = leb-true c 64 (h .0);
-        lockRoom = leb-true d 128 (h .1);
-      }
-
   room-ok : Room a b c d → withinRoom a b c d ≡ true
   unfolding withinRoom
   room-ok r =
-      hold-both (leb a 16) (leb b 32 && (leb c 64 && leb d 128)) (le-leb a 16 (r .sessionRoom))
-      (hold-both (leb b 32) (leb c 64 && leb d 128) (le-leb b 32 (r .treeRoom))
-      (hold-both (leb c 64) (leb d 128) (le-leb c 64 (r .openRoom)) (le-leb d 128 (r .lockRoom))))
+      hold-both (leb a 16) (leb b 32 && (leb c 64 && leb d 128)) (le-leb a 16 (r .sessions-fit))
+      (hold-both (leb b 32) (leb c 64 && leb d 128) (le-leb b 32 (r .trees-fit))
+      (hold-both (leb c 64) (leb d 128) (le-leb c 64 (r .opens-fit)) (le-leb d 128 (r .locks-fit))))
 
 module _ (ss : List Session) (ts : List Tree) (os : List Open) where
   abbrev u : Bool
@@ -127,7 +108,7 @@ module _ (t : Tables) where
       let g = both-hold (all fileOk (t .files)) (recordsTest && locksTest) (f .1) in
       let h = both-hold recordsTest locksTest (g .1) in
       record {
-        room = room-says (t .nsessions) (t .ntrees) (t .nopens) (t .nlocks) (f .0);
+        room = room (t .nsessions) (t .ntrees) (t .nopens) (t .nlocks) (f .0);
         sizes = g .0;
         records = records-says (sessionsOf t) (treesOf t) (opensOf t) (h .0);
         locks = locks-says (opensOf t) (locksOf t) (h .1);

@@ -28,7 +28,8 @@ use Rattle.numbers.specs.Column.{uidOf, tidOf, fidOf}
 use Rattle.soundness.specs.File.{fileOf}
 use Rattle.soundness.specs.Sound.{sound, fileOk, treeOk, permits, holdsOpen, openOk, lockOk, agree, agreeAll}
 use Rattle.claims.specs.Numbered.{number-says, named-one, one-named}
-use Rattle.claims.specs.SoundParts.{Sound, Room, sound-says, sound-ok}
+use Rattle.soundness.specs.SoundLaws.{Room}
+use Rattle.claims.specs.SoundParts.{Sound, sound-says, sound-ok}
 use Rattle.claims.specs.RuleLaws.{TreeOk, tree-says, tree-ok, holds-says, OpenOk, open-says, open-ok, LockOk, lock-says, lock-ok, fileOf-here, fileOf-other}
 use Rattle.claims.specs.Distinct.{Numbers, numbered-says, numbered-ok}
 

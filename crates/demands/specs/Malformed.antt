@@ -44,46 +44,51 @@ pub data Other : Given → Type 0 where
   other-refusal : {why : Refusal} → (statusOf why ≡ status 2 1 → ⊥) → Other (refused why)
   no-refusal : {t : Tables} {memory : List ℕ} {said : Said} → Other (done t memory said)
 
+-- another code than 1
+other-code : (why : Refusal) → (statusOf why .code ≡ 1 → ⊥) → Other (refused why)
+unfolding status
+other-code why n = other-refusal (λ e. n (ap (λ (x : Status). x .code) e))
+
 -- the refusals that a command can end with
 other-session : Other (refused NoSession)
 unfolding statusOf status
-other-session = other-refusal (λ e. let n : _≡_ {A = ℕ} 91 1 = ap (λ (x : Status). x .code) e in omega arith)
+other-session = other-code NoSession (λ e. omega arith)
 
 other-tree : Other (refused NoTree)
 unfolding statusOf status
-other-tree = other-refusal (λ e. let n : _≡_ {A = ℕ} 5 1 = ap (λ (x : Status). x .code) e in omega arith)
+other-tree = other-code NoTree (λ e. omega arith)
 
 other-open : Other (refused NoOpen)
 unfolding statusOf status
-other-open = other-refusal (λ e. let n : _≡_ {A = ℕ} 6 1 = ap (λ (x : Status). x .code) e in omega arith)
+other-open = other-code NoOpen (λ e. omega arith)
 
 other-access : Other (refused NoAccess)
 unfolding statusOf status
-other-access = other-refusal (λ e. let n : _≡_ {A = ℕ} 5 1 = ap (λ (x : Status). x .code) e in omega arith)
+other-access = other-code NoAccess (λ e. omega arith)
 
 other-type : Other (refused LockType)
 unfolding statusOf status
-other-type = other-refusal (λ e. let n : _≡_ {A = ℕ} 65535 1 = ap (λ (x : Status). x .code) e in omega arith)
+other-type = other-code LockType (λ e. omega arith)
 
 other-lock : Other (refused NoSuchLock)
 unfolding statusOf status
-other-lock = other-refusal (λ e. let n : _≡_ {A = ℕ} 158 1 = ap (λ (x : Status). x .code) e in omega arith)
+other-lock = other-code NoSuchLock (λ e. omega arith)
 
 other-past : Other (refused PassesEnd)
 unfolding statusOf status
-other-past = other-refusal (λ e. let n : _≡_ {A = ℕ} 87 1 = ap (λ (x : Status). x .code) e in omega arith)
+other-past = other-code PassesEnd (λ e. omega arith)
 
 other-conflict : (k : ℕ) → Other (refused (Conflict k))
 unfolding statusOf status
-other-conflict k = other-refusal (λ e. let n : _≡_ {A = ℕ} 33 1 = ap (λ (x : Status). x .code) e in omega arith)
+other-conflict k = other-code (Conflict k) (λ e. omega arith)
 
 other-record : Other (refused NoRecord)
 unfolding statusOf status
-other-record = other-refusal (λ e. let n : _≡_ {A = ℕ} 8 1 = ap (λ (x : Status). x .code) e in omega arith)
+other-record = other-code NoRecord (λ e. omega arith)
 
 other-space : Other (refused NoSpace)
 unfolding statusOf status
-other-space = other-refusal (λ e. let n : _≡_ {A = ℕ} 39 1 = ap (λ (x : Status). x .code) e in omega arith)
+other-space = other-code NoSpace (λ e. omega arith)
 
 -- a LOCKING request whose area has just the announced ranges is not malformed
 locking-other : (t : Tables) (memory : List ℕ) (file : ℕ → ℕ) (q : Request) (area : List ℕ) → length area ≡ (q .unlocks + q .locks) * rangeSize (q .large)

@@ -109,7 +109,7 @@ module _ (t : Tables) (g : Good t) where
       let r = listed .room in
       record {
         sound = sound-lists (withLocks t list) (sessionsOf t) (treesOf t) (opensOf t) list refl refl refl (locks-with t list)
-            (record { sessionRoom = r .sessionRoom; treeRoom = r .treeRoom; openRoom = r .openRoom; lockRoom = h })
+            (record { sessions-fit = r .sessions-fit; trees-fit = r .trees-fit; opens-fit = r .opens-fit; locks-fit = h })
             (listed .sizes) (listed .records) ok;
         shaped = shaped-locks t (g .shaped) list h;
       }

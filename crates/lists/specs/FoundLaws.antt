@@ -122,11 +122,11 @@ module _ {A : Type 0} where
   passed-all {p} {xs} {n} {i} before h = foundFrom-none p (rest xs n i) i (rest-past xs n i h) ∙ sym (before .same)
 
   -- an element that passes a test makes some element pass it
-  pub any-yes : (p : A → Bool) (x : A) (xs : List A) → p x ≡ true → any p (x ∷ xs) ≡ true
+  pub any-first : (p : A → Bool) (x : A) (xs : List A) → p x ≡ true → any p (x ∷ xs) ≡ true
   unfolding any
-  any-yes p x xs e = rw e
+  any-first p x xs e = rw e
 
   -- one that fails leaves the question to the others
-  pub any-no : (p : A → Bool) (x : A) (xs : List A) → p x ≡ false → any p (x ∷ xs) ≡ any p xs
+  pub any-later : (p : A → Bool) (x : A) (xs : List A) → p x ≡ false → any p (x ∷ xs) ≡ any p xs
   unfolding any
-  any-no p x xs e = rw e
+  any-later p x xs e = rw e

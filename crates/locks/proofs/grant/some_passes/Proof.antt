@@ -5,7 +5,7 @@ use Prim.Native.Nat.{_-_}
 use native.Mathlib.Omega.{arith}
 use borrow.Author.Needs.{needs}
 use Rattle.lists.specs.Walk.{any}
-use Rattle.lists.specs.FoundLaws.{any-yes, any-no}
+use Rattle.lists.specs.FoundLaws.{any-first, any-later}
 use Rattle.locks.specs.Wire.{rangesAt}
 use Rattle.locks.specs.Request.{rangePasses}
 use Rattle.locks.proofs.Ahead.{Ahead, ahead-start, ahead-here, ahead-more, ahead-none}
@@ -30,7 +30,7 @@ passes-end-requires c κs = search needs
 
 returns : tie.Need-returns Inv-loop μ-loop
 returns c =
-    sym (ahead-here (c .before .before .before .before .loop .inv) (omega arith) (λ rs. any-yes _ _ rs (range-passes (c .before .before .range-at .ensures) (c .before .passes-end .ensures) (c .if1 .taken))))
+    sym (ahead-here (c .before .before .before .before .loop .inv) (omega arith) (λ rs. any-first _ _ rs (range-passes (c .before .before .range-at .ensures) (c .before .passes-end .ensures) (c .if1 .taken))))
 
 add-k : tie.Need-add-k Inv-loop μ-loop
 add-k c = omega arith
@@ -40,7 +40,7 @@ loop-less c = omega arith
 
 loop-again : tie.Need-loop-again Inv-loop μ-loop
 loop-again c =
-    ahead-more (c .before .before .before .before .loop .inv) (omega arith) (λ rs. any-no _ _ rs (range-passes (c .before .before .range-at .ensures) (c .before .passes-end .ensures) (c .if1 .left)))
+    ahead-more (c .before .before .before .before .loop .inv) (omega arith) (λ rs. any-later _ _ rs (range-passes (c .before .before .range-at .ensures) (c .before .passes-end .ensures) (c .if1 .left)))
 
 returns-2 : tie.Need-returns-2 Inv-loop μ-loop
 unfolding any
