@@ -1,9 +1,9 @@
 /*
  * The SMB1 message core as a C library (libgateway.a).
  *
- * The host owns all memory. The tables are one struct of 64-bit words that the host keeps between calls and
- * hands to each of them; the library keeps nothing. Start with gateway_empty. Calls on the same tables must not
- * run at the same time.
+ * The host owns all memory. The tables are one struct of 64-bit words that the host keeps between calls, as it does the
+ * file memory; the library keeps nothing. Start with gateway_empty. Calls on the same tables or the same file memory must
+ * not run at the same time.
  *
  * No pointer may be NULL, not even one whose length is 0, and no two areas handed to one call may overlap: the tables,
  * an out-parameter, the contents or the message, the file memory, the reply room.
