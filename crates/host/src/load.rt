@@ -69,7 +69,7 @@ fn fill_file(contents: &[u8], room: &mut [u8])
 }
 
 // The tables with a file's size set.
-pub fn with_size(t: Tables, file: usize, size: usize) -> Tables
+fn with_size(t: Tables, file: usize, size: usize) -> Tables
     requires { ⌜ file < 16 ⌝ }
     ensures { λ r. ⌜ r ≡ loaded t file size ⌝ }
 {
