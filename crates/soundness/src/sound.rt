@@ -1,11 +1,11 @@
 // Soundness of the tables (document 01, "Tables and room"): nothing is assumed of a count or a number
 // before it is tested.
 
+use crate::file::files_ok;
 use crate::file_table::file_table;
 use crate::lock::locks_agree;
 use crate::lock::locks_fit;
-use crate::tree::files_ok;
-use crate::tree::opens_ok;
+use crate::open::opens_ok;
 use crate::tree::trees_ok;
 use numbers::column::fids;
 use numbers::column::tids;

@@ -1,15 +1,14 @@
-// Trees and the opens they hold: the rules of soundness for one record each.
+// Trees: the rules of soundness, and whether a tree holds an open.
 
 use numbers::number::at_most;
 use numbers::number::in_use;
-use records::File;
 use records::Open;
 use records::Tree;
 ghost use mathlib.Core.Path.{_≡_};
 ghost use Prim.Native.Nat.{_≤_};
 ghost use lib.ListN.{take};
 ghost use Rattle.lists.specs.Walk.{any, all};
-ghost use Rattle.soundness.specs.Sound.{treeOk, permits, holdsOpen, openOk, fileOk};
+ghost use Rattle.soundness.specs.Sound.{treeOk, permits, holdsOpen};
 ghost use Rattle.soundness.specs.Lookup.{isTree};
 
 // Whether a tree's right is among those listed and its session exists.
@@ -101,55 +100,4 @@ pub fn some_tree_is(trees: [Tree; 32], count: usize, tid: u16, uid: u16) -> bool
         i += 1;
     }
     false
-}
-
-// The rules for one open.
-fn open_ok(trees: [Tree; 32], count: usize, o: Open) -> bool
-    ensures { λ r. ⌜ r ≡ openOk (take count trees) o ⌝ }
-{
-    if 15 < o.file {
-        return false;
-    }
-    if 2 < o.access {
-        return false;
-    }
-    some_tree_holds(trees, count, o)
-}
-
-// The rules for each of the first nopens opens.
-pub(crate) fn opens_ok(trees: [Tree; 32], ntrees: usize, opens: [Open; 64], nopens: usize) -> bool
-    requires { ⌜ nopens ≤ 64 ⌝ }
-    ensures { λ r. ⌜ r ≡ all (openOk (take ntrees trees)) (take nopens opens) ⌝ }
-{
-    let mut i: usize = 0;
-    while i < nopens {
-        let o = opens[i];
-        if !open_ok(trees, ntrees, o) {
-            return false;
-        }
-        i += 1;
-    }
-    true
-}
-
-// Whether a file's size is within its room.
-fn file_ok(f: File) -> bool
-    ensures { λ r. ⌜ r ≡ fileOk f ⌝ }
-{
-    f.size <= 4096
-}
-
-// The rule for each file.
-pub(crate) fn files_ok(files: [File; 16]) -> bool
-    ensures { λ r. ⌜ r ≡ all fileOk files ⌝ }
-{
-    let mut i: usize = 0;
-    while i < 16 {
-        let f = files[i];
-        if !file_ok(f) {
-            return false;
-        }
-        i += 1;
-    }
-    true
 }

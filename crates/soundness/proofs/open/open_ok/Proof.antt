@@ -1,10 +1,10 @@
--- `soundness::tree::open_ok` meets its contract: the tests are those of the definition, in its order.
+-- `soundness::open::open_ok` meets its contract: the tests are those of the definition, in its order.
 -- Assumes nothing.
 use borrow.Author.Tests.{lt-leb, le-leb}
 use Rattle.soundness.specs.Sound.{openOk}
 use borrow.Author.Needs.{needs}
-use Rattle.soundness.proofs.tree.open_ok.Statement.{statement}
-use Rattle.soundness.proofs.tree.open_ok.Tie as tie
+use Rattle.soundness.proofs.open.open_ok.Statement.{statement}
+use Rattle.soundness.proofs.open.open_ok.Tie as tie
 
 returns : tie.Need-returns
 unfolding openOk

@@ -1,9 +1,9 @@
--- `soundness::tree::file_ok` meets its contract: the test is the definition's.
+-- `soundness::file::file_ok` meets its contract: the test is the definition's.
 -- Assumes nothing.
 use mathlib.Core.Path.{refl}
 use Rattle.soundness.specs.Sound.{fileOk}
-use Rattle.soundness.proofs.tree.file_ok.Statement.{statement}
-use Rattle.soundness.proofs.tree.file_ok.Tie as tie
+use Rattle.soundness.proofs.file.file_ok.Statement.{statement}
+use Rattle.soundness.proofs.file.file_ok.Tie as tie
 
 returns : tie.Need-returns
 unfolding fileOk

@@ -1,4 +1,4 @@
--- `soundness::tree::opens_ok` meets its contract: what the walk has left says the same as the whole.
+-- `soundness::open::opens_ok` meets its contract: what the walk has left says the same as the whole.
 -- Assumes nothing.
 use mathlib.Core.Path.{_≡_, refl, sym, _∙_}
 use borrow.Author.Tests.{not-true, not-false}
@@ -8,8 +8,8 @@ use Rattle.lists.specs.Walk.{all, rest}
 use Rattle.lists.specs.WalkLaws.{all-end, all-yes, all-no}
 use Rattle.records.specs.Empty.{noOpen}
 use Rattle.soundness.specs.Sound.{openOk}
-use Rattle.soundness.proofs.tree.opens_ok.Statement.{statement}
-use Rattle.soundness.proofs.tree.opens_ok.Tie as tie
+use Rattle.soundness.proofs.open.opens_ok.Statement.{statement}
+use Rattle.soundness.proofs.open.opens_ok.Tie as tie
 use borrow.Author.Needs.{needs}
 use native.Mathlib.Omega.{arith}
 

@@ -1,4 +1,4 @@
--- `soundness::tree::files_ok` meets its contract: what the walk has left says the same as the whole.
+-- `soundness::file::files_ok` meets its contract: what the walk has left says the same as the whole.
 -- Assumes nothing.
 use mathlib.Core.Path.{_≡_, sym, ap, _∙_}
 use Prim.Native.Nat.{_≤_, _-_}
@@ -9,8 +9,8 @@ use Rattle.lists.specs.WalkLaws.{all-end, all-yes, all-no}
 use Rattle.soundness.specs.Sound.{fileOk}
 use Rattle.records.specs.Empty.{noFile}
 use lib.Seq.{take-all}
-use Rattle.soundness.proofs.tree.files_ok.Statement.{statement}
-use Rattle.soundness.proofs.tree.files_ok.Tie as tie
+use Rattle.soundness.proofs.file.files_ok.Statement.{statement}
+use Rattle.soundness.proofs.file.files_ok.Tie as tie
 use borrow.Author.Needs.{needs}
 use native.Mathlib.Omega.{arith}
 
