@@ -13,8 +13,7 @@ use Rattle.wire.specs.LittleEndian.{byteAt, le16At}
 use Rattle.chain.specs.Layout.{LOCKING, READ, WRITE, LOGOFF, NO_COMMAND, headerCommand, FIRST, wordCount, byteArea, blockEnd, andxCommand, dataLength, dataOffset}
 use Rattle.chain.specs.Grammar.{IsBlock, locking-10, locking-20, read-10, read-12, write-12, write-14, close, logoff, tree-disconnect, process-exit, NamedAndx, locking-andx, read-andx, write-andx, logoff-andx, Plain, close-plain, tree-disconnect-plain, process-exit-plain}
 use Rattle.chain.specs.declared.block.Block.{Block}
-use Rattle.readings.specs.BlockParse.{block-inside}
-use Rattle.readings.specs.FreeBytes.{write-words, andx-words}
+use Rattle.readings.specs.BlockParse.{block-inside, write-words, andx-words}
 use Rattle.readings.specs.Moved.{blockSize, Kept, kept-plain, kept-count, kept-front, kept-behind, kept-not-write, Moved}
 
 -- the requests named ANDX
@@ -227,7 +226,7 @@ alone-moved {s} b h size from small =
     let long : 32 ≤ length s = omega arith in
     let n : length (alone s b) ≡ 32 + b .length = length-alone s b long (omega arith) in
     record {
-      kept = λ k l p. alone-kept s b long k (omega arith) p;
+      kept = λ k l p. alone-kept s b long k (omega arith) (p .0);
       inside = omega arith;
       data-moved = λ e.
           let w : 12 ≤ wordCount s (b .at) = write-words h e in

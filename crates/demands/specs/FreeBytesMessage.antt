@@ -1,4 +1,5 @@
--- "Free bytes" (document 01): a message gives what its header and the blocks of its reading say, whatever stands between and after.
+-- "Free bytes" (document 01): a message gives what its header and the blocks of its reading say, whatever stands between and after, and
+-- whatever stands in them where it is not looked at.
 -- Assumes nothing.
 use mathlib.Core.Path.{_≡_, refl, sym, _∙_, ap}
 use Prim.Native.Nat.{ℕ, _+_, _<_}
@@ -18,7 +19,8 @@ use Rattle.chain.specs.declared.block.Next.{Next}
 use Rattle.readings.specs.BlockParse.{bodyAt, blockAt}
 use Rattle.readings.specs.ReaderSound.{spanOf}
 use Rattle.readings.specs.ReaderComplete.{reader-complete-from}
-use Rattle.readings.specs.FreeBytes.{Stands, unmoved, AllStand, free-blocks}
+use Rattle.readings.specs.FreeBytes.{Alike, unmoved, AllStand, AllAlike, all-alike, unread-blocks}
+use Rattle.readings.specs.SameNumbers.{same-16}
 use Rattle.readings.specs.Chained.{Chained, chained-end, chained-more, read-chained}
 use Rattle.message.specs.Caller.{callerOf}
 use Rattle.message.specs.declared.caller.Caller.{Caller}
@@ -34,11 +36,7 @@ module _ (s t : List ℕ) (header : take 32 t ≡ take 32 s) where
   header-byte k h = sym (getD-take 32 t k 0 h) ∙ ap (λ (l : List ℕ). byteAt l k) header ∙ getD-take 32 s k 0 h
 
   header-number : (k : ℕ) → k + 1 < 32 → le16At t k ≡ le16At s k
-  unfolding le16At
-  header-number k h =
-      let a : byteAt t k ≡ byteAt s k = header-byte k (omega arith) in
-      let b : byteAt t (k + 1) ≡ byteAt s (k + 1) = header-byte (k + 1) h in
-      rw (a, b)
+  header-number k h = same-16 s k t k (λ j l. header-byte (k + j) (omega arith))
 
   -- the same caller
   pub header-caller : (connection : ℕ) → callerOf connection t ≡ callerOf connection s
@@ -64,12 +62,12 @@ module _ (s t : List ℕ) (header : take 32 t ≡ take 32 s) where
 
 -- ---- equal blocks
 
--- a block that stands unchanged does the same
-stands-same : {s t : List ℕ} {command at : ℕ} (c : Caller) (u : Tables) (memory : List ℕ) (next : Next) → IsBlock s at command → Stands s t (spanAt s command at)
+-- a block that is alike does the same
+alike-same : {s t : List ℕ} {command at : ℕ} (c : Caller) (u : Tables) (memory : List ℕ) (next : Next) → IsBlock s at command → Alike s t (spanAt s command at)
     → perform c u memory (bodyAt s command at) (areaOf t (blockAt s command at next)) (dataOf t (blockAt s command at next))
     ≡ perform c u memory (bodyAt s command at) (areaOf s (blockAt s command at next)) (dataOf s (blockAt s command at next))
 unfolding areaOf dataOf blockAt
-stands-same c u memory next h stands = perform-bytes c u memory h (unmoved h stands)
+alike-same c u memory next h alike = perform-bytes c u memory h (unmoved h alike)
 
 -- what follows is the same: so is the whole
 after-same : (g : Given) (bs : List Block) (place : ℕ) (t : Tables) (memory : List ℕ) (f h : ℕ → Tables → List ℕ → Ran)
@@ -78,34 +76,44 @@ unfolding afterGiven
 after-same (refused why) bs place t memory f h e = refl
 after-same (done u m said) bs place t memory f h e = ap (after _) (e _ u m)
 
--- the blocks of a reading that stand unchanged do the same
-run-same : {s : List ℕ} (t : List ℕ) {command at : ℕ} {bs : List Block} (c : Caller) → Chained s command at bs → AllStand s t (map spanOf bs)
+-- the blocks of a reading that are alike do the same
+run-same : {s : List ℕ} (t : List ℕ) {command at : ℕ} {bs : List Block} (c : Caller) → Chained s command at bs → AllAlike s t (map spanOf bs)
     → (place : ℕ) (u : Tables) (memory : List ℕ) → run c t bs place u memory ≡ run c s bs place u memory
 unfolding run blockAt spanOf spanAt
-run-same {s} t c (chained-end {command} {at} h l) stands place u memory =
-    ap (λ (g : Given). afterGiven g [] place u memory (λ p v m. run c s [] p v m)) (stands-same c u memory _ h (stands _ (first refl)))
-run-same {s} t c (chained-more {command} {at} {rest = rest} h l r) stands place u memory =
-    ap (λ (g : Given). afterGiven g rest place u memory (λ p v m. run c t rest p v m)) (stands-same c u memory _ h (stands _ (first refl)))
-    ∙ after-same _ rest place u memory (λ p v m. run c t rest p v m) (λ p v m. run c s rest p v m) (λ p v m. run-same t c r (λ x i. stands x (later i)) p v m)
+run-same {s} t c (chained-end {command} {at} h l) alike place u memory =
+    ap (λ (g : Given). afterGiven g [] place u memory (λ p v m. run c s [] p v m)) (alike-same c u memory _ h (alike _ (first refl)))
+run-same {s} t c (chained-more {command} {at} {rest = rest} h l r) alike place u memory =
+    ap (λ (g : Given). afterGiven g rest place u memory (λ p v m. run c t rest p v m)) (alike-same c u memory _ h (alike _ (first refl)))
+    ∙ after-same _ rest place u memory (λ p v m. run c t rest p v m) (λ p v m. run c s rest p v m) (λ p v m. run-same t c r (λ x i. alike x (later i)) p v m)
 
-module _ (s t : List ℕ) (header : take 32 t ≡ take 32 s) {spans : List Span} (r : Reading s spans) (stands : AllStand s t spans) where
+module _ (s t : List ℕ) (header : take 32 t ≡ take 32 s) {spans : List Span} (r : Reading s spans) where
   -- the whole chain
-  chain-same : (c : Caller) (u : Tables) (memory : List ℕ) → runChain c t (blocks t) u memory ≡ runChain c s (blocks s) u memory
+  chain-same : AllAlike s t spans → (c : Caller) (u : Tables) (memory : List ℕ) → runChain c t (blocks t) u memory ≡ runChain c s (blocks s) u memory
   unfolding runChain blocks
-  chain-same c u memory =
+  chain-same alike c u memory =
       let a = reader-complete-from r in
       let e : blocks s ≡ some (a .bs) = a .answer in
-      let f : blocks t ≡ blocks s = free-blocks t (header-byte s t header 4 (omega arith)) r stands in
-      let g : AllStand s t (map spanOf (a .bs)) = rw (a .same) stands in
+      let f : blocks t ≡ blocks s = unread-blocks t (header-byte s t header 4 (omega arith)) r alike in
+      let g : AllAlike s t (map spanOf (a .bs)) = rw (a .same) alike in
       rw (f, e) (run-same t c (read-chained s (headerCommand s) FIRST (a .bs) e) g FIRST u memory)
 
-  -- "number, reply, tables, files and whatever else the call gives are equal": what the message leaves
-  pub free-answered : (connection : ℕ) (u : Tables) (memory : List ℕ) → answered connection t u memory ≡ answered connection s u memory
+  -- bytes that are not looked at change nothing of what the message leaves
+  pub unread-answered : AllAlike s t spans → (connection : ℕ) (u : Tables) (memory : List ℕ) → answered connection t u memory ≡ answered connection s u memory
   unfolding answered
-  free-answered connection u memory =
-      rw (header-byte s t header 4 (omega arith), header-caller s t header connection, chain-same (callerOf connection s) u memory)
+  unread-answered alike connection u memory =
+      rw (header-byte s t header 4 (omega arith), header-caller s t header connection, chain-same alike (callerOf connection s) u memory)
+
+  -- nor of the reply
+  pub unread-reply : AllAlike s t spans → (connection : ℕ) (u : Tables) (memory : List ℕ)
+      → replyOf t (answered connection t u memory) ≡ replyOf s (answered connection s u memory)
+  unfolding replyOf
+  unread-reply alike connection u memory = rw (unread-answered alike connection u memory, header-reply s t header (answered connection s u memory .status))
+
+  -- "number, reply, tables, files and whatever else the call gives are equal": what the message leaves
+  pub free-answered : AllStand s t spans → (connection : ℕ) (u : Tables) (memory : List ℕ) → answered connection t u memory ≡ answered connection s u memory
+  free-answered stands = unread-answered (all-alike stands)
 
   -- and the reply
-  pub free-reply : (connection : ℕ) (u : Tables) (memory : List ℕ) → replyOf t (answered connection t u memory) ≡ replyOf s (answered connection s u memory)
-  unfolding replyOf
-  free-reply connection u memory = rw (free-answered connection u memory, header-reply s t header (answered connection s u memory .status))
+  pub free-reply : AllStand s t spans → (connection : ℕ) (u : Tables) (memory : List ℕ)
+      → replyOf t (answered connection t u memory) ≡ replyOf s (answered connection s u memory)
+  free-reply stands = unread-reply (all-alike stands)

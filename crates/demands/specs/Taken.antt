@@ -22,12 +22,12 @@ use Rattle.chain.specs.declared.block.Next.{Next}
 use Rattle.chain.specs.declared.block.Next.the-variants.{End, Follow}
 use Rattle.readings.specs.BlockParse.{blockAt, block-inside}
 use Rattle.readings.specs.Moved.{blockSize}
-use Rattle.readings.specs.FreeBytes.{AllStand}
+use Rattle.readings.specs.FreeBytes.{AllStand, AllAlike, all-alike}
 use Rattle.readings.specs.Chained.{Chained, chained-end, chained-more, read-chained}
 use Rattle.message.specs.Message.{served, onlyStatus, answered, Taken, notTaken, replied, take-message}
 use Rattle.demands.specs.GivenCases.{cond-case}
 use Rattle.demands.specs.Malformed.{malformed-nothing, not-served}
-use Rattle.demands.specs.FreeBytesMessage.{free-answered, free-reply}
+use Rattle.demands.specs.FreeBytesMessage.{unread-answered, unread-reply}
 use Rattle.demands.specs.Alone.{alone, alone-header, length-alone}
 use Rattle.demands.specs.OneByOne.{behind}
 use Rattle.demands.specs.Sound.{Good, answered-good}
@@ -56,15 +56,22 @@ unfolding take-message
 fit-answered connection s t memory room f =
     rw (le-ltb (length room) 12292 (f .room-enough), eq-eqb (length memory) 65536 (f .memory-whole), f .tables-sound, f .not-dropped)
 
+-- "Timeout fields are not looked at", "0xFF ends the chain and the offset is ignored": of two messages fit to be answered, let header, connection, tables and
+-- files be equal. If the blocks of a reading of one stand at the same places in the other, but for bytes that are not looked at (`Unread`), number, reply,
+-- tables, files and whatever else the call gives are equal.
+pub unread-taken : (connection : ℕ) (s t : List ℕ) → take 32 t ≡ take 32 s → {spans : List Span} → Reading s spans → AllAlike s t spans
+    → (u : Tables) (memory room : List ℕ) → Fit s u memory room → Fit t u memory room → take-message connection t u memory room ≡ take-message connection s u memory room
+unfolding replied
+unread-taken connection s t header r alike u memory room f g =
+    fit-answered connection t u memory room g
+    ∙ rw (unread-reply s t header r alike connection u memory, unread-answered s t header r alike connection u memory)
+    (sym (fit-answered connection s u memory room f))
+
 -- "of two messages fit to be answered, let header, connection, tables and files be equal. If the blocks of a reading of one stand unchanged at the same
 -- places in the other, .. number, reply, tables, files and whatever else the call gives are equal."
 pub free-taken : (connection : ℕ) (s t : List ℕ) → take 32 t ≡ take 32 s → {spans : List Span} → Reading s spans → AllStand s t spans
     → (u : Tables) (memory room : List ℕ) → Fit s u memory room → Fit t u memory room → take-message connection t u memory room ≡ take-message connection s u memory room
-unfolding replied
-free-taken connection s t header r stands u memory room f g =
-    fit-answered connection t u memory room g
-    ∙ rw (free-reply s t header r stands connection u memory, free-answered s t header r stands connection u memory)
-    (sym (fit-answered connection s u memory room f))
+free-taken connection s t header r stands = unread-taken connection s t header r (all-alike stands)
 
 -- "Answered as malformed: 0, Status 2/1": a message with a served command that is no sentence changes nothing
 pub malformed-taken : (connection : ℕ) (s : List ℕ) (t : Tables) (memory room : List ℕ) → Fit s t memory room → served (headerCommand s) ≡ true → (Sentence s → ⊥)

@@ -109,6 +109,32 @@ plain-andx-at process-exit-plain logoff-andx e = omega arith
 pub plain-not-andx : {command : ℕ} → Plain command → NamedAndx command → ⊥
 plain-not-andx p a = plain-andx-at p a refl
 
+-- a WRITE block has its DataOffset
+pub write-words : {s : List ℕ} {at command : ℕ} → IsBlock s at command → command ≡ WRITE → 12 ≤ wordCount s at
+write-words (locking-10 p h) e = absurd (omega arith)
+write-words (locking-20 p h) e = absurd (omega arith)
+write-words (read-10 h) e = absurd (omega arith)
+write-words (read-12 h) e = absurd (omega arith)
+write-words (write-12 h) e = omega arith
+write-words (write-14 h) e = omega arith
+write-words (close h) e = absurd (omega arith)
+write-words (logoff h) e = absurd (omega arith)
+write-words (tree-disconnect h) e = absurd (omega arith)
+write-words (process-exit h) e = absurd (omega arith)
+
+-- "AndX words begin AndXCommand (1), reserved (1), AndXOffset (2)": a block of a request named ANDX has them
+pub andx-words : {s : List ℕ} {at command : ℕ} → IsBlock s at command → NamedAndx command → 2 ≤ wordCount s at
+andx-words (locking-10 p h) a = omega arith
+andx-words (locking-20 p h) a = omega arith
+andx-words (read-10 h) a = omega arith
+andx-words (read-12 h) a = omega arith
+andx-words (write-12 h) a = omega arith
+andx-words (write-14 h) a = omega arith
+andx-words (close h) a = absurd (plain-not-andx close-plain a)
+andx-words (logoff h) a = omega arith
+andx-words (tree-disconnect h) a = absurd (plain-not-andx tree-disconnect-plain a)
+andx-words (process-exit h) a = absurd (plain-not-andx process-exit-plain a)
+
 -- an answer that is a block
 answer-whole : (s : List ℕ) (command at : ℕ) (good : Bool) (body : Body) (next : Next) (b : Block) → answer s command at good body next ≡ Whole b
     → (good ≡ true) × (b ≡ record { command = command; at = at; length = blockEnd s at - at; body = body; next = next })

@@ -1,4 +1,4 @@
--- "Bytes between or after blocks are free": a reading depends on the bytes of its blocks alone.
+-- "Bytes between or after blocks are free": a reading depends on the bytes of its blocks alone, and of these on those that are looked at.
 -- Assumes nothing.
 use mathlib.Core.Path.{_≡_, refl, sym, _∙_, ap}
 use Prim.Native.Nat.{ℕ, _+_, _-_, _≤_, _<_}
@@ -7,15 +7,18 @@ use mathlib.Core.List.{List, [], _∷_, List·Memᴰ as In, List·Memᴰ·head a
 use mathlib.Core.Option.{some}
 use lib.ListN.{length}
 use Rattle.wire.specs.LittleEndian.{byteAt, le16At}
-use Rattle.chain.specs.Layout.{WRITE, headerCommand, wordCount, blockEnd, andxCommand, andxOffset, dataOffset}
-use Rattle.chain.specs.Grammar.{IsBlock, locking-10, locking-20, read-10, read-12, write-12, write-14, close, logoff, tree-disconnect, process-exit, MayFollow, NamedAndx, close-plain, tree-disconnect-plain, process-exit-plain, Span, spanAt, ReadingFrom, plain-end, andx-end, andx-next, Reading}
+use Rattle.chain.specs.Layout.{NO_COMMAND, headerCommand, wordCount, blockEnd, andxCommand, andxOffset, dataOffset}
+use Rattle.chain.specs.Grammar.{IsBlock, MayFollow, NamedAndx, Span, spanAt, ReadingFrom, plain-end, andx-end, andx-next, Reading}
 use Rattle.chain.specs.Chain.{before, blocksFrom, blocks}
 use Rattle.chain.specs.declared.block.Body.{Body}
 use Rattle.chain.specs.declared.block.Body.the-variants.{Locking, Read, Write, Close, Logoff, TreeDisconnect, ProcessExit}
 use Rattle.chain.specs.declared.block.Next.{Next}
 use Rattle.chain.specs.declared.block.Next.the-variants.{End, Follow}
 use Rattle.chain.specs.declared.block.Block.{Block}
-use Rattle.readings.specs.BlockParse.{bodyAt, blockAt, Link, link-plain, link-end, link-next, parse-complete, follow-andx, plain-not-andx}
+use Rattle.readings.specs.BlockParse.{bodyAt, blockAt, Link, link-plain, link-end, link-next, parse-complete, follow-andx, follow-not-end, write-words, andx-words}
+use Rattle.readings.specs.SameNumbers.{same-16}
+use Rattle.readings.specs.Unread.{Unread}
+use Rattle.readings.specs.UnreadLaws.{in-words, unread-write, unread-front, offset-looked}
 use Rattle.chain.specs.ChainLaws.{chain-end, chain-more}
 use Rattle.readings.specs.ReaderSound.{reader-sound-from}
 use Rattle.readings.specs.ReaderComplete.{reader-complete-from}
@@ -26,31 +29,15 @@ pub record Stands (s t : List ℕ) (x : Span) : Type 0 where
   pub same : (k : ℕ) → x .place ≤ k → k < x .place + x .size → byteAt t k ≡ byteAt s k
   pub inside : x .place + x .size ≤ length t
 
--- a WRITE block has its DataOffset
-pub write-words : {s : List ℕ} {at command : ℕ} → IsBlock s at command → command ≡ WRITE → 12 ≤ wordCount s at
-write-words (locking-10 p h) e = absurd (omega arith)
-write-words (locking-20 p h) e = absurd (omega arith)
-write-words (read-10 h) e = absurd (omega arith)
-write-words (read-12 h) e = absurd (omega arith)
-write-words (write-12 h) e = omega arith
-write-words (write-14 h) e = omega arith
-write-words (close h) e = absurd (omega arith)
-write-words (logoff h) e = absurd (omega arith)
-write-words (tree-disconnect h) e = absurd (omega arith)
-write-words (process-exit h) e = absurd (omega arith)
+-- a block of s stands at the same place in t, but for bytes that are not looked at
+pub record Alike (s t : List ℕ) (x : Span) : Type 0 where
+  pub same : (k : ℕ) → k < x .size → (Unread s (x .place) (x .command) k → ⊥) → byteAt t (x .place + k) ≡ byteAt s (x .place + k)
+  pub inside : x .place + x .size ≤ length t
 
--- "AndX words begin AndXCommand (1), reserved (1), AndXOffset (2)": a block of a request named ANDX has them
-pub andx-words : {s : List ℕ} {at command : ℕ} → IsBlock s at command → NamedAndx command → 2 ≤ wordCount s at
-andx-words (locking-10 p h) a = omega arith
-andx-words (locking-20 p h) a = omega arith
-andx-words (read-10 h) a = omega arith
-andx-words (read-12 h) a = omega arith
-andx-words (write-12 h) a = omega arith
-andx-words (write-14 h) a = omega arith
-andx-words (close h) a = absurd (plain-not-andx close-plain a)
-andx-words (logoff h) a = omega arith
-andx-words (tree-disconnect h) a = absurd (plain-not-andx tree-disconnect-plain a)
-andx-words (process-exit h) a = absurd (plain-not-andx process-exit-plain a)
+-- one that stands unchanged does so
+stands-alike : {s t : List ℕ} {x : Span} → Stands s t x → Alike s t x
+stands-alike {x = x} stands =
+    record { same = λ k l _. stands .same (x .place + k) (omega arith) (omega arith); inside = stands .inside }
 
 -- a block that moved nowhere has the same fields
 moved-nowhere : (at : ℕ) (b : Body) → movedBody at at b ≡ b
@@ -63,39 +50,42 @@ moved-nowhere at Logoff = refl
 moved-nowhere at TreeDisconnect = refl
 moved-nowhere at ProcessExit = refl
 
-module _ {s t : List ℕ} {command at : ℕ} (h : IsBlock s at command) (stands : Stands s t (spanAt s command at)) where
-  -- its bytes
-  byte-same : (k : ℕ) → k < blockSize s at → byteAt t (at + k) ≡ byteAt s (at + k)
+module _ {s t : List ℕ} {command at : ℕ} (h : IsBlock s at command) (alike : Alike s t (spanAt s command at)) where
+  -- its bytes that are looked at
+  byte-same : (k : ℕ) → k < blockSize s at → (Unread s at command k → ⊥) → byteAt t (at + k) ≡ byteAt s (at + k)
   unfolding spanAt
-  byte-same k l = stands .same (at + k) (omega arith) (omega arith)
+  byte-same k l n = alike .same k l n
 
-  -- a number of two bytes in it
-  number-same : (k : ℕ) → k + 1 < blockSize s at → le16At t (at + k) ≡ le16At s (at + k)
-  unfolding le16At
-  number-same k l =
-      let a : byteAt t (at + k) ≡ byteAt s (at + k) = byte-same k (omega arith) in
-      let b : byteAt t (at + (k + 1)) ≡ byteAt s (at + (k + 1)) = byte-same (k + 1) l in
-      let e : at + k + 1 ≡ at + (k + 1) = omega arith in
-      rw (e, a, b)
+  -- a number of two such bytes
+  number-same : (k : ℕ) → k + 2 ≤ blockSize s at → ((i : ℕ) → k ≤ i → i < k + 2 → Unread s at command i → ⊥) → le16At t (at + k) ≡ le16At s (at + k)
+  number-same k l n =
+      same-16 s (at + k) t (at + k)
+      (λ j b. let e : at + k + j ≡ at + (k + j) = omega arith in rw e (byte-same (k + j) (omega arith) (n (k + j) (omega arith) (omega arith))))
 
   -- it moved nowhere
   pub unmoved : Moved s at t at command
   unfolding spanAt
   unmoved =
       record {
-        kept = λ k l _. byte-same k l;
-        inside = stands .inside;
+        kept = λ k l p. byte-same k l (p .1);
+        inside = alike .inside;
         data-moved = λ e. let w : 12 ≤ wordCount s at = write-words h e in
-            let o : dataOffset t at ≡ dataOffset s at = number-same 23 (omega arith) in
+            let o : dataOffset t at ≡ dataOffset s at =
+            number-same 23 (omega arith) (λ i p q u. let v = unread-write e (in-words (λ _ _. omega arith) (omega arith) u) in omega arith) in
             omega arith;
       }
 
   -- its AndX words too
   andx-command-same : NamedAndx command → andxCommand t at ≡ andxCommand s at
-  andx-command-same a = let w : 2 ≤ wordCount s at = andx-words h a in byte-same 1 (omega arith)
+  andx-command-same a =
+      let w : 2 ≤ wordCount s at = andx-words h a in
+      byte-same 1 (omega arith) (λ u. let v = unread-front (in-words (λ _ l. omega arith) (omega arith) u) in omega arith)
 
-  andx-offset-same : NamedAndx command → andxOffset t at ≡ andxOffset s at
-  andx-offset-same a = let w : 2 ≤ wordCount s at = andx-words h a in number-same 3 (omega arith)
+  -- the offset unless "0xFF ends the chain and the offset is ignored"
+  andx-offset-same : NamedAndx command → (andxCommand s at ≡ NO_COMMAND → ⊥) → andxOffset t at ≡ andxOffset s at
+  andx-offset-same a n =
+      let w : 2 ≤ wordCount s at = andx-words h a in
+      number-same 3 (omega arith) (λ i p q. offset-looked a n w p (omega arith))
 
   -- the same is read of it
   pub block-same : (next : Next) → blockAt t command at next ≡ blockAt s command at next
@@ -114,56 +104,71 @@ module _ {s t : List ℕ} {command at : ℕ} (h : IsBlock s at command) (stands 
   link-same (link-end a e) = link-end a (andx-command-same a ∙ e)
   link-same (link-next f g) =
       let c : andxCommand t at ≡ andxCommand s at = andx-command-same (follow-andx f) in
-      let o : andxOffset t at ≡ andxOffset s at = andx-offset-same (follow-andx f) in
+      let o : andxOffset t at ≡ andxOffset s at = andx-offset-same (follow-andx f) (follow-not-end f) in
       let e : blockEnd t at ≡ blockEnd s at = end-same in
       let m : MayFollow command (andxCommand t at) = rw c f in
       let l : blockEnd t at ≤ andxOffset t at = omega arith in
       rw (← c, ← o) (link-next m l)
 
-  -- a last block that stands unchanged
-  free-end : Link s command at End → blocksFrom t command at ≡ blocksFrom s command at
+  -- a last block
+  same-end : Link s command at End → blocksFrom t command at ≡ blocksFrom s command at
   unfolding blockAt
-  free-end l =
+  same-end l =
       chain-end t command at (blockAt t command at End) (parse-complete t at (moved-block h unmoved) (link-same l)) refl
       ∙ ap (λ (b : Block). some (b ∷ [])) (block-same End)
       ∙ sym (chain-end s command at (blockAt s command at End) (parse-complete s at h l) refl)
 
   -- one with others behind it
-  free-more : (c a : ℕ) → Link s command at (Follow c a) → blocksFrom t c a ≡ blocksFrom s c a → blocksFrom t command at ≡ blocksFrom s command at
+  same-more : (c a : ℕ) → Link s command at (Follow c a) → blocksFrom t c a ≡ blocksFrom s c a → blocksFrom t command at ≡ blocksFrom s command at
   unfolding blockAt
-  free-more c a l e =
+  same-more c a l e =
       chain-more t command at (blockAt t command at (Follow c a)) (parse-complete t at (moved-block h unmoved) (link-same l)) c a refl
       ∙ ap (before (blockAt t command at (Follow c a))) e
       ∙ ap (λ (b : Block). before b (blocksFrom s c a)) (block-same (Follow c a))
       ∙ sym (chain-more s command at (blockAt s command at (Follow c a)) (parse-complete s at h l) c a refl)
 
--- the blocks of a list stand unchanged in another message
+-- the blocks of a list stand unchanged in another message, or but for bytes that are not looked at
 abbrev pub AllStand : List ℕ → List ℕ → List Span → Type 0
 AllStand s t spans = (x : Span) → In x spans → Stands s t x
 
--- "Bytes between or after blocks are free": the reader answers the same blocks for both messages, from a place on
-pub free-blocks-from : {s : List ℕ} (t : List ℕ) {command at : ℕ} {spans : List Span} → ReadingFrom s command at spans → AllStand s t spans
+abbrev pub AllAlike : List ℕ → List ℕ → List Span → Type 0
+AllAlike s t spans = (x : Span) → In x spans → Alike s t x
+
+-- "unchanged" is more
+pub all-alike : {s t : List ℕ} {spans : List Span} → AllStand s t spans → AllAlike s t spans
+all-alike stands x i = stands-alike (stands x i)
+
+-- the reader answers the same blocks for both messages, from a place on
+pub unread-blocks-from : {s : List ℕ} (t : List ℕ) {command at : ℕ} {spans : List Span} → ReadingFrom s command at spans → AllAlike s t spans
     → blocksFrom t command at ≡ blocksFrom s command at
-free-blocks-from {s} t (plain-end {command} {at} h p) stands = free-end h (stands (spanAt s command at) (first refl)) (link-plain p)
-free-blocks-from {s} t (andx-end {command} {at} h a e) stands = free-end h (stands (spanAt s command at) (first refl)) (link-end a e)
-free-blocks-from {s} t (andx-next {command} {at} {rest} h m g r) stands =
-    free-more h (stands (spanAt s command at) (first refl)) (andxCommand s at) (andxOffset s at) (link-next m g)
-    (free-blocks-from t r (λ x i. stands x (later i)))
+unread-blocks-from {s} t (plain-end {command} {at} h p) alike = same-end h (alike (spanAt s command at) (first refl)) (link-plain p)
+unread-blocks-from {s} t (andx-end {command} {at} h a e) alike = same-end h (alike (spanAt s command at) (first refl)) (link-end a e)
+unread-blocks-from {s} t (andx-next {command} {at} {rest} h m g r) alike =
+    same-more h (alike (spanAt s command at) (first refl)) (andxCommand s at) (andxOffset s at) (link-next m g)
+    (unread-blocks-from t r (λ x i. alike x (later i)))
 
--- "If the blocks of a reading of one stand unchanged at the same places in the other, it is the other's reading too": from a place on
-pub free-reading-from : {s : List ℕ} (t : List ℕ) {command at : ℕ} {spans : List Span} → ReadingFrom s command at spans → AllStand s t spans
+-- a reading of one is the other's too, from a place on
+pub unread-reading-from : {s : List ℕ} (t : List ℕ) {command at : ℕ} {spans : List Span} → ReadingFrom s command at spans → AllAlike s t spans
     → ReadingFrom t command at spans
-free-reading-from {s} t {command} {at} r stands =
+unread-reading-from {s} t {command} {at} r alike =
     let a = reader-complete-from r in
-    rw (← (a .same)) (reader-sound-from t command at (a .bs) (free-blocks-from t r stands ∙ a .answer))
+    rw (← (a .same)) (reader-sound-from t command at (a .bs) (unread-blocks-from t r alike ∙ a .answer))
 
--- and of whole messages with the same header command
-pub free-reading : {s : List ℕ} (t : List ℕ) {spans : List Span} → headerCommand t ≡ headerCommand s → Reading s spans → AllStand s t spans
-    → Reading t spans
-free-reading t e r stands = rw e (free-reading-from t r stands)
+module _ {s : List ℕ} (t : List ℕ) {spans : List Span} (e : headerCommand t ≡ headerCommand s) (r : Reading s spans) where
+  -- "Timeout fields are not looked at", "0xFF ends the chain and the offset is ignored": of two messages with the same header command, if the blocks of a
+  -- reading of one stand at the same places in the other, but for bytes that are not looked at, it is the other's reading too
+  pub unread-reading : AllAlike s t spans → Reading t spans
+  unread-reading alike = rw e (unread-reading-from t r alike)
 
--- with the same fields of every block: "number, reply, tables, files and whatever else the call gives are equal"
-pub free-blocks : {s : List ℕ} (t : List ℕ) {spans : List Span} → headerCommand t ≡ headerCommand s → Reading s spans → AllStand s t spans
-    → blocks t ≡ blocks s
-unfolding blocks
-free-blocks t e r stands = rw e (free-blocks-from t r stands)
+  -- with the same fields of every block
+  pub unread-blocks : AllAlike s t spans → blocks t ≡ blocks s
+  unfolding blocks
+  unread-blocks alike = rw e (unread-blocks-from t r alike)
+
+  -- "If the blocks of a reading of one stand unchanged at the same places in the other, it is the other's reading too"
+  pub free-reading : AllStand s t spans → Reading t spans
+  free-reading stands = unread-reading (all-alike stands)
+
+  -- with the same fields of every block: "number, reply, tables, files and whatever else the call gives are equal"
+  pub free-blocks : AllStand s t spans → blocks t ≡ blocks s
+  free-blocks stands = unread-blocks (all-alike stands)

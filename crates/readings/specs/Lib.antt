@@ -2,6 +2,10 @@ pub mod Cases
 pub mod Follows
 pub mod BlockTests
 pub mod BlockParse
+pub mod Unread
+pub mod UnreadLaws
+pub mod SameNumbers
+pub mod RangeBytes
 pub mod ReaderSound
 pub mod ReaderComplete
 pub mod OneReading

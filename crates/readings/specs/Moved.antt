@@ -12,11 +12,14 @@ use lib.Dec.{eqb}
 use borrow.Author.Tests.{eqb-true}
 use Rattle.wire.specs.LittleEndian.{byteAt, le16At, le32At}
 use Rattle.chain.specs.Layout.{CLOSE, LOCKING, READ, WRITE, wordCount, byteArea, byteCount, blockEnd, fidAfterAndx, lockType, unlockCount, lockCount, offsetLow, readMax, readOffsetHigh, dataLength, dataOffset, writeOffsetHigh, closeFid}
-use Rattle.chain.specs.Grammar.{Shape, Bare, Ranges, Data, IsBlock, locking-10, locking-20, read-10, read-12, write-12, write-14, close, logoff, tree-disconnect, process-exit, Plain, close-plain, tree-disconnect-plain, process-exit-plain}
+use Rattle.chain.specs.Grammar.{Shape, Bare, Ranges, Data, IsBlock, locking-10, locking-20, read-10, read-12, write-12, write-14, close, logoff, tree-disconnect, process-exit, NamedAndx, locking-andx, read-andx, write-andx, Plain, close-plain, tree-disconnect-plain, process-exit-plain}
 use Rattle.chain.specs.Parse.{wideOffset}
 use Rattle.chain.specs.declared.block.Body.{Body}
 use Rattle.chain.specs.declared.block.Body.the-variants.{Locking, Read, Write, Close, Logoff, TreeDisconnect, ProcessExit}
-use Rattle.readings.specs.BlockParse.{bodyAt}
+use Rattle.readings.specs.BlockParse.{bodyAt, plain-not-andx, andx-words}
+use Rattle.readings.specs.SameNumbers.{SameBytes, same-16, same-32}
+use Rattle.readings.specs.Unread.{UnreadWord, Unread}
+use Rattle.readings.specs.UnreadLaws.{in-words, unread-locking, unread-read, unread-write, unread-front, unread-andx, unread-before-count}
 
 -- the length of the block at a place
 abbrev pub blockSize : List ℕ → ℕ → ℕ
@@ -31,9 +34,14 @@ pub data Kept (command : ℕ) : ℕ → Type 0 where
   kept-behind : {k : ℕ} → 25 ≤ k → Kept command k
   kept-not-write : {k : ℕ} → (command ≡ WRITE → ⊥) → 5 ≤ k → Kept command k
 
--- "and a WRITE_ANDX's DataOffset less by what the block moved": the block at `at` in s stands at `to` in t
+-- those of them that are looked at
+abbrev pub KeptRead : List ℕ → ℕ → ℕ → ℕ → Type 0
+KeptRead s at command k = Kept command k × (Unread s at command k → ⊥)
+
+-- "and a WRITE_ANDX's DataOffset less by what the block moved": the block at `at` in s stands at `to` in t. Of the bytes that stay as they are, those
+-- that are not looked at may differ.
 pub record Moved (s : List ℕ) (at : ℕ) (t : List ℕ) (to : ℕ) (command : ℕ) : Type 0 where
-  pub kept : (k : ℕ) → k < blockSize s at → Kept command k → byteAt t (to + k) ≡ byteAt s (at + k)
+  pub kept : (k : ℕ) → k < blockSize s at → KeptRead s at command k → byteAt t (to + k) ≡ byteAt s (at + k)
   pub inside : to + blockSize s at ≤ length t
   pub data-moved : command ≡ WRITE → dataOffset t to + at ≡ dataOffset s at + to
 
@@ -67,92 +75,107 @@ bytes-kept (tree-disconnect h) k e = kept-plain tree-disconnect-plain
 bytes-kept (process-exit h) k e = kept-plain process-exit-plain
 
 module _ {s : List ℕ} {at : ℕ} {t : List ℕ} {to : ℕ} {command : ℕ} (m : Moved s at t to command) where
-  -- two bytes that are kept
-  kept-16 : (k : ℕ) → k + 1 < blockSize s at → Kept command k → Kept command (k + 1) → le16At t (to + k) ≡ le16At s (at + k)
-  unfolding le16At
-  kept-16 k h p q =
-      let a : byteAt t (to + k) ≡ byteAt s (at + k) = m .kept k (omega arith) p in
-      let b : byteAt t (to + (k + 1)) ≡ byteAt s (at + (k + 1)) = m .kept (k + 1) h q in
-      let e : to + k + 1 ≡ to + (k + 1) = omega arith in
-      let f : at + k + 1 ≡ at + (k + 1) = omega arith in
-      rw (e, f, a, b)
+  -- bytes that are kept
+  kept-bytes : (k size : ℕ) → k + size ≤ blockSize s at → ((i : ℕ) → k ≤ i → i < k + size → KeptRead s at command i) → SameBytes s (at + k) t (to + k) size
+  kept-bytes k size h p j l =
+      let e : to + k + j ≡ to + (k + j) = omega arith in
+      let f : at + k + j ≡ at + (k + j) = omega arith in
+      rw (e, f) (m .kept (k + j) (omega arith) (p (k + j) (omega arith) (omega arith)))
 
-  -- four bytes that are kept
-  kept-32 : (k : ℕ) → k + 3 < blockSize s at → ((i : ℕ) → k ≤ i → i < k + 4 → Kept command i) → le32At t (to + k) ≡ le32At s (at + k)
-  unfolding le32At
-  kept-32 k h p =
-      let a : le16At t (to + k) ≡ le16At s (at + k) = kept-16 k (omega arith) (p k (omega arith) (omega arith)) (p (k + 1) (omega arith) (omega arith)) in
-      let b : le16At t (to + (k + 2)) ≡ le16At s (at + (k + 2)) =
-      kept-16 (k + 2) (omega arith) (p (k + 2) (omega arith) (omega arith)) (p (k + 2 + 1) (omega arith) (omega arith)) in
-      let e : to + k + 2 ≡ to + (k + 2) = omega arith in
-      let f : at + k + 2 ≡ at + (k + 2) = omega arith in
-      rw (e, f, a, b)
+  -- a number of two bytes that are kept, and one of four
+  kept-16 : (k : ℕ) → k + 2 ≤ blockSize s at → ((i : ℕ) → k ≤ i → i < k + 2 → KeptRead s at command i) → le16At t (to + k) ≡ le16At s (at + k)
+  kept-16 k h p = same-16 s (at + k) t (to + k) (kept-bytes k 2 h p)
 
-  -- a number of two bytes, and one of four, behind the AndX words and before the DataOffset
-  front-16 : (k : ℕ) → 5 ≤ k → k + 1 < 23 → k + 1 < blockSize s at → le16At t (to + k) ≡ le16At s (at + k)
-  front-16 k a b h = kept-16 k h (kept-front (omega arith) (omega arith)) (kept-front (omega arith) (omega arith))
+  kept-32 : (k : ℕ) → k + 4 ≤ blockSize s at → ((i : ℕ) → k ≤ i → i < k + 4 → KeptRead s at command i) → le32At t (to + k) ≡ le32At s (at + k)
+  kept-32 k h p = same-32 s (at + k) t (to + k) (kept-bytes k 4 h p)
 
-  front-32 : (k : ℕ) → 5 ≤ k → k + 3 < 23 → k + 3 < blockSize s at → le32At t (to + k) ≡ le32At s (at + k)
-  front-32 k a b h = kept-32 k h (λ i p q. kept-front (omega arith) (omega arith))
+  -- a byte of the words that is looked at, behind the AndX words and before the DataOffset
+  front-kept : (k : ℕ) → 5 ≤ k → k < 23 → at + k < byteArea s at → (UnreadWord command k → ⊥) → KeptRead s at command k
+  front-kept k a b h n = (kept-front a b, λ u. n (in-words (λ _ _. a) h u))
+
+  -- a number of two bytes, and one of four, there
+  front-16 : (k : ℕ) → 5 ≤ k → k + 1 < 23 → at + k + 1 < byteArea s at → ((i : ℕ) → k ≤ i → i < k + 2 → UnreadWord command i → ⊥)
+      → le16At t (to + k) ≡ le16At s (at + k)
+  front-16 k a b h n = kept-16 k (omega arith) (λ i p q. front-kept i (omega arith) (omega arith) (omega arith) (n i p q))
+
+  front-32 : (k : ℕ) → 5 ≤ k → k + 3 < 23 → at + k + 3 < byteArea s at → ((i : ℕ) → k ≤ i → i < k + 4 → UnreadWord command i → ⊥)
+      → le32At t (to + k) ≡ le32At s (at + k)
+  front-32 k a b h n = kept-32 k (omega arith) (λ i p q. front-kept i (omega arith) (omega arith) (omega arith) (n i p q))
 
   -- the number of words
   pub moved-words : wordCount t to ≡ wordCount s at
   moved-words =
-      let z : byteAt t (to + 0) ≡ byteAt s (at + 0) = m .kept 0 (omega arith) kept-count in
+      let z : byteAt t (to + 0) ≡ byteAt s (at + 0) =
+      m .kept 0 (omega arith) (kept-count, λ u. let w = unread-front (in-words (λ _ l. omega arith) (omega arith) u) in omega arith) in
       rw (add-zero to, add-zero at) at z
 
   -- the fields of the words, where there are so many words
-  pub moved-fid : 2 ≤ wordCount s at → fidAfterAndx t to ≡ fidAfterAndx s at
-  moved-fid h = front-16 5 (omega arith) (omega arith) (omega arith)
+  pub moved-fid : NamedAndx command → 2 ≤ wordCount s at → fidAfterAndx t to ≡ fidAfterAndx s at
+  moved-fid a h = front-16 5 (omega arith) (omega arith) (omega arith) (λ i p q u. let w = unread-andx a u in omega arith)
 
-  pub moved-kind : 3 ≤ wordCount s at → lockType t to ≡ lockType s at
-  moved-kind h = m .kept 7 (omega arith) (kept-front (omega arith) (omega arith))
+  pub moved-kind : command ≡ LOCKING → 3 ≤ wordCount s at → lockType t to ≡ lockType s at
+  moved-kind c h = m .kept 7 (omega arith) (front-kept 7 (omega arith) (omega arith) (omega arith) (λ u. let w = unread-locking c u in omega arith))
 
-  pub moved-unlocks : 6 ≤ wordCount s at → unlockCount t to ≡ unlockCount s at
-  moved-unlocks h = front-16 13 (omega arith) (omega arith) (omega arith)
+  pub moved-unlocks : command ≡ LOCKING → 6 ≤ wordCount s at → unlockCount t to ≡ unlockCount s at
+  moved-unlocks c h = front-16 13 (omega arith) (omega arith) (omega arith) (λ i p q u. let w = unread-locking c u in omega arith)
 
-  pub moved-locks : 7 ≤ wordCount s at → lockCount t to ≡ lockCount s at
-  moved-locks h = front-16 15 (omega arith) (omega arith) (omega arith)
+  pub moved-locks : command ≡ LOCKING → 7 ≤ wordCount s at → lockCount t to ≡ lockCount s at
+  moved-locks c h = front-16 15 (omega arith) (omega arith) (omega arith) (λ i p q u. let w = unread-locking c u in omega arith)
 
-  pub moved-low : 4 ≤ wordCount s at → offsetLow t to ≡ offsetLow s at
-  moved-low h = front-32 7 (omega arith) (omega arith) (omega arith)
+  moved-low : ((i : ℕ) → i < 11 → UnreadWord command i → ⊥) → 4 ≤ wordCount s at → offsetLow t to ≡ offsetLow s at
+  moved-low n h = front-32 7 (omega arith) (omega arith) (omega arith) (λ i p q. n i q)
 
-  pub moved-max : 5 ≤ wordCount s at → readMax t to ≡ readMax s at
-  moved-max h = front-16 11 (omega arith) (omega arith) (omega arith)
+  pub moved-max : command ≡ READ → 5 ≤ wordCount s at → readMax t to ≡ readMax s at
+  moved-max c h = front-16 11 (omega arith) (omega arith) (omega arith) (λ i p q u. let w = unread-read c u in omega arith)
 
-  pub moved-length : 10 ≤ wordCount s at → dataLength t to ≡ dataLength s at
-  moved-length h = front-16 21 (omega arith) (omega arith) (omega arith)
+  pub moved-length : command ≡ WRITE → 10 ≤ wordCount s at → dataLength t to ≡ dataLength s at
+  moved-length c h = front-16 21 (omega arith) (omega arith) (omega arith) (λ i p q u. let w = unread-write c u in omega arith)
 
   pub moved-close-fid : Plain command → closeFid t to ≡ closeFid s at
-  moved-close-fid p = kept-16 1 (omega arith) (kept-plain p) (kept-plain p)
+  moved-close-fid p =
+      let front : (k : ℕ) → k < 3 → KeptRead s at command k =
+      λ k l. (kept-plain p, λ u. let w = unread-front (in-words (λ a _. absurd (plain-not-andx p a)) (omega arith) u) in omega arith) in
+      kept-16 1 (omega arith) (λ i _ q. front i q)
 
   -- the whole offset of a READ block
-  pub moved-read-offset : (command ≡ WRITE → ⊥) → 4 ≤ wordCount s at
+  pub moved-read-offset : command ≡ READ → 4 ≤ wordCount s at
       → wideOffset (offsetLow t to) (readOffsetHigh t to) (eqb (wordCount t to) 12)
       ≡ wideOffset (offsetLow s at) (readOffsetHigh s at) (eqb (wordCount s at) 12)
-  moved-read-offset n h =
+  moved-read-offset c h =
       rw moved-words
-      (wide-same (offsetLow t to) (offsetLow s at) (readOffsetHigh t to) (readOffsetHigh s at) (eqb (wordCount s at) 12) (moved-low h)
-      (λ e. let w : wordCount s at ≡ 12 = eqb-true (wordCount s at) 12 e in kept-32 21 (omega arith) (λ i p q. kept-not-write {k = i} n (omega arith))))
+      (wide-same (offsetLow t to) (offsetLow s at) (readOffsetHigh t to) (readOffsetHigh s at) (eqb (wordCount s at) 12)
+      (moved-low (λ i l u. let w = unread-read c u in omega arith) h)
+      (λ e. let w : wordCount s at ≡ 12 = eqb-true (wordCount s at) 12 e in
+      kept-32 21 (omega arith)
+      (λ i p q. (kept-not-write {k = i} (λ f. omega arith) (omega arith), λ u. let v = unread-read c (in-words (λ _ _. omega arith) (omega arith) u) in omega arith))))
 
   -- the whole offset of a WRITE block
-  pub moved-write-offset : 4 ≤ wordCount s at
+  pub moved-write-offset : command ≡ WRITE → 4 ≤ wordCount s at
       → wideOffset (offsetLow t to) (writeOffsetHigh t to) (eqb (wordCount t to) 14)
       ≡ wideOffset (offsetLow s at) (writeOffsetHigh s at) (eqb (wordCount s at) 14)
-  moved-write-offset h =
+  moved-write-offset c h =
       rw moved-words
-      (wide-same (offsetLow t to) (offsetLow s at) (writeOffsetHigh t to) (writeOffsetHigh s at) (eqb (wordCount s at) 14) (moved-low h)
-      (λ e. let w : wordCount s at ≡ 14 = eqb-true (wordCount s at) 14 e in kept-32 25 (omega arith) (λ i p q. kept-behind {k = i} (omega arith))))
+      (wide-same (offsetLow t to) (offsetLow s at) (writeOffsetHigh t to) (writeOffsetHigh s at) (eqb (wordCount s at) 14)
+      (moved-low (λ i l u. let w = unread-write c u in omega arith) h)
+      (λ e. let w : wordCount s at ≡ 14 = eqb-true (wordCount s at) 14 e in
+      kept-32 25 (omega arith)
+      (λ i p q. (kept-behind {k = i} (omega arith), λ u. let v = unread-write c (in-words (λ _ _. omega arith) (omega arith) u) in omega arith))))
 
   module _ (h : IsBlock s at command) where
+    -- ByteCount
+    count-kept : (k : ℕ) → 1 + 2 * wordCount s at ≤ k → k < 3 + 2 * wordCount s at → KeptRead s at command k
+    count-kept k p q = (
+      bytes-kept h k p,
+      λ u. let w = unread-before-count h (in-words (λ a _. let n = andx-words h a in omega arith) (omega arith) u) in omega arith,
+    )
+
     -- the number of bytes
     pub moved-count : byteCount t to ≡ byteCount s at
     moved-count =
         let e : to + 1 + 2 * wordCount s at ≡ to + (1 + 2 * wordCount s at) = omega arith in
         let f : at + 1 + 2 * wordCount s at ≡ at + (1 + 2 * wordCount s at) = omega arith in
         let g : le16At t (to + (1 + 2 * wordCount s at)) ≡ le16At s (at + (1 + 2 * wordCount s at)) =
-        kept-16 (1 + 2 * wordCount s at) (omega arith) (bytes-kept h (1 + 2 * wordCount s at) (omega arith))
-        (bytes-kept h (1 + 2 * wordCount s at + 1) (omega arith)) in
+        kept-16 (1 + 2 * wordCount s at) (omega arith) (λ i p q. count-kept i p (omega arith)) in
         rw (moved-words, e, g, f)
 
     -- where its bytes start
@@ -167,13 +190,13 @@ module _ {s : List ℕ} {at : ℕ} {t : List ℕ} {to : ℕ} {command : ℕ} (m 
     pub moved-size : blockSize t to ≡ blockSize s at
     moved-size = let e = moved-end in omega arith
 
-    -- its bytes, one by one
-    pub moved-bytes : (k : ℕ) → k < byteCount s at → byteAt t (byteArea t to + k) ≡ byteAt s (byteArea s at + k)
-    moved-bytes k l =
+    -- its bytes that are looked at, one by one
+    pub moved-bytes : (k : ℕ) → k < byteCount s at → (Unread s at command (3 + 2 * wordCount s at + k) → ⊥) → byteAt t (byteArea t to + k) ≡ byteAt s (byteArea s at + k)
+    moved-bytes k l n =
         let e : to + 3 + 2 * wordCount s at + k ≡ to + (3 + 2 * wordCount s at + k) = omega arith in
         let f : at + 3 + 2 * wordCount s at + k ≡ at + (3 + 2 * wordCount s at + k) = omega arith in
         let g : byteAt t (to + (3 + 2 * wordCount s at + k)) ≡ byteAt s (at + (3 + 2 * wordCount s at + k)) =
-        m .kept (3 + 2 * wordCount s at + k) (omega arith) (bytes-kept h (3 + 2 * wordCount s at + k) (omega arith)) in
+        m .kept (3 + 2 * wordCount s at + k) (omega arith) (bytes-kept h (3 + 2 * wordCount s at + k) (omega arith), n) in
         rw (moved-words, e, g, f)
 
     -- the same shape, inside the other message
@@ -187,18 +210,18 @@ module _ {s : List ℕ} {at : ℕ} {t : List ℕ} {to : ℕ} {command : ℕ} (m 
     moved-bare b = record { shape = moved-shape (b .shape); empty = moved-count ∙ b .empty }
 
     -- the same ranges
-    moved-ranges : {size : ℕ} → Ranges s at size → Ranges t to size
-    moved-ranges {size} r =
+    moved-ranges : {size : ℕ} → command ≡ LOCKING → Ranges s at size → Ranges t to size
+    moved-ranges {size} c r =
         let w : wordCount s at ≡ 8 = r .shape .counted in
-        let u : unlockCount t to ≡ unlockCount s at = moved-unlocks (omega arith) in
-        let l : lockCount t to ≡ lockCount s at = moved-locks (omega arith) in
+        let u : unlockCount t to ≡ unlockCount s at = moved-unlocks c (omega arith) in
+        let l : lockCount t to ≡ lockCount s at = moved-locks c (omega arith) in
         record { shape = moved-shape (r .shape); announced = moved-count ∙ rw (u, l) (r .announced) }
 
     -- the data inside the bytes again
     moved-data : {words : ℕ} → command ≡ WRITE → 10 ≤ words → Data s at words → Data t to words
     moved-data c w d =
         let n : 10 ≤ wordCount s at = rw (d .shape .counted) w in
-        let l : dataLength t to ≡ dataLength s at = moved-length n in
+        let l : dataLength t to ≡ dataLength s at = moved-length c n in
         let o : dataOffset t to + at ≡ dataOffset s at + to = m .data-moved c in
         let a : byteArea t to + at ≡ byteArea s at + to = moved-area in
         let e : blockEnd t to ≡ to + blockSize s at = moved-end in
@@ -210,10 +233,10 @@ module _ {s : List ℕ} {at : ℕ} {t : List ℕ} {to : ℕ} {command : ℕ} (m 
 pub moved-block : {s : List ℕ} {at : ℕ} {t : List ℕ} {to command : ℕ} → IsBlock s at command → Moved s at t to command → IsBlock t to command
 moved-block {s} {at} (locking-10 p h) m =
     let w : 3 ≤ wordCount s at = omega arith in
-    locking-10 (rw (moved-kind m w) p) (moved-ranges m (locking-10 p h) h)
+    locking-10 (rw (moved-kind m refl w) p) (moved-ranges m (locking-10 p h) refl h)
 moved-block {s} {at} (locking-20 p h) m =
     let w : 3 ≤ wordCount s at = omega arith in
-    locking-20 (rw (moved-kind m w) p) (moved-ranges m (locking-20 p h) h)
+    locking-20 (rw (moved-kind m refl w) p) (moved-ranges m (locking-20 p h) refl h)
 moved-block (read-10 h) m = read-10 (moved-bare m (read-10 h) h)
 moved-block (read-12 h) m = read-12 (moved-bare m (read-12 h) h)
 moved-block (write-12 h) m = write-12 (moved-data m (write-12 h) refl (omega arith) h)
@@ -228,13 +251,13 @@ moved-locking-body : {s : List ℕ} {at : ℕ} {t : List ℕ} {to : ℕ} → wor
     → bodyAt t LOCKING to ≡ movedBody at to (bodyAt s LOCKING at)
 unfolding bodyAt movedBody
 moved-locking-body w m =
-    rw (moved-fid m (omega arith), moved-kind m (omega arith), moved-unlocks m (omega arith), moved-locks m (omega arith))
+    rw (moved-fid m locking-andx (omega arith), moved-kind m refl (omega arith), moved-unlocks m refl (omega arith), moved-locks m refl (omega arith))
 
 -- a READ block's
 moved-read-body : {s : List ℕ} {at : ℕ} {t : List ℕ} {to : ℕ} → 10 ≤ wordCount s at → Moved s at t to READ
     → bodyAt t READ to ≡ movedBody at to (bodyAt s READ at)
 unfolding bodyAt movedBody
-moved-read-body w m = rw (moved-fid m (omega arith), moved-read-offset m (omega arith) (omega arith), moved-max m (omega arith))
+moved-read-body w m = rw (moved-fid m read-andx (omega arith), moved-read-offset m refl (omega arith), moved-max m refl (omega arith))
 
 -- a WRITE block's, with the data's place moved
 moved-write-body : {s : List ℕ} {at : ℕ} {t : List ℕ} {to words : ℕ} → 12 ≤ wordCount s at → Data s at words → Moved s at t to WRITE
@@ -244,7 +267,7 @@ moved-write-body {s} {at} {t} {to} w d m =
     let o : dataOffset t to + at ≡ dataOffset s at + to = m .data-moved refl in
     let b : byteArea s at ≤ dataOffset s at = d .starts in
     let e : dataOffset t to ≡ dataOffset s at + to - at = omega arith in
-    rw (moved-fid m (omega arith), moved-write-offset m (omega arith), moved-length m (omega arith), e)
+    rw (moved-fid m write-andx (omega arith), moved-write-offset m refl (omega arith), moved-length m refl (omega arith), e)
 
 -- a CLOSE block's
 moved-close-body : {s : List ℕ} {at : ℕ} {t : List ℕ} {to : ℕ} → Moved s at t to CLOSE → bodyAt t CLOSE to ≡ movedBody at to (bodyAt s CLOSE at)
