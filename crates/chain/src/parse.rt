@@ -25,7 +25,6 @@ ghost use Prim.Native.Nat.{_<_};
 ghost use mathlib.Core.Bool.{true};
 ghost use lib.ListN.{length};
 ghost use Rattle.wire.specs.LittleEndian.{le32At};
-ghost use Rattle.chain.specs.Layout.{blockEnd};
 ghost use Rattle.chain.specs.Parse.{lockingFits, readFits, writeFits, dataInside, answer, wideOffset, parseLocking, parseRead, parseWrite, parseClose, parseLogoff, parseEmpty, parse};
 
 // A block that fits.

@@ -1,4 +1,4 @@
--- What each command does once it is known who asks: the parts of message/specs/Command.antt's definitions, and that these
+-- What LOCKING, READ and WRITE do once it is known who asks: the parts of message/specs/Command.antt's definitions, and that these
 -- are those. Assumes nothing.
 use mathlib.Core.Path.{_≡_, refl}
 use Prim.Native.Nat.{ℕ}
@@ -11,15 +11,13 @@ use Rattle.records.specs.Held.{opensOf}
 use Rattle.locks.specs.Request.{locking}
 use Rattle.locks.specs.declared.types.Purpose.the-variants.{Read as Reading, Write as Writing}
 use Rattle.soundness.specs.File.{fileOf}
-use Rattle.removal.specs.Removal.{remove}
-use Rattle.removal.specs.declared.Gone.the-variants.{Session as UserGone, Tree as TreeGone, Open as OpenGone, Process as ProcessGone}
 use Rattle.chain.specs.declared.block.LockingFields.{LockingFields}
 use Rattle.chain.specs.declared.block.ReadFields.{ReadFields}
 use Rattle.chain.specs.declared.block.WriteFields.{WriteFields}
 use Rattle.message.specs.declared.caller.Caller.{Caller}
 use Rattle.message.specs.Contents.{readBytes, written, resized}
 use Rattle.message.specs.declared.refusal.Refusal.the-variants.{NoAccess, LockType, NoSpace}
-use Rattle.message.specs.Command.{Given, refused, done, read, wrote, loggedOff, plain, withSession, withTree, withOpen, servedType, requestOf, lockingAfter, doLocking, askOf, unlessBarred, barring, doRead, endsPast, doWrite}
+use Rattle.message.specs.Command.{Given, refused, done, read, wrote, withOpen, servedType, requestOf, lockingAfter, doLocking, askOf, unlessBarred, barring, doRead, endsPast, doWrite}
 
 -- ---- LOCKING
 
@@ -62,17 +60,3 @@ pub write-steps : (c : Caller) (t : Tables) (memory : List ℕ) (f : WriteFields
     → doWrite c t memory f bytes ≡ withOpen c t (f .fid) (writeOpen c t memory f bytes)
 unfolding doWrite writeOpen writeFree
 write-steps c t memory f bytes = refl
-
--- ---- CLOSE, LOGOFF, TREE_DISCONNECT, PROCESS_EXIT
-
-unfoldable pub closing : Caller → Tables → List ℕ → ℕ → Given
-closing c t memory fid = withOpen c t fid (λ o. done (remove (OpenGone fid) t) memory plain)
-
-unfoldable pub loggingOff : Caller → Tables → List ℕ → Given
-loggingOff c t memory = withSession c t (done (remove (UserGone (c .uid)) t) memory loggedOff)
-
-unfoldable pub disconnecting : Caller → Tables → List ℕ → Given
-disconnecting c t memory = withTree c t (done (remove (TreeGone (c .tid)) t) memory plain)
-
-unfoldable pub exiting : Caller → Tables → List ℕ → Given
-exiting c t memory = withSession c t (done (remove (ProcessGone (c .uid) (c .process)) t) memory plain)

@@ -3,9 +3,9 @@ use mathlib.Core.Path.{_≡_, sym, _∙_}
 use Prim.Native.Nat.{ℕ, _+_, _-_, _*_, _≤_, _<_}
 use native.Mathlib.Omega.{arith}
 use mathlib.Core.Bool.{false}
-use mathlib.Core.List.{List, _++_, append-nil}
-use lib.ListN.{length, take, drop, replicate, length-take, length-drop, length-replicate, take-append-drop, drop-of-length-le}
-use lib.Seq.{take-length, drop-drop}
+use mathlib.Core.List.{List, _++_}
+use lib.ListN.{length, take, drop, replicate, length-take, length-drop, length-replicate, take-append-drop}
+use lib.Seq.{drop-drop}
 use lib.Dec.{ltb}
 use borrow.Author.Tests.{eq-eqb, ne-eqb, ltb-true, ltb-false, lt-ltb}
 use Rattle.lists.specs.Put.{put}
@@ -38,26 +38,14 @@ put-none d from to h =
     let same : from + 0 ≡ from = omega arith in
     rw (none, same) (sym (take-append-drop from d))
 
--- a part of the room, set anew to something as long
-put-part : (d x : List ℕ) (from to : ℕ) → from ≤ to → length x ≡ to - from → take from d ++ (x ++ drop (to - from) (drop from d)) ≡ put d from x
-unfolding put
-put-part d x from to h e = rw (drop-drop (to - from) from d, e)
-
--- to zeros
+-- a part of the room, set to zeros
 pub put-zeros : (d x : List ℕ) (from to : ℕ) → from ≤ to → to ≤ length d → x ≡ replicate (length (take (to - from) (drop from d))) 0
     → take from d ++ (x ++ drop (to - from) (drop from d)) ≡ put d from (replicate (to - from) 0)
+unfolding put
 put-zeros d x from to h k e =
     let long : length (take (to - from) (drop from d)) ≡ to - from = rw (length-take, length-drop) (omega arith) in
-    rw (e, long) (put-part d (replicate (to - from) 0) from to h (length-replicate (to - from) 0))
-
--- to bytes copied
-pub put-copy : (d x s : List ℕ) (at to : ℕ) → to ≡ at + length s → to ≤ length d
-    → x ≡ take (length s) s ++ drop (length s) (take (to - at) (drop at d)) → take at d ++ (x ++ drop (to - at) (drop at d)) ≡ put d at s
-put-copy d x s at to q k e =
-    let size : to - at ≡ length s = omega arith in
-    let short : length (take (to - at) (drop at d)) ≤ length s = rw length-take (omega arith) in
-    let same : x ≡ s = e ∙ rw (take-length s, drop-of-length-le (take (to - at) (drop at d)) short) (append-nil s) in
-    rw same (put-part d s at to (omega arith) (sym size))
+    let zeros : length (replicate {A = ℕ} (to - from) 0) ≡ to - from = length-replicate (to - from) 0 in
+    rw (e, long, drop-drop (to - from) from d, zeros)
 
 -- "Bytes between the old size and the write become 0", then the bytes written
 pub put-written : (t : Tables) (m g s : List ℕ) (file offset size : ℕ) → size ≡ sizeOf t file → 0 < length s

@@ -38,7 +38,7 @@ pub(crate) fn first_bar(t: Tables, q: Ask) -> Found
 }
 
 // A file's size.
-pub(crate) fn size_of(t: Tables, file: u8) -> usize
+pub(crate) fn file_size(t: Tables, file: u8) -> usize
     requires { ⌜ file ≤ 15 ⌝ }
     ensures { λ r. ⌜ r ≡ sizeOf t file ⌝ }
 {

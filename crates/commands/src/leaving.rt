@@ -1,5 +1,5 @@
 // CLOSE, LOGOFF, TREE_DISCONNECT and PROCESS_EXIT: what is named goes, "each with what hangs on them". "LOGOFF and
-// PROCESS_EXIT stop after 2/91, TREE_DISCONNECT after 2/5, CLOSE after 1/6."
+// PROCESS_EXIT stop after 2/91, TREE_DISCONNECT after 2/5, CLOSE after 1/6." Their blocks have no bytes.
 
 use crate::who::Reached;
 use crate::who::reach_open;
@@ -13,12 +13,14 @@ use records::Tables;
 use removal::Gone;
 use removal::remove_named;
 use soundness::tree::some_tree_is;
+ghost use mathlib.Core.List.{[]};
+ghost use Rattle.chain.specs.declared.block.Body.the-variants.{Close, Logoff, TreeDisconnect, ProcessExit};
+ghost use Rattle.message.specs.Command.{perform};
 ghost use Rattle.commands.specs.Leaves.{Leaves};
-ghost use Rattle.commands.specs.Steps.{closing, loggingOff, disconnecting, exiting};
 
 // "CLOSE removes the open and its locks."
 pub(crate) fn do_close(c: Caller, t: Tables, fid: u16) -> Performed
-    ensures { λ r. ⌜ Leaves (λ m. closing c t m fid) t r ⌝ }
+    ensures { λ r. ⌜ Leaves (λ m. perform c t m (Close fid) [] []) t r ⌝ }
 {
     let at = reach_open(c, t, fid);
     match at {
@@ -32,7 +34,7 @@ pub(crate) fn do_close(c: Caller, t: Tables, fid: u16) -> Performed
 
 // "LOGOFF the session and its trees".
 pub(crate) fn do_logoff(c: Caller, t: Tables) -> Performed
-    ensures { λ r. ⌜ Leaves (λ m. loggingOff c t m) t r ⌝ }
+    ensures { λ r. ⌜ Leaves (λ m. perform c t m Logoff [] []) t r ⌝ }
 {
     let sessions = t.sessions;
     if !session_named(c, sessions, t.nsessions) {
@@ -46,7 +48,7 @@ pub(crate) fn do_logoff(c: Caller, t: Tables) -> Performed
 
 // "TREE_DISCONNECT removes the tree and its opens".
 pub(crate) fn do_disconnect(c: Caller, t: Tables) -> Performed
-    ensures { λ r. ⌜ Leaves (λ m. disconnecting c t m) t r ⌝ }
+    ensures { λ r. ⌜ Leaves (λ m. perform c t m TreeDisconnect [] []) t r ⌝ }
 {
     let sessions = t.sessions;
     if !session_named(c, sessions, t.nsessions) {
@@ -64,7 +66,7 @@ pub(crate) fn do_disconnect(c: Caller, t: Tables) -> Performed
 
 // "PROCESS_EXIT the opens of that UID and process".
 pub(crate) fn do_exit(c: Caller, t: Tables) -> Performed
-    ensures { λ r. ⌜ Leaves (λ m. exiting c t m) t r ⌝ }
+    ensures { λ r. ⌜ Leaves (λ m. perform c t m ProcessExit [] []) t r ⌝ }
 {
     let sessions = t.sessions;
     if !session_named(c, sessions, t.nsessions) {

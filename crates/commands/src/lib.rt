@@ -8,5 +8,5 @@ mod locking;
 pub mod moved;
 pub mod perform;
 mod reading;
-pub mod who;
+mod who;
 mod writing;

@@ -1,6 +1,6 @@
 // What READ and WRITE leave: they change no table but a file's size.
 
-use crate::barred::size_of;
+use crate::barred::file_size;
 use message::answer::Answer;
 use records::Tables;
 ghost use mathlib.Core.Path.{_≡_};
@@ -20,6 +20,6 @@ pub(crate) fn unmoved(t: Tables, answer: Answer) -> Moved
     Moved {
         answer,
         file: 0,
-        size: size_of(t, 0),
+        size: file_size(t, 0),
     }
 }

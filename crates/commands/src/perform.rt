@@ -37,7 +37,14 @@ ghost use Rattle.commands.specs.Moves.{Moves, isTransfer};
 const AREA: usize = 19;
 
 // The LOCKING block at that place and of that length, its ranges being its byte area.
-fn lock_block(c: Caller, t: Tables, f: LockingFields, s: &[u8], at: usize, size: usize) -> Performed
+fn locking_block(
+    c: Caller,
+    t: Tables,
+    f: LockingFields,
+    s: &[u8],
+    at: usize,
+    size: usize,
+) -> Performed
     requires { ⌜ Good t ⌝ }
     requires { ⌜ LockingPart (now s) at size ⌝ }
     ensures { λ r. ⌜ Leaves (λ m. doLocking c t m f (take (byteCount (now (s .entry)) at) (drop (byteArea (now (s .entry)) at) (now (s .entry))))) t r ⌝ }
@@ -48,7 +55,7 @@ fn lock_block(c: Caller, t: Tables, f: LockingFields, s: &[u8], at: usize, size:
 }
 
 // A WRITE block, its data being a part of the message.
-fn write_block(c: Caller, t: Tables, f: WriteFields, s: &[u8], memory: &mut [u8]) -> Moved
+fn writing_block(c: Caller, t: Tables, f: WriteFields, s: &[u8], memory: &mut [u8]) -> Moved
     requires { ⌜ Good t ⌝ }
     requires { ⌜ length (now memory) ≡ 65536 ⌝ }
     requires { ⌜ f .from + f .count ≤ length (now s) ⌝ }
@@ -86,7 +93,7 @@ pub fn transfer_block(c: Caller, t: Tables, s: &[u8], b: Block, memory: &mut [u8
     let body = b.body;
     match body {
         Body::Read(f) => unmoved(t, do_read(c, t, f)),
-        Body::Write(f) => write_block(c, t, f, s, memory),
+        Body::Write(f) => writing_block(c, t, f, s, memory),
         Body::Locking(_) => unmoved(t, Answer::Locked),
         Body::Close(_) => unmoved(t, Answer::Plain),
         Body::Logoff => unmoved(t, Answer::LoggedOff),
@@ -105,7 +112,7 @@ pub fn perform_block(c: Caller, t: Tables, s: &[u8], b: Block) -> Performed
 {
     let body = b.body;
     match body {
-        Body::Locking(f) => lock_block(c, t, f, s, b.at, b.length),
+        Body::Locking(f) => locking_block(c, t, f, s, b.at, b.length),
         Body::Close(fid) => do_close(c, t, fid),
         Body::Logoff => do_logoff(c, t),
         Body::TreeDisconnect => do_disconnect(c, t),

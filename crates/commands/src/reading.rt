@@ -1,8 +1,8 @@
 // READ.
 
 use crate::barred::ask_of;
+use crate::barred::file_size;
 use crate::barred::first_bar;
-use crate::barred::size_of;
 use crate::who::Reached;
 use crate::who::reach_open;
 use chain::block::ReadFields;
@@ -28,7 +28,7 @@ fn read_part(t: Tables, file: u8, offset: u64, max: u16) -> Answer
     requires { ⌜ file ≤ 15 ⌝ }
     ensures { λ r. ⌜ r ≡ readPart t file offset max ⌝ }
 {
-    let size = size_of(t, file);
+    let size = file_size(t, file);
     let at = offset as usize;
     if size <= at {
         return Answer::Read(0, 0);

@@ -17,7 +17,7 @@ ghost use Rattle.commands.specs.Leaves.{refusal};
 ghost use Rattle.commands.specs.Reach.{reached, reachedAt};
 
 // The open that a command names, or why it names none.
-pub enum Reached {
+pub(crate) enum Reached {
     Open(Open),
     Refused(Refusal),
 }

@@ -1,8 +1,8 @@
 // WRITE.
 
 use crate::barred::ask_of;
+use crate::barred::file_size;
 use crate::barred::first_bar;
-use crate::barred::size_of;
 use crate::moved::Moved;
 use crate::moved::unmoved;
 use crate::who::Reached;
@@ -16,6 +16,7 @@ use message::refusal::Refusal;
 use records::Open;
 use records::Tables;
 use wire::fill::clear;
+use wire::fill::lay;
 ghost use mathlib.Core.Path.{_≡_};
 ghost use Prim.Native.Nat.{max, _+_, _-_, _≤_, _<_};
 ghost use lib.ListN.{length, replicate};
@@ -50,15 +51,6 @@ fn clear_gap(room: &mut [u8], from: usize, to: usize)
     clear(&mut room[from..to]);
 }
 
-// The bytes laid over the room from a place on.
-fn lay(source: &[u8], room: &mut [u8], at: usize)
-    requires { ⌜ at + length (now source) ≤ length (now room) ⌝ }
-    ensures { λ _. ⌜ now (room .exit) ≡ put (now (room .entry)) at (now (source .entry)) ⌝ }
-{
-    let end = at + source.len();
-    bytes::copy(source, &mut room[at..end]);
-}
-
 // "Bytes between the old size and the write become 0", then the bytes written.
 fn write_bytes(t: Tables, file: u8, offset: usize, source: &[u8], memory: &mut [u8])
     requires { ⌜ Good t ⌝ }
@@ -69,10 +61,10 @@ fn write_bytes(t: Tables, file: u8, offset: usize, source: &[u8], memory: &mut [
     ensures { λ _. ⌜ now (memory .exit) ≡ written t (now (memory .entry)) file offset (now (source .entry)) ⌝ }
 {
     let start = file as usize * 4096;
-    let from = start + size_of(t, file);
+    let from = start + file_size(t, file);
     let at = start + offset;
     clear_gap(memory, from, at);
-    lay(source, memory, at);
+    lay(source, &mut memory[at..]);
 }
 
 // The larger of two numbers.
@@ -89,7 +81,7 @@ fn raised_size(t: Tables, file: u8, offset: usize, count: u16) -> usize
     ensures { λ r. ⌜ r ≡ max (sizeOf t file) (offset + count) ⌝ }
 {
     let end = offset + count as usize;
-    let size = size_of(t, file);
+    let size = file_size(t, file);
     larger(size, end)
 }
 

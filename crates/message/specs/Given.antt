@@ -1,12 +1,12 @@
 -- What the code hands on, as what a command gives. Assumes nothing.
 use mathlib.Core.Path.{_≡_}
-use Prim.Native.Nat.{ℕ, _+_, _≤_}
+use Prim.Native.Nat.{ℕ, _+_}
 use mathlib.Core.Bool.{Bool, true}
 use mathlib.Core.List.{List}
 use lib.ListN.{take, drop}
 use lib.Dec.{leb}
 use Rattle.records.specs.declared.Tables.{Tables}
-use Rattle.message.specs.Command.{Said, locked, loggedOff, read, wrote, plain, Given, refused, done}
+use Rattle.message.specs.Command.{locked, loggedOff, read, wrote, plain, Given, refused, done}
 use Rattle.message.specs.Reply.{replyBlock, refusedBlock}
 use Rattle.message.specs.declared.link.Link.{Link}
 use Rattle.message.specs.declared.answer.Answer.{Answer}

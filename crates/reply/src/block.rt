@@ -1,20 +1,20 @@
 // A reply block (document 01, "Reply blocks"): "each is written into the room left after the one before". The room that a
 // writer is lent begins where its block is to stand.
 
-use crate::lay::high;
-use crate::lay::lay;
-use crate::lay::low;
+use crate::little_endian::high;
+use crate::little_endian::low;
 use chain::block::Next;
 use message::answer::Answer;
 use message::link::Link;
+use wire::fill::lay;
 ghost use mathlib.Core.Path.{_≡_};
 ghost use Prim.Native.Nat.{_+_, _≤_};
 ghost use mathlib.Core.Bool.{true};
 ghost use mathlib.Core.List.{[], _∷_, _++_};
-ghost use lib.ListN.{length, take, drop};
+ghost use lib.ListN.{length, take, drop, replicate};
 ghost use Rattle.lists.specs.Put.{put};
-ghost use Rattle.message.specs.Command.{read, wrote};
-ghost use Rattle.message.specs.Reply.{linkWords, refusedBlock, replyBlock};
+ghost use Rattle.message.specs.Command.{read};
+ghost use Rattle.message.specs.Reply.{two, linkWords, refusedBlock, replyBlock};
 ghost use Rattle.message.specs.Given.{inside, blockOf, answerSize};
 ghost use Rattle.reply.specs.Fronts.{readStart, readExtent};
 ghost use Rattle.reply.specs.Links.{linkFor, linkCommand, linkPlace};
@@ -50,7 +50,7 @@ fn link_place(link: Link) -> usize
 }
 
 // How long the block of an answer is.
-pub fn size_of(a: Answer) -> usize
+pub fn block_size(a: Answer) -> usize
     requires { ⌜ inside a ≡ true ⌝ }
     ensures { λ r. ⌜ r ≡ answerSize a ⌝ }
 {
@@ -85,9 +85,9 @@ fn write_linked(link: Link, room: &mut [u8])
 }
 
 // "WRITE: 6 words: AndX, count, 0xFFFF, four zero bytes."
-fn write_wrote(count: u16, place: usize, link: Link, room: &mut [u8])
+fn write_wrote(count: u16, link: Link, room: &mut [u8])
     requires { ⌜ 15 ≤ length (now room) ⌝ }
-    ensures { λ _. ⌜ now (room .exit) ≡ put (now (room .entry)) 0 (replyBlock (wrote count) place link) ⌝ }
+    ensures { λ _. ⌜ now (room .exit) ≡ put (now (room .entry)) 0 (6 ∷ (linkWords link ++ (two count ++ (two 0xFFFF ++ (replicate 4 0 ++ (0 ∷ 0 ∷ [])))))) ⌝ }
 {
     let andx = link_command(link);
     let next = link_place(link);
@@ -101,7 +101,7 @@ fn write_wrote(count: u16, place: usize, link: Link, room: &mut [u8])
 }
 
 // "READ: 12 words: AndX, 0xFFFF, 0, 0"
-fn write_start(link: Link, room: &mut [u8])
+fn write_read_start(link: Link, room: &mut [u8])
     requires { ⌜ 11 ≤ length (now room) ⌝ }
     ensures { λ _. ⌜ now (room .exit) ≡ put (now (room .entry)) 0 (readStart link) ⌝ }
 {
@@ -136,7 +136,7 @@ fn write_read(at: usize, count: usize, place: usize, link: Link, memory: &[u8], 
     requires { ⌜ place ≤ 12292 ⌝ }
     ensures { λ _. ⌜ now (room .exit) ≡ put (now (room .entry)) 0 (replyBlock (read (take count (drop at (now (memory .entry))))) place link) ⌝ }
 {
-    write_start(link, room);
+    write_read_start(link, room);
     write_extent(count, place, &mut room[11..]);
     let to = at + count;
     lay(&memory[at..to], &mut room[27..]);
@@ -155,7 +155,7 @@ pub fn write_block(a: Answer, place: usize, link: Link, memory: &[u8], room: &mu
         Answer::Locked => write_linked(link, room),
         Answer::LoggedOff => write_linked(link, room),
         Answer::Read(at, count) => write_read(at, count, place, link, memory, room),
-        Answer::Wrote(count) => write_wrote(count, place, link, room),
+        Answer::Wrote(count) => write_wrote(count, link, room),
         Answer::Plain => write_bare(room),
     }
 }

@@ -1,10 +1,10 @@
 // A reply's header (document 01, "Header").
 
-use crate::lay::high;
-use crate::lay::lay;
-use crate::lay::low;
+use crate::little_endian::high;
+use crate::little_endian::low;
 use message::refusal::Status;
 use wire::byte_at;
+use wire::fill::lay;
 ghost use mathlib.Core.Path.{_≡_};
 ghost use Prim.Native.Nat.{_+_, _*_, _/_, _%_, _≤_};
 ghost use lib.ListN.{length};
@@ -21,7 +21,7 @@ fn reply_flags(flags: u8) -> u8
 }
 
 // "A reply copies Command"; "SMBSTATUS is class, 0, code."
-fn write_start(s: &[u8], status: Status, room: &mut [u8])
+fn write_status(s: &[u8], status: Status, room: &mut [u8])
     requires { ⌜ 9 ≤ length (now room) ⌝ }
     ensures { λ _. ⌜ now (room .exit) ≡ put (now (room .entry)) 0 (headerStart (now (s .entry)) status) ⌝ }
 {
@@ -53,7 +53,7 @@ pub fn write_header(s: &[u8], status: Status, room: &mut [u8])
     requires { ⌜ 32 ≤ length (now room) ⌝ }
     ensures { λ _. ⌜ now (room .exit) ≡ put (now (room .entry)) 0 (replyHeader (now (s .entry)) status) ⌝ }
 {
-    write_start(s, status, room);
+    write_status(s, status, room);
     write_flags(s, &mut room[9..]);
     lay(&s[24..32], &mut room[24..]);
 }

@@ -3,4 +3,4 @@
 
 pub mod block;
 pub mod header;
-mod lay;
+mod little_endian;

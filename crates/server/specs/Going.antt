@@ -1,12 +1,10 @@
 -- The loop over a chain: how far it is, and what a turn does. Assumes nothing.
 use mathlib.Core.Path.{_≡_, refl, sym, ap, _∙_}
-use Prim.Native.Nat.{ℕ, _+_, _≤_, _<_, _-_}
+use Prim.Native.Nat.{ℕ, _+_, _≤_}
 use native.Mathlib.Omega.{arith}
 use mathlib.Core.Bool.{true}
 use mathlib.Core.List.{List, [], _∷_, _++_, append-assoc, append-nil}
-use lib.ListN.{length, take, drop, length-append, length-take, length-drop}
-use lib.Dec.{leb}
-use borrow.Author.Tests.{leb-true}
+use lib.ListN.{length, take, drop, length-append}
 use Rattle.lists.specs.Put.{put}
 use Rattle.lists.specs.PutLaws.{put-nothing, put-then, length-put}
 use Rattle.records.specs.declared.Tables.{Tables}
@@ -23,7 +21,7 @@ use Rattle.message.specs.Refusal.{status, statusOf}
 use Rattle.message.specs.declared.refusal.Refusal.{Refusal}
 use Rattle.message.specs.Command.{Said, locked, loggedOff, read, wrote, plain, Given, refused, done, perform}
 use Rattle.message.specs.declared.link.Link.{Link}
-use Rattle.message.specs.declared.link.Link.the-variants.{None as none, Next as next}
+use Rattle.message.specs.declared.link.Link.the-variants.{Next as next}
 use Rattle.message.specs.Reply.{replyBlock, refusedBlock, replySize}
 use Rattle.message.specs.Message.{areaOf, dataOf, Ran, after, linkTo, afterGiven, run}
 use Rattle.message.specs.Given.{givenOf, inside, tablesAfter, memoryAfter, blockOf, answerSize}
@@ -152,7 +150,7 @@ going-start c s room {command} {bs} t memory h g m =
     }
 
 -- the blocks written are some of the whole's, so they fit where those do
-pub going-place : {c : Caller} {s first : List ℕ} {whole : Ran} {command at place : ℕ} {t : Tables} {memory room : List ℕ} → Going c s first whole command at place t memory room
+going-place : {c : Caller} {s first : List ℕ} {whole : Ran} {command at place : ℕ} {t : Tables} {memory room : List ℕ} → Going c s first whole command at place t memory room
     → place ≤ 32 + length (whole .blocks)
 unfolding after
 going-place {c} {s} {first} {whole} {command} {at} {place} {t} {memory} {room} g =

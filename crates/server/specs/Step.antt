@@ -1,7 +1,6 @@
 -- What the loop over a chain does after a command. Assumes nothing.
-use Prim.Native.Nat.{ℕ}
 use Rattle.chain.specs.declared.block.Next.{Next}
-use Rattle.chain.specs.declared.block.Next.the-variants.{End, Follow}
+use Rattle.chain.specs.declared.block.Next.the-variants.{End}
 use Rattle.message.specs.Refusal.{status, statusOf}
 use Rattle.message.specs.declared.refusal.Status.{Status}
 use Rattle.message.specs.declared.answer.Answer.{Answer}

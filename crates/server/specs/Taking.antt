@@ -1,9 +1,9 @@
 -- From a message's reading to the loop, and from its end to what the call gives. Assumes nothing.
-use mathlib.Core.Path.{_≡_, refl, sym, ap, _∙_}
+use mathlib.Core.Path.{_≡_, refl, ap, _∙_}
 use Prim.Native.Nat.{ℕ, _+_, _-_, _≤_, _<_}
 use native.Mathlib.Omega.{arith}
 use mathlib.Core.Bool.{Bool, true, false}
-use mathlib.Core.List.{List, [], _∷_, _++_}
+use mathlib.Core.List.{List, _++_}
 use mathlib.Core.Option.{Option, none, some}
 use lib.ListN.{length, take, drop, length-append}
 use Rattle.lists.specs.Put.{put}
@@ -41,7 +41,7 @@ use Rattle.message.specs.declared.link.Link.{Link}
 use Rattle.reply.specs.Links.{linkFor}
 use Rattle.reply.specs.BlockLaws.{length-of-block}
 use Rattle.server.specs.Step.{statusAfter, goesOn}
-use Rattle.server.specs.Going.{Going, going-start, going-place, going-length, here, turn-fits, turn-end, turn-more, Finished}
+use Rattle.server.specs.Going.{Going, going-start, going-length, here, turn-fits, turn-end, turn-more, Finished}
 
 -- a chain's first block is there
 not-malformed : {s : List ℕ} {command at : ℕ} {bs : List Block} → Chained s command at bs → parse s command at ≡ Malformed → ⊥
@@ -101,9 +101,6 @@ module _ {c : Caller} {s first : List ℕ} {t₀ : Tables} {memory₀ : List ℕ
   -- a chain has a block where it begins
   pub turn-block : parse s command at ≡ Malformed → ⊥
   turn-block e = not-malformed (u .going .chained) e
-
-  pub turn-place : place ≤ 12292
-  turn-place = let a = going-place (u .going) in let b = u .most in omega arith
 
   pub turn-length : length room ≡ length first
   turn-length = going-length (u .going) (let b = u .most in let d = u .enough in omega arith)

@@ -44,7 +44,7 @@ pub struct Taken {
 }
 
 // A refusal by number: nothing is written.
-fn refuse(number: u8, tables: Tables) -> Taken
+fn refuse_call(number: u8, tables: Tables) -> Taken
     ensures { λ r. ⌜ r ≡ refusal number tables ⌝ }
 {
     Taken {
@@ -148,16 +148,16 @@ pub fn take_message(
     ensures { λ r. ⌜ takenOf r (now (memory .exit)) (now (room .exit)) ≡ take-message connection (now (s .entry)) tables (now (memory .entry)) (now (room .entry)) ⌝ }
 {
     if room.len() < 12292 {
-        return refuse(WRONG_ROOM, tables);
+        return refuse_call(WRONG_ROOM, tables);
     }
     if memory.len() != 65536 {
-        return refuse(WRONG_ROOM, tables);
+        return refuse_call(WRONG_ROOM, tables);
     }
     if !is_sound(tables) {
-        return refuse(NOT_SOUND, tables);
+        return refuse_call(NOT_SOUND, tables);
     }
     if is_dropped(s) {
-        return refuse(DROPPED, tables);
+        return refuse_call(DROPPED, tables);
     }
     answer_message(connection, s, tables, memory, room)
 }

@@ -14,8 +14,8 @@ use message::refusal::Refusal;
 use message::refusal::Status;
 use records::File;
 use records::Tables;
+use reply::block::block_size;
 use reply::block::link_to;
-use reply::block::size_of;
 use reply::block::write_block;
 ghost use mathlib.Core.Path.{_≡_};
 ghost use Prim.Native.Nat.{_+_, _≤_};
@@ -48,7 +48,7 @@ fn add_block(answer: Answer, next: Next, place: usize, memory: &[u8], room: &mut
     ensures { λ r. ⌜ r ≡ place + answerSize answer ⌝ }
     ensures { λ _. ⌜ now (room .exit) ≡ put (now (room .entry)) place (blockOf answer (now (memory .entry)) place (linkFor next (place + answerSize answer))) ⌝ }
 {
-    let end = place + size_of(answer);
+    let end = place + block_size(answer);
     write_block(
         answer,
         place,

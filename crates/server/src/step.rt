@@ -7,17 +7,13 @@ use message::refusal::status_of;
 ghost use mathlib.Core.Path.{_≡_};
 ghost use Rattle.server.specs.Step.{statusAfter, goesOn};
 
-// The status that an answer leaves in the header, if it is the last.
+// The status that an answer leaves in the header, if it is the last: 0/0 unless it is a refusal.
 pub(crate) fn status_after(a: Answer) -> Status
     ensures { λ r. ⌜ r ≡ statusAfter a ⌝ }
 {
     match a {
         Answer::Refused(why) => status_of(why),
-        Answer::Locked => Status { class: 0, code: 0 },
-        Answer::LoggedOff => Status { class: 0, code: 0 },
-        Answer::Read(_, _) => Status { class: 0, code: 0 },
-        Answer::Wrote(_) => Status { class: 0, code: 0 },
-        Answer::Plain => Status { class: 0, code: 0 },
+        _ => Status { class: 0, code: 0 },
     }
 }
 
@@ -27,10 +23,6 @@ pub(crate) fn goes_on(a: Answer, next: Next) -> Next
 {
     match a {
         Answer::Refused(_) => Next::End,
-        Answer::Locked => next,
-        Answer::LoggedOff => next,
-        Answer::Read(_, _) => next,
-        Answer::Wrote(_) => next,
-        Answer::Plain => next,
+        _ => next,
     }
 }

@@ -5,10 +5,9 @@ use Rattle.commands.proofs.leaving.do_disconnect.Statement.{statement}
 use Rattle.commands.proofs.leaving.do_disconnect.Tie as tie
 use mathlib.Core.Path.{refl, ap}
 use Rattle.message.specs.declared.answer.Answer.the-variants.{Plain}
-use Rattle.message.specs.Command.{plain, withSession, withTree}
+use Rattle.message.specs.Command.{plain, withSession, withTree, perform}
 use Rattle.message.specs.Given.{givenOf, inside}
 use Rattle.commands.specs.Leaves.{performed, gives-refused, gives-done}
-use Rattle.commands.specs.Steps.{disconnecting}
 use Rattle.commands.specs.Told.{told-yes, told-no}
 
 session-named-requires : tie.Need-session-named-requires
@@ -18,7 +17,7 @@ refuse-requires : tie.Need-refuse-requires
 refuse-requires c κs = search needs
 
 returns : tie.Need-returns
-unfolding disconnecting withTree withSession
+unfolding perform withTree withSession
 returns c =
     let session-named = c .before .before .session-named in
     λ m. gives-refused _ (rw (told-no (session-named .ensures) (c .before .if1 .taken))) (c .refuse .ensures)
@@ -30,7 +29,7 @@ refuse-requires-2 : tie.Need-refuse-requires-2
 refuse-requires-2 c κs = search needs
 
 returns-2 : tie.Need-returns-2
-unfolding disconnecting withTree withSession
+unfolding perform withTree withSession
 returns-2 c =
     let session-named = c .before .before .before .before .before .session-named in
     let some-tree-is = c .before .before .some-tree-is in
@@ -40,7 +39,7 @@ remove-named-requires : tie.Need-remove-named-requires
 remove-named-requires c κs = search needs
 
 returns-3 : tie.Need-returns-3
-unfolding disconnecting withTree withSession givenOf inside
+unfolding perform withTree withSession givenOf inside
 returns-3 c =
     let session-named = c .before .before .before .before .before .session-named in
     let some-tree-is = c .before .before .some-tree-is in

@@ -5,10 +5,9 @@ use Rattle.commands.proofs.leaving.do_logoff.Statement.{statement}
 use Rattle.commands.proofs.leaving.do_logoff.Tie as tie
 use mathlib.Core.Path.{refl, ap}
 use Rattle.message.specs.declared.answer.Answer.the-variants.{LoggedOff}
-use Rattle.message.specs.Command.{loggedOff, withSession}
+use Rattle.message.specs.Command.{loggedOff, withSession, perform}
 use Rattle.message.specs.Given.{givenOf, inside}
 use Rattle.commands.specs.Leaves.{performed, gives-refused, gives-done}
-use Rattle.commands.specs.Steps.{loggingOff}
 use Rattle.commands.specs.Told.{told-yes, told-no}
 
 session-named-requires : tie.Need-session-named-requires
@@ -18,7 +17,7 @@ refuse-requires : tie.Need-refuse-requires
 refuse-requires c κs = search needs
 
 returns : tie.Need-returns
-unfolding loggingOff withSession
+unfolding perform withSession
 returns c =
     let session-named = c .before .before .session-named in
     λ m. gives-refused _ (rw (told-no (session-named .ensures) (c .before .if1 .taken))) (c .refuse .ensures)
@@ -27,7 +26,7 @@ remove-named-requires : tie.Need-remove-named-requires
 remove-named-requires c κs = search needs
 
 returns-2 : tie.Need-returns-2
-unfolding loggingOff withSession givenOf inside
+unfolding perform withSession givenOf inside
 returns-2 c =
     let session-named = c .before .before .session-named in
     λ m. gives-done LoggedOff _ loggedOff (rw (told-yes (session-named .ensures) (c .before .if1 .left))) (ap (performed LoggedOff) (c .remove-named .ensures)) refl refl

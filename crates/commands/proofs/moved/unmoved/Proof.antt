@@ -4,12 +4,12 @@ use borrow.Author.Needs.{needs}
 use Rattle.commands.proofs.moved.unmoved.Statement.{statement}
 use Rattle.commands.proofs.moved.unmoved.Tie as tie
 
-size-of-requires : tie.Need-size-of-requires
-size-of-requires c κs = search needs
+file-size-requires : tie.Need-file-size-requires
+file-size-requires c κs = search needs
 
 returns : tie.Need-returns
 returns c =
-    rw (c .size-of .ensures)
+    rw (c .file-size .ensures)
 
 pub unmoved-spec : {M : Type 1} → statement M
-unmoved-spec = tie.close (tie.spec size-of-requires returns)
+unmoved-spec = tie.close (tie.spec file-size-requires returns)

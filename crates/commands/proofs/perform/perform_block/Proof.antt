@@ -2,7 +2,6 @@
 -- Assumes nothing.
 use Rattle.message.specs.Command.{perform}
 use Rattle.message.specs.Message.{areaOf}
-use Rattle.commands.specs.Steps.{closing, loggingOff, disconnecting, exiting}
 use Rattle.commands.specs.Moves.{isTransfer, not-both}
 use Rattle.commands.specs.BlockPart.{locking-told}
 use borrow.Author.Needs.{needs}
@@ -12,8 +11,8 @@ use Rattle.commands.proofs.perform.perform_block.Tie as tie
 enum-known-body : tie.Need-enum-known-body
 enum-known-body c = search needs
 
-lock-block-requires : tie.Need-lock-block-requires
-lock-block-requires c κs =
+locking-block-requires : tie.Need-locking-block-requires
+locking-block-requires c κs =
     let pre = c .before .before .before .before .pre in
     let args = c .before .before .before .before .args in
     (pre .0, locking-told (args .s .now) (args .b) (c .before .body .given .0 .0) (pre .1 .0) (c .before .body .given .1))
@@ -57,25 +56,25 @@ refuse-requires-2 c κs = search needs
 returns : tie.Need-returns
 unfolding perform areaOf
 returns c =
-    λ m. rw (c .before .before .body .given .1) (c .lock-block .ensures m)
+    λ m. rw (c .before .before .body .given .1) (c .locking-block .ensures m)
 
 returns-2 : tie.Need-returns-2
-unfolding perform closing
+unfolding perform
 returns-2 c =
     λ m. rw (c .before .before .body2 .given .1) (c .do-close .ensures m)
 
 returns-3 : tie.Need-returns-3
-unfolding perform loggingOff
+unfolding perform
 returns-3 c =
     λ m. rw (c .before .enum-told .given .1) (c .do-logoff .ensures m)
 
 returns-4 : tie.Need-returns-4
-unfolding perform disconnecting
+unfolding perform
 returns-4 c =
     λ m. rw (c .before .enum-told2 .given .1) (c .do-disconnect .ensures m)
 
 returns-5 : tie.Need-returns-5
-unfolding perform exiting
+unfolding perform
 returns-5 c =
     λ m. rw (c .before .enum-told3 .given .1) (c .do-exit .ensures m)
 
@@ -94,7 +93,7 @@ perform-block-spec =
     tie.close
     (tie.spec
     enum-known-body
-    lock-block-requires
+    locking-block-requires
     enum-known-body-2
     do-close-requires
     enum-told

@@ -21,8 +21,8 @@ unmoved-requires c κs = search needs
 enum-known-body-2 : tie.Need-enum-known-body-2
 enum-known-body-2 c = search needs
 
-write-block-requires : tie.Need-write-block-requires
-write-block-requires c κs =
+writing-block-requires : tie.Need-writing-block-requires
+writing-block-requires c κs =
     let pre = c .before .before .before .before .before .before .pre in
     let args = c .before .before .before .before .before .before .args in
     let w = (write-told (args .s .now) (args .b) (c .before .before .body2 .given .0 .0) (pre .1 .1 .0) (c .before .before .body2 .given .1)) in
@@ -77,7 +77,7 @@ returns-2 c =
     let args = c .before .before .before .before .before .before .before .before .before .args in
     let body2 = c .before .before .before .before .before .body2 in
     let w = (write-told (args .s .now) (args .b) (body2 .given .0 .0) (pre .1 .1 .0) (body2 .given .1)) in
-    rw (body2 .given .1, ← (w .from), ← (w .count)) (c .before .before .write-block .ensures)
+    rw (body2 .given .1, ← (w .from), ← (w .count)) (c .before .before .writing-block .ensures)
 
 returns-3 : tie.Need-returns-3
 unfolding isTransfer
@@ -112,7 +112,7 @@ transfer-block-spec =
     do-read-requires
     unmoved-requires
     enum-known-body-2
-    write-block-requires
+    writing-block-requires
     enum-told
     unmoved-requires-2
     enum-told-2

@@ -11,14 +11,14 @@ use Rattle.message.specs.Contents.{sizeOf}
 use Rattle.demands.specs.Sound.{size-most}
 use Rattle.commands.specs.ReadPart.{readPart}
 
-size-of-requires : tie.Need-size-of-requires
-size-of-requires c κs = search needs
+file-size-requires : tie.Need-file-size-requires
+file-size-requires c κs = search needs
 
 returns : tie.Need-returns
 unfolding readPart
 returns c =
     let args = c .before .before .args in
-    let e = c .before .size-of .ensures in
+    let e = c .before .file-size .ensures in
     let past : sizeOf (args .t) (args .file) ≤ args .offset = omega arith in
     rw (le-leb _ _ past)
 
@@ -28,7 +28,7 @@ mul-start c = search needs
 add-place : tie.Need-add-place
 add-place c =
     let args = c .before .before .args in
-    let e = c .before .size-of .ensures in
+    let e = c .before .file-size .ensures in
     let most : sizeOf (args .t) (args .file) ≤ 4096 = size-most (args .t) (args .file) (sound-says (args .t) (c .before .before .pre .0 .sound)) in
     omega arith
 
@@ -42,12 +42,12 @@ returns-2 : tie.Need-returns-2
 unfolding readPart
 returns-2 c =
     let args = c .before .before .before .args in
-    let size-of = c .before .before .size-of in
-    let e = size-of .ensures in
+    let file-size = c .before .before .file-size in
+    let e = file-size .ensures in
     let low : args .offset < sizeOf (args .t) (args .file) = omega arith in
-    rw (lt-leb _ _ low, c .at-most .ensures, size-of .ensures)
+    rw (lt-leb _ _ low, c .at-most .ensures, file-size .ensures)
 
 pub read-part-spec : {M : Type 1} → statement M
 read-part-spec =
     tie.close
-    (tie.spec size-of-requires returns mul-start add-place sub-at-most at-most-requires returns-2)
+    (tie.spec file-size-requires returns mul-start add-place sub-at-most at-most-requires returns-2)

@@ -4,8 +4,10 @@ use borrow.Author.Needs.{needs}
 use Rattle.commands.proofs.writing.write_bytes.Statement.{statement}
 use Rattle.commands.proofs.writing.write_bytes.Tie as tie
 use mathlib.Core.Path.{_∙_}
-use Prim.Native.Nat.{_≤_}
+use Prim.Native.Nat.{_+_, _*_, _≤_}
 use native.Mathlib.Omega.{arith}
+use lib.ListN.{length}
+use Rattle.lists.specs.PutLaws.{put-part}
 use Rattle.claims.specs.SoundParts.{sound-says}
 use Rattle.message.specs.Contents.{sizeOf}
 use Rattle.demands.specs.Sound.{size-most}
@@ -14,13 +16,13 @@ use Rattle.commands.specs.WritePart.{put-written}
 mul-start : tie.Need-mul-start
 mul-start c = search needs
 
-size-of-requires : tie.Need-size-of-requires
-size-of-requires c κs = search needs
+file-size-requires : tie.Need-file-size-requires
+file-size-requires c κs = search needs
 
 add-from : tie.Need-add-from
 add-from c =
     let args = c .before .before .before .args in
-    let e = c .size-of .ensures in
+    let e = c .file-size .ensures in
     let most : sizeOf (args .t) (args .file) ≤ 4096 = size-most (args .t) (args .file) (sound-says (args .t) (c .before .before .before .pre .0 .sound)) in
     omega arith
 
@@ -29,6 +31,15 @@ add-at c = search needs
 
 clear-gap-requires : tie.Need-clear-gap-requires
 clear-gap-requires c κs = search needs
+
+sub-lay : tie.Need-sub-lay
+sub-lay c = search needs
+
+part-lay-start : tie.Need-part-lay-start
+part-lay-start c = search needs
+
+part-lay-end : tie.Need-part-lay-end
+part-lay-end c = search needs
 
 lay-requires : tie.Need-lay-requires
 lay-requires c κs = search needs
@@ -39,24 +50,24 @@ same-length c = search needs
 returns : tie.Need-returns
 returns c =
     let pre = c .before .before .before .before .before .before .before .before .before .before .before .pre in
-    let args′ = c .before .before .before .before .before .before .before .before .before .before .before .args in
-    let size-of′ = c .before .before .before .before .before .before .before .before .size-of in
-    let clear-gap′ = c .before .before .before .before .before .before .clear-gap in
-    let args = args′ in
-    let clear-gap = clear-gap′ in
-    let size-of = size-of′ in
-    c .before .before .lay .ensures
-    ∙ put-written (args .t) (args .memory .now) (clear-gap .last .0) (args .source .now) (args .file) (args .offset) (size-of .result) (size-of .ensures) (pre .1 .1 .1 .1) (clear-gap .ensures)
+    let args = c .before .before .before .before .before .before .before .before .before .before .before .args in
+    let file-size = c .before .before .before .before .before .before .before .before .file-size in
+    let clear-gap = c .before .before .before .before .before .before .clear-gap in
+    put-part (clear-gap .last .0) (args .source .now) (c .before .before .lay .last .1 .0) (args .file * 4096 + args .offset) (length (clear-gap .last .0)) (omega arith) (omega arith) (c .before .before .lay .ensures)
+    ∙ put-written (args .t) (args .memory .now) (clear-gap .last .0) (args .source .now) (args .file) (args .offset) (file-size .result) (file-size .ensures) (pre .1 .1 .1 .1) (clear-gap .ensures)
 
 pub write-bytes-spec : {M : Type 1} → statement M
 write-bytes-spec =
     tie.close
     (tie.spec
     mul-start
-    size-of-requires
+    file-size-requires
     add-from
     add-at
     clear-gap-requires
+    sub-lay
+    part-lay-start
+    part-lay-end
     lay-requires
     same-length
     returns)

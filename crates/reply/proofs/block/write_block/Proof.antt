@@ -84,7 +84,7 @@ same-length-5 : tie.Need-same-length-5
 same-length-5 c = search needs
 
 returns-5 : tie.Need-returns-5
-unfolding blockOf
+unfolding blockOf replyBlock
 returns-5 c = rw (c .before .before .before .before .before .a2 .given .1) (c .before .before .write-wrote .ensures)
 
 same-length-6 : tie.Need-same-length-6

@@ -13,8 +13,8 @@ use Prim.Native.Nat.{ℕ, _+_, _-_, _≤_}
 use native.Mathlib.Omega.{arith}
 use lib.ListN.{length, take, drop}
 
-write-start-requires : tie.Need-write-start-requires
-write-start-requires c κs = search needs
+write-read-start-requires : tie.Need-write-read-start-requires
+write-read-start-requires c κs = search needs
 
 sub-write-extent : tie.Need-sub-write-extent
 sub-write-extent c = search needs
@@ -58,7 +58,7 @@ same-length c = search needs
 returns : tie.Need-returns
 returns c =
     let args = c .before .before .before .before .before .before .before .before .before .before .before .before .before .before .before .args in
-    let write-start = c .before .before .before .before .before .before .before .before .before .before .before .write-start in
+    let write-read-start = c .before .before .before .before .before .before .before .before .before .before .before .write-read-start in
     let write-extent = c .before .before .before .before .before .before .before .write-extent in
     let at = args .at in
     let count = args .count in
@@ -69,15 +69,15 @@ returns c =
     let same : at + count - at ≡ count = omega arith in
     let fits : 27 + length (take (at + count - at) (drop at m)) ≤ length (args .room .now) = rw (same, n) (omega arith) in
     rw (read-whole (take count (drop at m)) place link, n)
-    ((laid-three (args .room .now) (readStart link) (readExtent count place) (take (at + count - at) (drop at m)) (write-start .last .1 .0) (write-extent .last .1 .1 .0) _ (c .before .before .lay .last .1 .0) 11 27
-    (length-readStart link) (length-readFront count place link) fits (write-start .ensures) (write-extent .ensures) refl (c .before .before .lay .ensures))
+    ((laid-three (args .room .now) (readStart link) (readExtent count place) (take (at + count - at) (drop at m)) (write-read-start .last .1 .0) (write-extent .last .1 .1 .0) _ (c .before .before .lay .last .1 .0) 11 27
+    (length-readStart link) (length-readFront count place link) fits (write-read-start .ensures) (write-extent .ensures) refl (c .before .before .lay .ensures))
     ∙ ap (λ (k : ℕ). put (args .room .now) 0 ((readStart link ++ readExtent count place) ++ take k (drop at m))) same)
 
 pub write-read-spec : {M : Type 1} → statement M
 write-read-spec =
     tie.close
     (tie.spec
-    write-start-requires
+    write-read-start-requires
     sub-write-extent
     part-write-extent-start
     part-write-extent-end

@@ -4,7 +4,7 @@ use borrow.Author.Needs.{needs}
 use Rattle.reply.proofs.block.write_wrote.Statement.{statement}
 use Rattle.reply.proofs.block.write_wrote.Tie as tie
 use Rattle.reply.specs.Links.{link-parts}
-use Rattle.message.specs.Reply.{two, replyBlock}
+use Rattle.message.specs.Reply.{two}
 
 link-command-requires : tie.Need-link-command-requires
 link-command-requires c κs = search needs
@@ -34,7 +34,7 @@ same-length : tie.Need-same-length
 same-length c = search needs
 
 returns : tie.Need-returns
-unfolding two replyBlock
+unfolding two
 returns c =
     let args = c .before .before .before .before .before .before .before .before .before .before .before .before .args in
     rw (link-parts (args .link)) (cc)

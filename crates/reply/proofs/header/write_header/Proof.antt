@@ -10,8 +10,8 @@ use Prim.Native.Nat.{_+_, _≤_}
 use native.Mathlib.Omega.{arith}
 use lib.ListN.{length, take, drop, length-take, length-drop}
 
-write-start-requires : tie.Need-write-start-requires
-write-start-requires c κs = search needs
+write-status-requires : tie.Need-write-status-requires
+write-status-requires c κs = search needs
 
 sub-write-flags : tie.Need-sub-write-flags
 sub-write-flags c = search needs
@@ -52,21 +52,21 @@ same-length c = search needs
 returns : tie.Need-returns
 returns c =
     let args = c .before .before .before .before .before .before .before .before .before .before .before .before .before .before .before .args in
-    let write-start = c .before .before .before .before .before .before .before .before .before .before .before .write-start in
+    let write-status = c .before .before .before .before .before .before .before .before .before .before .before .write-status in
     let write-flags = c .before .before .before .before .before .before .before .write-flags in
     let s = args .s .now in
     let status = args .status in
     let n : length (take 8 (drop 24 s)) ≡ 8 = rw (length-take, length-drop) (omega arith) in
     let fits : 24 + length (take 8 (drop 24 s)) ≤ length (args .room .now) = omega arith in
     rw (header-whole s status)
-    (laid-three (args .room .now) (headerStart s status) (headerFlags s) (take 8 (drop 24 s)) (write-start .last .1 .1 .0) (write-flags .last .1 .0) _ (c .before .before .lay .last .1 .0) 9 24
-    (length-headerStart s status) (length-headerFront s status) fits (write-start .ensures) (write-flags .ensures) refl (c .before .before .lay .ensures))
+    (laid-three (args .room .now) (headerStart s status) (headerFlags s) (take 8 (drop 24 s)) (write-status .last .1 .1 .0) (write-flags .last .1 .0) _ (c .before .before .lay .last .1 .0) 9 24
+    (length-headerStart s status) (length-headerFront s status) fits (write-status .ensures) (write-flags .ensures) refl (c .before .before .lay .ensures))
 
 pub write-header-spec : {M : Type 1} → statement M
 write-header-spec =
     tie.close
     (tie.spec
-    write-start-requires
+    write-status-requires
     sub-write-flags
     part-write-flags-start
     part-write-flags-end

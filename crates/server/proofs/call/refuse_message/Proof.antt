@@ -3,7 +3,7 @@
 use borrow.Author.Needs.{needs}
 use Rattle.server.proofs.call.refuse_message.Statement.{statement}
 use Rattle.server.proofs.call.refuse_message.Tie as tie
-use Prim.Native.Nat.{_-_, _≤_, ℕ}
+use Prim.Native.Nat.{_≤_, ℕ}
 use mathlib.Core.Path.{refl, ap, _∙_}
 use mathlib.Core.List.{List}
 use native.Mathlib.Omega.{arith}

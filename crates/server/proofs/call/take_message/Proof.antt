@@ -10,44 +10,44 @@ use Rattle.lists.specs.Mapped.{length-mapped}
 use Rattle.demands.specs.Taken.{fit-answered}
 use Rattle.server.specs.Rows.{refusal-taken, row-room, row-memory, row-sound, row-dropped, kept-length}
 
-refuse-requires : tie.Need-refuse-requires
-refuse-requires c κs = search needs
+refuse-call-requires : tie.Need-refuse-call-requires
+refuse-call-requires c κs = search needs
 
 returns : tie.Need-returns
 returns c =
     let args = c .before .before .before .before .before .args in
-    refusal-taken (c .refuse .result) 2 (args .tables) (args .memory .now) (args .room .now) (c .refuse .ensures) ∙ row-room (args .connection) (args .s .now) (args .tables) (args .memory .now) (args .room .now) (c .before .if1 .taken)
+    refusal-taken (c .refuse-call .result) 2 (args .tables) (args .memory .now) (args .room .now) (c .refuse-call .ensures) ∙ row-room (args .connection) (args .s .now) (args .tables) (args .memory .now) (args .room .now) (c .before .if1 .taken)
 
-refuse-requires-2 : tie.Need-refuse-requires-2
-refuse-requires-2 c κs = search needs
+refuse-call-requires-2 : tie.Need-refuse-call-requires-2
+refuse-call-requires-2 c κs = search needs
 
 returns-2 : tie.Need-returns-2
 returns-2 c =
     let args = c .before .before .before .before .before .before .args in
-    refusal-taken (c .refuse2 .result) 2 (args .tables) (args .memory .now) (args .room .now) (c .refuse2 .ensures) ∙ row-memory (args .connection) (args .s .now) (args .tables) (args .memory .now) (args .room .now) (omega arith) (c .before .if2 .taken)
+    refusal-taken (c .refuse-call2 .result) 2 (args .tables) (args .memory .now) (args .room .now) (c .refuse-call2 .ensures) ∙ row-memory (args .connection) (args .s .now) (args .tables) (args .memory .now) (args .room .now) (omega arith) (c .before .if2 .taken)
 
 is-sound-requires : tie.Need-is-sound-requires
 is-sound-requires c κs = search needs
 
-refuse-requires-3 : tie.Need-refuse-requires-3
-refuse-requires-3 c κs = search needs
+refuse-call-requires-3 : tie.Need-refuse-call-requires-3
+refuse-call-requires-3 c κs = search needs
 
 returns-3 : tie.Need-returns-3
 returns-3 c =
     let args = c .before .before .before .before .before .before .before .before .args in
-    refusal-taken (c .refuse3 .result) 4 (args .tables) (args .memory .now) (args .room .now) (c .refuse3 .ensures) ∙ row-sound (args .connection) (args .s .now) (args .tables) (args .memory .now) (args .room .now) (omega arith) (c .before .before .before .if2 .left) (sym (c .before .before .is-sound .ensures) ∙ not-true (c .before .before .is-sound .result) (c .before .if3 .taken))
+    refusal-taken (c .refuse-call3 .result) 4 (args .tables) (args .memory .now) (args .room .now) (c .refuse-call3 .ensures) ∙ row-sound (args .connection) (args .s .now) (args .tables) (args .memory .now) (args .room .now) (omega arith) (c .before .before .before .if2 .left) (sym (c .before .before .is-sound .ensures) ∙ not-true (c .before .before .is-sound .result) (c .before .if3 .taken))
 
 is-dropped-requires : tie.Need-is-dropped-requires
 is-dropped-requires c κs = search needs
 
-refuse-requires-4 : tie.Need-refuse-requires-4
-refuse-requires-4 c κs = search needs
+refuse-call-requires-4 : tie.Need-refuse-call-requires-4
+refuse-call-requires-4 c κs = search needs
 
 returns-4 : tie.Need-returns-4
 returns-4 c =
     let args = c .before .before .before .before .before .before .before .before .before .before .args in
     let is-sound = c .before .before .before .before .is-sound in
-    refusal-taken (c .refuse4 .result) 1 (args .tables) (args .memory .now) (args .room .now) (c .refuse4 .ensures) ∙ row-dropped (args .connection) (args .s .now) (args .tables) (args .memory .now) (args .room .now) (omega arith) (c .before .before .before .before .before .if2 .left) (sym (is-sound .ensures) ∙ not-false (is-sound .result) (c .before .before .before .if3 .left)) (sym (c .before .before .is-dropped .ensures) ∙ c .before .if4 .taken)
+    refusal-taken (c .refuse-call4 .result) 1 (args .tables) (args .memory .now) (args .room .now) (c .refuse-call4 .ensures) ∙ row-dropped (args .connection) (args .s .now) (args .tables) (args .memory .now) (args .room .now) (omega arith) (c .before .before .before .before .before .if2 .left) (sym (is-sound .ensures) ∙ not-false (is-sound .result) (c .before .before .before .if3 .left)) (sym (c .before .before .is-dropped .ensures) ∙ c .before .if4 .taken)
 
 answer-message-requires : tie.Need-answer-message-requires
 answer-message-requires c κs =
@@ -81,15 +81,15 @@ pub take-message-spec : {M : Type 1} → statement M
 take-message-spec =
     tie.close
     (tie.spec
-    refuse-requires
+    refuse-call-requires
     returns
-    refuse-requires-2
+    refuse-call-requires-2
     returns-2
     is-sound-requires
-    refuse-requires-3
+    refuse-call-requires-3
     returns-3
     is-dropped-requires
-    refuse-requires-4
+    refuse-call-requires-4
     returns-4
     answer-message-requires
     same-length

@@ -10,13 +10,13 @@ use borrow.Author.Needs.{needs}
 use Rattle.server.proofs.run.add_block.Statement.{statement}
 use Rattle.server.proofs.run.add_block.Tie as tie
 
-size-of-requires : tie.Need-size-of-requires
-size-of-requires c κs = search needs
+block-size-requires : tie.Need-block-size-requires
+block-size-requires c κs = search needs
 
 add-end : tie.Need-add-end
 add-end c =
     let args = c .before .before .before .args in
-    let fits : args .place + answerSize (args .answer) ≤ 12292 = c .before .before .before .pre .1 .1 .0 in let s = c .size-of .ensures in omega arith
+    let fits : args .place + answerSize (args .answer) ≤ 12292 = c .before .before .before .pre .1 .1 .0 in let s = c .block-size .ensures in omega arith
 
 link-to-requires : tie.Need-link-to-requires
 link-to-requires c κs = search needs
@@ -45,18 +45,18 @@ returns : tie.Need-returns
 returns c =
     let pre = c .before .before .before .before .before .before .before .before .pre in
     let args = c .before .before .before .before .before .before .before .before .args in
-    let size-of = c .before .before .before .before .before .size-of in
+    let block-size = c .before .before .before .before .before .block-size in
     let link-to = c .before .before .before .before .link-to in
     let write-block = c .before .before .write-block in
     let fits : args .place + answerSize (args .answer) ≤ 12292 = pre .1 .1 .0 in
     let enough : 12292 ≤ length (args .room .now) = pre .1 .1 .1 in
-    (ap (λ (n : ℕ). args .place + n) (size-of .ensures), block-laid (args .room .now) (write-block .last .1 .1 .1 .1 .0) (args .memory .now) (args .place) (args .answer) (link-to .result) (args .next) (size-of .result) (size-of .ensures) (link-to .ensures) (write-block .ensures) (pre .1 .0) (pre .0) (omega arith))
+    (ap (λ (n : ℕ). args .place + n) (block-size .ensures), block-laid (args .room .now) (write-block .last .1 .1 .1 .1 .0) (args .memory .now) (args .place) (args .answer) (link-to .result) (args .next) (block-size .result) (block-size .ensures) (link-to .ensures) (write-block .ensures) (pre .1 .0) (pre .0) (omega arith))
 
 pub add-block-spec : {M : Type 1} → statement M
 add-block-spec =
     tie.close
     (tie.spec
-    size-of-requires
+    block-size-requires
     add-end
     link-to-requires
     sub-write-block

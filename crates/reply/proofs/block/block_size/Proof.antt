@@ -1,8 +1,8 @@
--- `reply::block::size_of` meets its contract: by the answers; a READ's count is inside the file memory, so the sum fits.
+-- `reply::block::block_size` meets its contract: by the answers; a READ's count is inside the file memory, so the sum fits.
 -- Assumes nothing.
 use borrow.Author.Needs.{needs}
-use Rattle.reply.proofs.block.size_of.Statement.{statement}
-use Rattle.reply.proofs.block.size_of.Tie as tie
+use Rattle.reply.proofs.block.block_size.Statement.{statement}
+use Rattle.reply.proofs.block.block_size.Tie as tie
 use Rattle.message.specs.Given.{answerSize}
 use native.Mathlib.Omega.{arith}
 use Prim.Native.Nat.{_+_, _≤_}
@@ -53,8 +53,8 @@ returns-6 : tie.Need-returns-6
 unfolding answerSize
 returns-6 c = rw (c .enum-told5 .given .1)
 
-pub size-of-spec : {M : Type 1} → statement M
-size-of-spec =
+pub block-size-spec : {M : Type 1} → statement M
+block-size-spec =
     tie.close
     (tie.spec
     enum-told

@@ -1,8 +1,8 @@
--- `reply::header::write_start` meets its contract: the nine bytes are laid over the front.
+-- `reply::header::write_status` meets its contract: the nine bytes are laid over the front.
 -- Assumes nothing.
 use borrow.Author.Needs.{needs}
-use Rattle.reply.proofs.header.write_start.Statement.{statement}
-use Rattle.reply.proofs.header.write_start.Tie as tie
+use Rattle.reply.proofs.header.write_status.Statement.{statement}
+use Rattle.reply.proofs.header.write_status.Tie as tie
 use Rattle.message.specs.Reply.{two}
 use Rattle.reply.specs.Fronts.{headerStart}
 
@@ -31,8 +31,8 @@ returns : tie.Need-returns
 unfolding two headerStart
 returns c = cc
 
-pub write-start-spec : {M : Type 1} → statement M
-write-start-spec =
+pub write-status-spec : {M : Type 1} → statement M
+write-status-spec =
     tie.close
     (tie.spec
     byte-at-requires

@@ -1,8 +1,8 @@
--- `reply::lay::lay` meets its contract: the copied bytes stand over the front of the room.
+-- `wire::fill::lay` meets its contract: the copied bytes stand over the front of the room.
 -- Assumes nothing.
 use borrow.Author.Needs.{needs}
-use Rattle.reply.proofs.lay.lay.Statement.{statement}
-use Rattle.reply.proofs.lay.lay.Tie as tie
+use Rattle.wire.proofs.fill.lay.Statement.{statement}
+use Rattle.wire.proofs.fill.lay.Tie as tie
 use Rattle.lists.specs.PutLaws.{put-copied}
 
 copy-requires : tie.Need-copy-requires

@@ -1,8 +1,8 @@
--- `commands::perform::lock_block` meets its contract: the part of the message handed on is the block's byte area.
+-- `commands::perform::locking_block` meets its contract: the part of the message handed on is the block's byte area.
 -- Assumes nothing.
 use borrow.Author.Needs.{needs}
-use Rattle.commands.proofs.perform.lock_block.Statement.{statement}
-use Rattle.commands.proofs.perform.lock_block.Tie as tie
+use Rattle.commands.proofs.perform.locking_block.Statement.{statement}
+use Rattle.commands.proofs.perform.locking_block.Tie as tie
 use Rattle.commands.specs.BlockPart.{area-part}
 
 add-from : tie.Need-add-from
@@ -28,8 +28,8 @@ returns c =
     let args = c .before .before .before .args in
     λ m. rw (area-part (args .s .now) (args .at) (args .size) (c .before .before .before .pre .1)) (c .do-locking .ensures m)
 
-pub lock-block-spec : {M : Type 1} → statement M
-lock-block-spec =
+pub locking-block-spec : {M : Type 1} → statement M
+locking-block-spec =
     tie.close
     (tie.spec
     add-from

@@ -1,8 +1,8 @@
--- `reply::block::write_start` meets its contract: the eleven bytes are laid over the front; the AndX words by the link's parts.
+-- `reply::block::write_read_start` meets its contract: the eleven bytes are laid over the front; the AndX words by the link's parts.
 -- Assumes nothing.
 use borrow.Author.Needs.{needs}
-use Rattle.reply.proofs.block.write_start.Statement.{statement}
-use Rattle.reply.proofs.block.write_start.Tie as tie
+use Rattle.reply.proofs.block.write_read_start.Statement.{statement}
+use Rattle.reply.proofs.block.write_read_start.Tie as tie
 use Rattle.reply.specs.Links.{link-parts}
 use Rattle.message.specs.Reply.{two}
 use Rattle.reply.specs.Fronts.{readStart}
@@ -34,8 +34,8 @@ returns c =
     let args = c .before .before .before .before .before .before .before .before .before .before .args in
     rw (link-parts (args .link)) (cc)
 
-pub write-start-spec : {M : Type 1} → statement M
-write-start-spec =
+pub write-read-start-spec : {M : Type 1} → statement M
+write-read-start-spec =
     tie.close
     (tie.spec
     link-command-requires

@@ -1,8 +1,8 @@
--- `commands::perform::write_block` meets its contract: the part of the message handed on is the write's data.
+-- `commands::perform::writing_block` meets its contract: the part of the message handed on is the write's data.
 -- Assumes nothing.
 use borrow.Author.Needs.{needs}
-use Rattle.commands.proofs.perform.write_block.Statement.{statement}
-use Rattle.commands.proofs.perform.write_block.Tie as tie
+use Rattle.commands.proofs.perform.writing_block.Statement.{statement}
+use Rattle.commands.proofs.perform.writing_block.Tie as tie
 use mathlib.Core.Path.{_≡_}
 use Prim.Native.Nat.{_+_, _-_}
 use native.Mathlib.Omega.{arith}
@@ -35,8 +35,8 @@ returns c =
     let cut : args .f .from + args .f .count - args .f .from ≡ args .f .count = omega arith in
     rw cut at (c .before .before .do-write .ensures)
 
-pub write-block-spec : {M : Type 1} → statement M
-write-block-spec =
+pub writing-block-spec : {M : Type 1} → statement M
+writing-block-spec =
     tie.close
     (tie.spec
     cast-to
