@@ -1,15 +1,29 @@
 -- The calls as the host makes them, on words and not on tables. Words that do not fit are refused with 4 (tables not
 -- sound); otherwise a call is the core's own on the tables that the words hold. A call that is done leaves the words
 -- of the tables left, and the number given out; one that is refused leaves everything as it was. Assumes nothing.
+use mathlib.Core.Path.{_≡_}
 use Prim.Native.Nat.{ℕ}
-use mathlib.Core.Bool.{Bool, cond, not, _&&_, _||_}
+use mathlib.Core.Bool.{Bool, true, cond, not, _&&_, _||_}
 use mathlib.Core.List.{List}
 use lib.ListN.{length}
 use lib.Dec.{eqb, ltb}
+use Rattle.records.specs.declared.Tables.{Tables}
+use Rattle.soundness.specs.Sound.{sound}
 use Rattle.host.specs.declared.answer.Answer.{Answer}
 use Rattle.host.specs.HostCall.{addSession, addTree, addOpen, loadFile, loadMemory, dropConnection}
 use Rattle.message.specs.Message.{Taken, take-message}
 use Rattle.words.specs.Words.{fits, unpacked, packed}
+
+-- words that no call answers with 4: they fit, and the tables that they hold are sound
+unfoldable pub ready : List ℕ → Bool
+ready w = fits w && sound (unpacked w)
+
+-- what a call on w that returns r leaves for the next one: the words out, where the core left the tables t
+pub record Next (w out : List ℕ) (r : ℕ) (t : Tables) : Type 0 where
+  -- of a call that is done, the words hold the core's tables, whole
+  pub held : r ≡ 0 → unpacked out ≡ t
+  -- document 01, "Tables and room": "Every call on sound tables leaves sound tables"
+  pub again : ready w ≡ true → ready out ≡ true
 
 -- the number returned, where the core answers a
 unfoldable pub numberOf : List ℕ → Answer → ℕ

@@ -4,39 +4,69 @@ use mathlib.Core.Path.{_≡_, refl, sym, ap, _∙_}
 use mathlib.Core.Logic.{⊎-elim}
 use Prim.Native.Nat.{ℕ}
 use mathlib.Core.Bool.{Bool, true, false, _&&_, false≢true}
+use native.Mathlib.Omega.{arith}
 use mathlib.Core.List.{List}
 use lib.ListN.{length, replicate}
 use lib.Dec.{eqb}
 use borrow.Author.Tests.{eq-eqb, ne-eqb}
 use Rattle.host.specs.declared.answer.Answer.{Answer}
 use Rattle.host.specs.HostCall.{loadNumber, loadFile, loadMemory, refused, done, noTables}
-use Rattle.lists.specs.Truth.{decided}
+use Rattle.lists.specs.Truth.{decided, both-hold, hold-both}
+use Rattle.records.specs.declared.Tables.{Tables}
+use Rattle.soundness.specs.Sound.{sound}
 use Rattle.words.specs.Words.{fits, packed, unpacked, table, laid}
-use Rattle.gateway.specs.Boundary.{numberOf, isDone, wordsAfter, idAfter, fileLoaded, loadNumberOf, memoryAfter}
+use Rattle.gateway.specs.Boundary.{ready, Next, numberOf, isDone, wordsAfter, idAfter, fileLoaded, loadNumberOf, memoryAfter}
+
+-- ---- for the next call
+
+-- words that fit, of sound tables
+pub ready-of : (out : List ℕ) (t : Tables) → fits out ≡ true → unpacked out ≡ t → sound t ≡ true → ready out ≡ true
+unfolding ready
+ready-of out t f e s = hold-both (fits out) (sound (unpacked out)) f (ap sound e ∙ s)
+
+-- a refusal leaves the words
+pub undone-next : (w : List ℕ) (r : ℕ) (t : Tables) → (r ≡ 0 → ⊥) → Next w w r t
+undone-next w r t n = record { held = λ z. absurd (n z); again = λ e. e }
+
+-- the words of the core's tables, where the core leaves sound tables sound
+pub done-next : (w out : List ℕ) (t : Tables) → fits out ≡ true → unpacked out ≡ t → (sound (unpacked w) ≡ true → sound t ≡ true) → Next w out 0 t
+unfolding ready
+done-next w out t f e keeps =
+    record { held = λ _. e; again = λ h. ready-of out t f e (keeps (both-hold (fits w) (sound (unpacked w)) h .1)) }
+
+-- ---- a host call
 
 -- what a call that gives back r leaves: the words out, and the out-parameter `after`
 pub record Leaves (w : List ℕ) (id : ℕ) (a : Answer) (r : ℕ) (out : List ℕ) (after : ℕ) : Type 0 where
   pub number : r ≡ numberOf w a
   pub words : out ≡ wordsAfter w a
   pub given : after ≡ idAfter id w a
+  pub next : Next w out r (a .tables)
 
 module _ (w : List ℕ) (id : ℕ) (a : Answer) where
   pub unfit : fits w ≡ false → Leaves w id a 4 w id
   unfolding numberOf wordsAfter idAfter isDone
-  unfit e = record { number = rw e; words = rw e; given = rw e }
+  unfit e = record { number = rw e; words = rw e; given = rw e; next = undone-next w 4 (a .tables) (λ z. omega arith) }
 
   module _ (b : Answer) (same : b ≡ a) (e : fits w ≡ true) where
     pub refused-leaves : (b .number ≡ 0 → ⊥) → Leaves w id a (b .number) w id
     unfolding numberOf wordsAfter idAfter isDone
     refused-leaves n =
         let f : eqb (a .number) 0 ≡ false = ne-eqb (a .number) 0 (λ z. n (ap (λ (x : Answer). x .number) same ∙ z)) in
-        record { number = rw (e, same); words = rw (e, f); given = rw (e, f) }
+        record { number = rw (e, same); words = rw (e, f); given = rw (e, f); next = undone-next w (b .number) (a .tables) n }
 
-    pub done-leaves : b .number ≡ 0 → Leaves w id a 0 (packed (b .tables)) (b .id)
+    -- the words out are as `pack` leaves them
+    pub done-leaves : (sound (unpacked w) ≡ true → sound (a .tables) ≡ true) → b .number ≡ 0 → (out : List ℕ)
+        → (out ≡ packed (b .tables)) × ((fits out ≡ true) × (unpacked out ≡ b .tables)) → Leaves w id a 0 out (b .id)
     unfolding numberOf wordsAfter idAfter isDone
-    done-leaves z =
+    done-leaves keeps z out p =
         let f : a .number ≡ 0 = ap (λ (x : Answer). x .number) (sym same) ∙ z in
-        record { number = rw (e, f); words = rw (e, f, same); given = rw (e, f, same) }
+        record {
+          number = rw (e, f);
+          words = p .0 ∙ rw (e, f, same);
+          given = rw (e, f, same);
+          next = done-next w out (a .tables) (p .1 .0) (p .1 .1 ∙ ap (λ (x : Answer). x .tables) same) keeps;
+        }
 
 -- ---- a load
 

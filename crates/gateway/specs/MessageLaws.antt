@@ -12,22 +12,38 @@ use Rattle.records.specs.declared.Tables.{Tables}
 use Rattle.soundness.specs.Sound.{sound}
 use Rattle.chain.specs.Header.{dropped}
 use Rattle.message.specs.Message.{Taken, notTaken, replied, answered, take-message}
-use Rattle.words.specs.Words.{fits, packed, unpacked}
-use Rattle.gateway.specs.Boundary.{Left, left, leftBy, wrongRoom, messageTaken, messageLeft}
+use Rattle.claims.specs.Shaped.{Shaped}
+use Rattle.demands.specs.Taken.{take-message-good}
+use Rattle.words.specs.Words.{fits, packed, unpacked, sessionIn, treeIn, openIn, lockIn, fileIn}
+use Rattle.words.specs.Turns.{length-upTo}
+use Rattle.gateway.specs.BoundaryLaws.{done-next}
+use Rattle.gateway.specs.Boundary.{Next, Left, left, leftBy, wrongRoom, messageTaken, messageLeft}
 
--- the five parts of what is left
-pub left-is : (number : ℕ) (words memory room : List ℕ) (n : ℕ) (l : Left) → left number words memory room n ≡ l
-    → (number ≡ l .number) × ((words ≡ l .words) × ((memory ≡ l .memory) × ((room ≡ l .room) × (n ≡ l .length))))
-left-is number words memory room n l e = (
+-- the five parts of what is left, and what it is for the next call
+pub left-is : (number : ℕ) (words memory room : List ℕ) (n : ℕ) (l : Left) {w : List ℕ} {t : Tables} → left number words memory room n ≡ l → Next w words number t
+    → (number ≡ l .number) × ((words ≡ l .words) × ((memory ≡ l .memory) × ((room ≡ l .room) × ((n ≡ l .length) × Next w words number t))))
+left-is number words memory room n l e next = (
   ap (λ (x : Left). x .number) e,
   (
     ap (λ (x : Left). x .words) e,
     (
       ap (λ (x : Left). x .memory) e,
-      (ap (λ (x : Left). x .room) e, ap (λ (x : Left). x .length) e),
+      (ap (λ (x : Left). x .room) e, (ap (λ (x : Left). x .length) e, next)),
     ),
   ),
 )
+
+-- the tables that words hold have arrays of their room
+unpacked-shaped : (w : List ℕ) → Shaped (unpacked w)
+unfolding unpacked
+unpacked-shaped w =
+    record {
+      sessions16 = length-upTo (sessionIn w) 16;
+      trees32 = length-upTo (treeIn w) 32;
+      opens64 = length-upTo (openIn w) 64;
+      locks128 = length-upTo (lockIn w) 128;
+      files16 = length-upTo (fileIn w) 16;
+    }
 
 keeps : (memory room : List ℕ) (a b c : Bool) (x y z r : Taken) → (x .memory ≡ memory) × (x .room ≡ room) → (y .memory ≡ memory) × (y .room ≡ room)
     → (z .memory ≡ memory) × (z .room ≡ room) → r .number ≡ 0 → (cond a x (cond b y (cond c z r)) .number ≡ 0 → ⊥)
@@ -77,8 +93,16 @@ module _ (connection : ℕ) (s w memory room : List ℕ) (before : ℕ) where
           let f : eqb (take-message connection s (unpacked w) memory room .number) 0 ≡ false = ne-eqb _ _ m in
           rw (right, e, f, same, kept .0, kept .1)
 
-      pub done-left : k .number ≡ 0 → left 0 (packed (k .tables)) (k .memory) (k .room) (k .length) ≡ messageLeft connection s w memory room before
-      unfolding messageLeft messageTaken leftBy
-      done-left z =
-          let m : take-message connection s (unpacked w) memory room .number ≡ 0 = ap (λ (x : Taken). x .number) (sym same) ∙ z in
-          rw (right, e, m, same)
+      -- the words out are as `pack` leaves them
+      module _ (z : k .number ≡ 0) (out : List ℕ) (p : (out ≡ packed (k .tables)) × ((fits out ≡ true) × (unpacked out ≡ k .tables))) where
+        pub done-left : left 0 out (k .memory) (k .room) (k .length) ≡ messageLeft connection s w memory room before
+        unfolding messageLeft messageTaken leftBy
+        done-left =
+            let m : take-message connection s (unpacked w) memory room .number ≡ 0 = ap (λ (x : Taken). x .number) (sym same) ∙ z in
+            ap (λ (l : List ℕ). left 0 l (k .memory) (k .room) (k .length)) (p .0) ∙ rw (right, e, m, same)
+
+        pub done-message : Next w out 0 (messageTaken connection s w memory room .tables)
+        unfolding messageTaken
+        done-message =
+            done-next w out (take-message connection s (unpacked w) memory room .tables) (p .1 .0) (p .1 .1 ∙ ap (λ (x : Taken). x .tables) same)
+            (λ h. take-message-good connection s (unpacked w) memory room (record { sound = h; shaped = unpacked-shaped w }) .sound)

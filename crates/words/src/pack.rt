@@ -7,11 +7,11 @@ use records::Session;
 use records::Tables;
 use records::Tree;
 ghost use mathlib.Core.Path.{_≡_};
-ghost use mathlib.Core.Bool.{cond};
+ghost use mathlib.Core.Bool.{cond, true};
 ghost use Prim.Native.Nat.{_≤_};
 ghost use lib.ListN.{length};
 ghost use Rattle.lists.specs.Put.{put};
-ghost use Rattle.words.specs.Words.{sessionWords, treeWords, openWords, lockWords, fileWords, laid, table, packed};
+ghost use Rattle.words.specs.Words.{sessionWords, treeWords, openWords, lockWords, fileWords, laid, table, packed, fits, unpacked};
 
 // 1 for true and 0 for false.
 fn flag(x: bool) -> u64
@@ -101,10 +101,12 @@ fn pack_files(files: [File; 16], out: &mut [u64])
     }
 }
 
-// All tables.
+// All tables. The words written fit, and hold the same tables: what a later call unpacks is what was packed.
 pub fn pack(t: Tables, out: &mut [u64])
     requires { ⌜ length (now out) ≡ 1172 ⌝ }
     ensures { λ _. ⌜ now (out .exit) ≡ packed t ⌝ }
+    ensures { λ _. ⌜ fits (now (out .exit)) ≡ true ⌝ }
+    ensures { λ _. ⌜ unpacked (now (out .exit)) ≡ t ⌝ }
 {
     let sessions = t.sessions;
     pack_sessions(sessions, t.nsessions, &mut out[0..33]);

@@ -6,6 +6,8 @@ use mathlib.Core.Path.{sym, ap, _∙_}
 use borrow.Author.Tests.{not-true, not-false}
 use Rattle.records.specs.declared.Tables.{Tables}
 use Rattle.host.specs.HostCall.{addOpen}
+use Rattle.claims.specs.HostSound.{addOpen-sound}
+use Rattle.words.specs.Words.{unpacked}
 use Rattle.gateway.specs.Boundary.{openAdded}
 use Rattle.gateway.specs.BoundaryLaws.{unfit, refused-leaves, done-leaves}
 
@@ -15,7 +17,7 @@ words-fit-requires c κs = search needs
 returns : tie.Need-returns
 returns c =
     let args = c .before .before .before .before .args in
-    let k = unfit (args .tables .now) (args .fid .now) (openAdded (args .tables .now) (args .uid) (args .tid) (args .process) (args .file) (args .access)) (sym (c .before .words-fit .ensures) ∙ not-true (c .before .words-fit .result) (c .if1 .taken)) in (k .number, (k .words, k .given))
+    let k = unfit (args .tables .now) (args .fid .now) (openAdded (args .tables .now) (args .uid) (args .tid) (args .process) (args .file) (args .access)) (sym (c .before .words-fit .ensures) ∙ not-true (c .before .words-fit .result) (c .if1 .taken)) in (k .number, (k .words, (k .given, k .next)))
 
 unpack-requires : tie.Need-unpack-requires
 unpack-requires c κs = search needs
@@ -28,7 +30,7 @@ unfolding openAdded
 returns-2 c =
     let args = c .before .before .before .before .before .before .before .before .before .args in
     let words-fit = c .before .before .before .before .before .before .words-fit in
-    let k = refused-leaves (args .tables .now) (args .fid .now) (openAdded (args .tables .now) (args .uid) (args .tid) (args .process) (args .file) (args .access)) (c .before .add-open .result) (c .before .add-open .ensures ∙ ap (λ (t : Tables). addOpen t (args .uid) (args .tid) (args .process) (args .file) (args .access)) (c .before .before .unpack .ensures)) (sym (words-fit .ensures) ∙ not-false (words-fit .result) (c .before .before .before .before .before .if1 .left)) (c .if2 .taken) in (k .number, (k .words, k .given))
+    let k = refused-leaves (args .tables .now) (args .fid .now) (openAdded (args .tables .now) (args .uid) (args .tid) (args .process) (args .file) (args .access)) (c .before .add-open .result) (c .before .add-open .ensures ∙ ap (λ (t : Tables). addOpen t (args .uid) (args .tid) (args .process) (args .file) (args .access)) (c .before .before .unpack .ensures)) (sym (words-fit .ensures) ∙ not-false (words-fit .result) (c .before .before .before .before .before .if1 .left)) (c .if2 .taken) in (k .number, (k .words, (k .given, k .next)))
 
 pack-requires : tie.Need-pack-requires
 pack-requires c κs = search needs
@@ -40,7 +42,7 @@ returns-3 c =
     let words-fit = c .before .before .before .before .before .before .before .before .before .words-fit in
     let if1 = c .before .before .before .before .before .before .before .before .if1 in
     let add-open = c .before .before .before .before .add-open in
-    let k = done-leaves (args .tables .now) (args .fid .now) (openAdded (args .tables .now) (args .uid) (args .tid) (args .process) (args .file) (args .access)) (add-open .result) (add-open .ensures ∙ ap (λ (t : Tables). addOpen t (args .uid) (args .tid) (args .process) (args .file) (args .access)) (c .before .before .before .before .before .unpack .ensures)) (sym (words-fit .ensures) ∙ not-false (words-fit .result) (if1 .left)) (c .before .before .before .if2 .left) in (k .number, (c .pack .ensures ∙ k .words, k .given))
+    let k = done-leaves (args .tables .now) (args .fid .now) (openAdded (args .tables .now) (args .uid) (args .tid) (args .process) (args .file) (args .access)) (add-open .result) (add-open .ensures ∙ ap (λ (t : Tables). addOpen t (args .uid) (args .tid) (args .process) (args .file) (args .access)) (c .before .before .before .before .before .unpack .ensures)) (sym (words-fit .ensures) ∙ not-false (words-fit .result) (if1 .left)) (λ e. addOpen-sound (unpacked (args .tables .now)) e (args .uid) (args .tid) (args .process) (args .file) (args .access)) (c .before .before .before .if2 .left) _ (c .pack .ensures) in (k .number, (k .words, (k .given, k .next)))
 
 pub gateway-add-open-spec : {M : Type 1} → statement M
 gateway-add-open-spec =

@@ -3,7 +3,10 @@ use borrow.Author.Needs.{needs}
 use Rattle.gateway.proofs.gateway_empty.Statement.{statement}
 use Rattle.gateway.proofs.gateway_empty.Tie as tie
 use mathlib.Core.Path.{ap, _∙_}
+use Rattle.host.specs.HostCall.{noTables}
+use Rattle.claims.specs.HostSound.{start-sound}
 use Rattle.words.specs.Words.{packed}
+use Rattle.gateway.specs.BoundaryLaws.{ready-of}
 
 empty-tables-requires : tie.Need-empty-tables-requires
 empty-tables-requires c κs = search needs
@@ -13,7 +16,9 @@ pack-requires c κs = search needs
 
 returns : tie.Need-returns
 returns c =
-    c .pack .ensures ∙ ap packed (c .before .before .empty-tables .ensures)
+    let p = c .pack .ensures in
+    let e = c .before .before .empty-tables .ensures in
+    (p .0 ∙ ap packed e, (p .1 .1 ∙ e, ready-of _ noTables (p .1 .0) (p .1 .1 ∙ e) start-sound))
 
 pub gateway-empty-spec : {M : Type 1} → statement M
 gateway-empty-spec = tie.close (tie.spec empty-tables-requires pack-requires returns)

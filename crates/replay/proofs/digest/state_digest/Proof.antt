@@ -25,7 +25,7 @@ digest-bytes-requires c κs = search needs
 returns : tie.Need-returns
 returns c =
     let args = c .before .before .before .before .before .before .before .args in
-    c .digest-bytes .ensures ∙ ap (λ (d : ℕ). digest d (args .memory .now)) (c .before .digest-words .ensures .0 ∙ ap (digest 0) (c .before .before .before .before .pack .ensures))
+    c .digest-bytes .ensures ∙ ap (λ (d : ℕ). digest d (args .memory .now)) (c .before .digest-words .ensures .0 ∙ ap (digest 0) (c .before .before .before .before .pack .ensures .0))
 
 pub state-digest-spec : {M : Type 1} → statement M
 state-digest-spec =

@@ -1,0 +1,110 @@
+-- Words that are ready are never answered with 4, "tables not sound": since each call leaves ready words ready (`Next`), a host
+-- that starts from `gateway_empty` and leaves the words alone never meets 4. Assumes nothing.
+use mathlib.Core.Path.{_≡_}
+use Prim.Native.Nat.{ℕ}
+use native.Mathlib.Omega.{arith}
+use mathlib.Core.Bool.{true, false, not, _||_}
+use mathlib.Core.List.{List}
+use lib.ListN.{length}
+use lib.Dec.{eqb, ltb}
+use borrow.Author.Tests.{not-true}
+use Rattle.lists.specs.Truth.{not-decided-twice, both-hold}
+use Rattle.records.specs.declared.Tables.{Tables}
+use Rattle.soundness.specs.Sound.{sound}
+use Rattle.host.specs.declared.answer.Answer.{Answer}
+use Rattle.chain.specs.Header.{dropped}
+use Rattle.message.specs.Message.{Taken, notTaken, replied, answered, take-message}
+use Rattle.claims.specs.HostReasons.{SessionReason, session-unsound, session-full, session-done, TreeReason, tree-unsound, tree-range, tree-nobody, tree-full, tree-done, OpenReason, open-unsound, open-range, open-nowhere, open-exceeds, open-full, open-done, LoadReason, load-memory, load-unsound, load-range, load-opened, load-done, DropReason, drop-unsound, drop-done, addSession-reason, addTree-reason, addOpen-reason, loadFile-reason, dropConnection-reason}
+use Rattle.demands.specs.GivenCases.{cond-case}
+use Rattle.words.specs.Words.{fits, unpacked}
+use Rattle.gateway.specs.Boundary.{ready, numberOf, sessionAdded, treeAdded, openAdded, connectionDropped, fileLoaded, loadNumberOf, messageTaken, wrongRoom, Left, left, leftBy, messageLeft}
+
+-- a call answers another number than 4
+abbrev Takes : ℕ → Type 0
+Takes n = n ≡ 4 → ⊥
+
+-- ---- the core, on sound tables
+
+module _ (t : Tables) (s : sound t ≡ true) where
+  contrary : {n : ℕ} → sound t ≡ false → Takes n
+  contrary f _ = not-decided-twice (sound t) s f
+
+  session-takes : {n : ℕ} → SessionReason t n → Takes n
+  session-takes (session-unsound f) = contrary f
+  session-takes (session-full a b) = λ e. omega arith
+  session-takes (session-done a b) = λ e. omega arith
+
+  tree-takes : {uid right n : ℕ} → TreeReason t uid right n → Takes n
+  tree-takes (tree-unsound f) = contrary f
+  tree-takes (tree-range a b) = λ e. omega arith
+  tree-takes (tree-nobody a b c) = λ e. omega arith
+  tree-takes (tree-full a b c d) = λ e. omega arith
+  tree-takes (tree-done a b c d) = λ e. omega arith
+
+  open-takes : {uid tid file access n : ℕ} → OpenReason t uid tid file access n → Takes n
+  open-takes (open-unsound f) = contrary f
+  open-takes (open-range a b) = λ e. omega arith
+  open-takes (open-nowhere a b c d) = λ e. omega arith
+  open-takes (open-exceeds a b c d f) = λ e. omega arith
+  open-takes (open-full a b c d f) = λ e. omega arith
+  open-takes (open-done a b c d f) = λ e. omega arith
+
+  load-takes : {file size memory n : ℕ} → LoadReason t file size memory n → Takes n
+  load-takes (load-memory a) = λ e. omega arith
+  load-takes (load-unsound a f) = contrary f
+  load-takes (load-range a b c) = λ e. omega arith
+  load-takes (load-opened a b c d f) = λ e. omega arith
+  load-takes (load-done a b c d f) = λ e. omega arith
+
+  drop-takes : {n : ℕ} → DropReason t n → Takes n
+  drop-takes (drop-unsound f) = contrary f
+  drop-takes (drop-done a) = λ e. omega arith
+
+  message-takes : (connection : ℕ) (m memory room : List ℕ) → Takes (take-message connection m t memory room .number)
+  unfolding take-message notTaken replied
+  message-takes connection m memory room =
+      cond-case (λ (k : Taken). Takes (k .number)) (ltb (length room) 12292 || not (eqb (length memory) 65536)) (notTaken 2 t memory room) _ (λ _ e. omega arith)
+      (λ _. cond-case (λ (k : Taken). Takes (k .number)) (not (sound t)) (notTaken 4 t memory room) _ (λ u. contrary (not-true (sound t) u))
+      (λ _. cond-case (λ (k : Taken). Takes (k .number)) (dropped m) (notTaken 1 t memory room) (replied m room (answered connection m t memory)) (λ _ e. omega arith)
+      (λ _ e. omega arith)))
+
+-- ---- the calls, on ready words
+
+module _ (w : List ℕ) (h : ready w ≡ true) where
+  ready-says : (fits w ≡ true) × (sound (unpacked w) ≡ true)
+  unfolding ready
+  ready-says = both-hold (fits w) (sound (unpacked w)) h
+
+  number-takes : (a : Answer) → Takes (a .number) → Takes (numberOf w a)
+  unfolding numberOf
+  number-takes a n = rw (ready-says .0) n
+
+  pub session-ready : (connection : ℕ) → numberOf w (sessionAdded w connection) ≡ 4 → ⊥
+  unfolding sessionAdded
+  session-ready connection = number-takes _ (session-takes (unpacked w) (ready-says .1) (addSession-reason (unpacked w) connection))
+
+  pub tree-ready : (uid right : ℕ) → numberOf w (treeAdded w uid right) ≡ 4 → ⊥
+  unfolding treeAdded
+  tree-ready uid right = number-takes _ (tree-takes (unpacked w) (ready-says .1) (addTree-reason (unpacked w) uid right))
+
+  pub open-ready : (uid tid process file access : ℕ) → numberOf w (openAdded w uid tid process file access) ≡ 4 → ⊥
+  unfolding openAdded
+  open-ready uid tid process file access = number-takes _ (open-takes (unpacked w) (ready-says .1) (addOpen-reason (unpacked w) uid tid process file access))
+
+  pub drop-ready : (connection : ℕ) → numberOf w (connectionDropped w connection) ≡ 4 → ⊥
+  unfolding connectionDropped
+  drop-ready connection = number-takes _ (drop-takes (unpacked w) (ready-says .1) (dropConnection-reason (unpacked w) connection))
+
+  pub load-ready : (file : ℕ) (contents memory : List ℕ) → loadNumberOf w file contents memory ≡ 4 → ⊥
+  unfolding loadNumberOf fileLoaded
+  load-ready file contents memory =
+      cond-case Takes (not (eqb (length memory) 65536)) 2 _ (λ _ e. omega arith)
+      (λ _. number-takes _ (load-takes (unpacked w) (ready-says .1) (loadFile-reason (unpacked w) file contents memory)))
+
+  pub message-ready : (connection : ℕ) (m memory room : List ℕ) (before : ℕ) → messageLeft connection m w memory room before .number ≡ 4 → ⊥
+  unfolding messageLeft messageTaken leftBy
+  message-ready connection m memory room before =
+      cond-case (λ (l : Left). Takes (l .number)) (wrongRoom memory room) (left 2 w memory room before) _ (λ _ e. omega arith)
+      (λ _. rw (ready-says .0)
+      (cond-case (λ (l : Left). Takes (l .number)) (eqb (take-message connection m (unpacked w) memory room .number) 0) _ _ (λ _ e. omega arith)
+      (λ _. message-takes (unpacked w) (ready-says .1) connection m memory room)))
