@@ -27,6 +27,31 @@ ghost use lib.ListN.{length};
 ghost use Rattle.wire.specs.LittleEndian.{le32At};
 ghost use Rattle.chain.specs.Parse.{lockingFits, readFits, writeFits, dataInside, answer, wideOffset, parseLocking, parseRead, parseWrite, parseClose, parseLogoff, parseEmpty, parse};
 
+// Where fields stand, from a block's start: document 01, "Words after AndX"; specs/Layout.antt has the same places.
+const FID: usize = 5;
+
+const LOCK_TYPE: usize = 7;
+
+const UNLOCKS: usize = 13;
+
+const LOCKS: usize = 15;
+
+const LOCKING_BYTE_COUNT: usize = 17;
+
+const OFFSET: usize = 7;
+
+const READ_MAX: usize = 11;
+
+const READ_OFFSET_HIGH: usize = 21;
+
+const WRITE_LENGTH: usize = 21;
+
+const WRITE_DATA_OFFSET: usize = 23;
+
+const WRITE_OFFSET_HIGH: usize = 25;
+
+const CLOSE_FID: usize = 1;
+
 // A block that fits.
 fn whole(s: &[u8], command: u8, at: usize, body: Body, next: Next) -> Parsed
     requires { ⌜ at < length (now s) ⌝ }
@@ -49,9 +74,9 @@ fn locking_fits(s: &[u8], at: usize) -> bool
     if !has_shape(s, at, 8) {
         return false;
     }
-    let kind = wire::byte_at(s, at + 7);
-    let ranges = wire::le16_at(s, at + 13) as usize + wire::le16_at(s, at + 15) as usize;
-    let bytes = wire::le16_at(s, at + 17) as usize;
+    let kind = wire::byte_at(s, at + LOCK_TYPE);
+    let ranges = wire::le16_at(s, at + UNLOCKS) as usize + wire::le16_at(s, at + LOCKS) as usize;
+    let bytes = wire::le16_at(s, at + LOCKING_BYTE_COUNT) as usize;
     bytes == ranges * range_size(kind / 16 % 2 == 1)
 }
 
@@ -64,10 +89,10 @@ fn parse_locking(s: &[u8], at: usize) -> Parsed
     if !link_fits(s, LOCKING, at) {
         return Parsed::Malformed;
     }
-    let fid = wire::le16_at(s, at + 5);
-    let kind = wire::byte_at(s, at + 7);
-    let unlocks = wire::le16_at(s, at + 13);
-    let locks = wire::le16_at(s, at + 15);
+    let fid = wire::le16_at(s, at + FID);
+    let kind = wire::byte_at(s, at + LOCK_TYPE);
+    let unlocks = wire::le16_at(s, at + UNLOCKS);
+    let locks = wire::le16_at(s, at + LOCKS);
     let body = Body::Locking(LockingFields {
         fid,
         kind,
@@ -108,9 +133,14 @@ fn parse_read(s: &[u8], at: usize) -> Parsed
     if !link_fits(s, READ, at) {
         return Parsed::Malformed;
     }
-    let fid = wire::le16_at(s, at + 5);
-    let offset = offset_at(s, at + 7, at + 21, wire::byte_at(s, at) == 12);
-    let max = wire::le16_at(s, at + 11);
+    let fid = wire::le16_at(s, at + FID);
+    let offset = offset_at(
+        s,
+        at + OFFSET,
+        at + READ_OFFSET_HIGH,
+        wire::byte_at(s, at) == 12,
+    );
+    let max = wire::le16_at(s, at + READ_MAX);
     let body = Body::Read(ReadFields { fid, offset, max });
     whole(s, READ, at, body, link_at(s, at))
 }
@@ -120,8 +150,8 @@ fn data_inside(s: &[u8], at: usize) -> bool
     requires { ⌜ at < length (now s) ⌝ }
     ensures { λ r. ⌜ r ≡ dataInside (now (s .entry)) at ⌝ }
 {
-    let from = wire::le16_at(s, at + 23) as usize;
-    let count = wire::le16_at(s, at + 21) as usize;
+    let from = wire::le16_at(s, at + WRITE_DATA_OFFSET) as usize;
+    let count = wire::le16_at(s, at + WRITE_LENGTH) as usize;
     let words = wire::byte_at(s, at) as usize;
     if from < at + 3 + 2 * words {
         return false;
@@ -151,10 +181,15 @@ fn parse_write(s: &[u8], at: usize) -> Parsed
     if !link_fits(s, WRITE, at) {
         return Parsed::Malformed;
     }
-    let fid = wire::le16_at(s, at + 5);
-    let offset = offset_at(s, at + 7, at + 25, wire::byte_at(s, at) == 14);
-    let count = wire::le16_at(s, at + 21);
-    let from = wire::le16_at(s, at + 23) as usize;
+    let fid = wire::le16_at(s, at + FID);
+    let offset = offset_at(
+        s,
+        at + OFFSET,
+        at + WRITE_OFFSET_HIGH,
+        wire::byte_at(s, at) == 14,
+    );
+    let count = wire::le16_at(s, at + WRITE_LENGTH);
+    let from = wire::le16_at(s, at + WRITE_DATA_OFFSET) as usize;
     let body = Body::Write(WriteFields {
         fid,
         offset,
@@ -170,7 +205,7 @@ fn parse_close(s: &[u8], at: usize) -> Parsed
     if !is_bare(s, at, 3) {
         return Parsed::Malformed;
     }
-    let body = Body::Close(wire::le16_at(s, at + 1));
+    let body = Body::Close(wire::le16_at(s, at + CLOSE_FID));
     whole(s, CLOSE, at, body, Next::End)
 }
 

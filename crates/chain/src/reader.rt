@@ -3,7 +3,7 @@
 
 use crate::block::Next;
 use crate::block::Parsed;
-use crate::cursor::block_at;
+use crate::message_reader::block_at;
 ghost use mathlib.Core.Path.{_≡_};
 ghost use Rattle.chain.specs.Chain.{blocksFrom};
 ghost use Rattle.chain.specs.Judged.{judged};

@@ -1,4 +1,4 @@
-// LOCKING.
+// LOCKING: 2/65535, then the request as a whole, which is `locks::request`'s.
 
 use crate::who::Reached;
 use crate::who::reach_open;

@@ -1,4 +1,4 @@
-// READ.
+// READ: 1/5, 1/33, then the file's bytes, which are not copied out: the answer says where they stand.
 
 use crate::barred::ask_of;
 use crate::barred::file_size;

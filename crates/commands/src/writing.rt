@@ -1,4 +1,4 @@
-// WRITE.
+// WRITE: 1/5, 1/33, 3/39, then the bytes. Nothing is written before the last refusal has been ruled out.
 
 use crate::barred::ask_of;
 use crate::barred::file_size;

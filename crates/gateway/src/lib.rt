@@ -161,7 +161,8 @@ pub extern "C" fn gateway_drop_connection(tables: &mut [u64; 1172], connection: 
     DONE
 }
 
-// A request message of a connection. The reply goes to the start of the room, its length to written.
+// A request message of a connection. The reply goes to the start of the room, its length to written. Row 2 is tested here too,
+// since it comes before words that do not fit.
 #[no_mangle]
 pub extern "C" fn gateway_take_message(
     tables: &mut [u64; 1172],

@@ -3,8 +3,8 @@
 use chain::block::Block;
 use chain::block::Next;
 use chain::block::Parsed;
-use chain::cursor::block_at;
 use chain::header::is_dropped;
+use chain::message_reader::block_at;
 use chain::reader::Chain;
 use chain::reader::read_chain;
 use text::put_byte;

@@ -4,7 +4,7 @@ use crate::step::goes_on;
 use crate::step::status_after;
 use chain::block::Next;
 use chain::block::Parsed;
-use chain::cursor::block_at;
+use chain::message_reader::block_at;
 use commands::perform::is_transfer;
 use commands::perform::perform_block;
 use commands::perform::transfer_block;

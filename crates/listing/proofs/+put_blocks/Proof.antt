@@ -12,7 +12,7 @@ use borrow.Fn.PlainCycle.{Measures, is, falls, and}
 use Rattle.listing.proofs.put_blocks.Reads as put-blocks
 use Rattle.listing.proofs.put_blocks.Kinds as put-blocks-kinds
 use Rattle.listing.proofs.+put_blocks.Lts-put_blocks as put-blocks-lts
-use Rattle.chain.proofs.cursor.block_at.Reads as block-at-reads
+use Rattle.chain.proofs.message_reader.block_at.Reads as block-at-reads
 use Rattle.listing.proofs.put_line.Reads as put-line-reads
 use Rattle.text.proofs.put_text.Reads as put-text-reads
 use Rattle.listing.proofs.+put_blocks.{statement}

@@ -10,7 +10,7 @@ use borrow.Fn.PlainCycle.{Measures, is, falls, and}
 use Rattle.chain.proofs.reader.read_chain.Reads as read-chain
 use Rattle.chain.proofs.reader.read_chain.Kinds as read-chain-kinds
 use Rattle.chain.proofs.reader.+read_chain.Lts-read_chain as read-chain-lts
-use Rattle.chain.proofs.cursor.block_at.Reads as block-at-reads
+use Rattle.chain.proofs.message_reader.block_at.Reads as block-at-reads
 use Rattle.chain.proofs.reader.+read_chain.{statement}
 use Rattle.chain.proofs.reader.+read_chain.Tie.{close}
 use borrow.Author.Needs.{needs}

@@ -1,4 +1,4 @@
--- `chain::cursor::next_block` meets its contract: a walk of its MIR, by hand. The struct is taken apart, and `chain::parse::parse_block` is called on the slice, the command and the place. All that the proof knows of `parse_block` is that it meets its contract.
+-- `chain::message_reader::read_block` meets its contract: a walk of its MIR, by hand. The struct is taken apart, and `chain::parse::parse_block` is called on the slice, the command and the place. All that the proof knows of `parse_block` is that it meets its contract.
 -- The struct is Copy: what it owns is had twice, one copy is kept whole for the exit, and of the other what message owns goes to the callee, beside the lifetime's token, which comes back. What the two numbers own is made anew.
 -- Assumes nothing.
 use mathlib.Core.Path.{_≡_, refl}
@@ -51,13 +51,13 @@ use Rattle.chain.proofs.parse.parse_block as block
 use Rattle.chain.proofs.parse.parse_block.Symbol as block-def
 use Rattle.chain.proofs.parse.parse_block.Symbol.{name as #chain·parse·parse-block}
 use Rattle.chain.proofs.parse.parse_block.Met as block-thm
-use Rattle.chain.specs.declared.cursor.MessageReader.{MessageReader}
-use Rattle.chain.proofs.cursor.MessageReader as T
-use Rattle.chain.proofs.cursor.MessageReader.Laws as T′
-use Rattle.chain.proofs.cursor.next_block.Key.{name as #cursor·next-block}
-use Rattle.chain.proofs.cursor.next_block as next
-use Rattle.chain.proofs.cursor.next_block.Statement as stated
-use Rattle.chain.proofs.cursor.next_block.Code as code
+use Rattle.chain.specs.declared.message_reader.MessageReader.{MessageReader}
+use Rattle.chain.proofs.message_reader.MessageReader as T
+use Rattle.chain.proofs.message_reader.MessageReader.Laws as T′
+use Rattle.chain.proofs.message_reader.read_block.Key.{name as #message-reader·read-block}
+use Rattle.chain.proofs.message_reader.read_block as next
+use Rattle.chain.proofs.message_reader.read_block.Statement as stated
+use Rattle.chain.proofs.message_reader.read_block.Code as code
 
 -- the struct's type, over the signature's lifetimes
 abbrev B : Lfts 1 → RattleType
@@ -161,10 +161,10 @@ next-meets : {M : Type 1} (𝓤 : URA M) (H : Heap 𝓤) (A : Atoms 𝓤) (W : G
 next-meets 𝓤 H A W mem run 𝓣 known-block = walk-meets 𝓤 H A next.ended stayed W (goes-none 𝓤 H A W 1 B yes (λ κs x f. refl), (goes-none 𝓤 H A W 1 (λ _. u8) yes (λ κs x f. refl), tt)) (next.clauses 𝓤 H A mem run) (WpFn 𝓤 H (𝓣 .C) (𝓣 .Λ) code.function) (WpFn-mono 𝓤 H (W .laws) 𝓣 code.function)
     (next-walks 𝓤 H A W mem run (𝓣 .C) (𝓣 .Λ) (fmOf 𝓤 H (W .laws) 𝓣) known-block)
 
-pub next-block-spec : {M : Type 1} → stated.statement M
+pub read-block-spec : {M : Type 1} → stated.statement M
 unfolding code.routine tablesOf
-next-block-spec 𝓤 H 𝓜 𝓖 𝓡 =
+read-block-spec 𝓤 H 𝓜 𝓖 𝓡 =
     entered 𝓤 H (tripleOf 𝓤 H (𝓖 .A) next.signature (next.spec 𝓤 H (𝓖 .A) (𝓜 .mem) (𝓡 .run)))
-    (tables 𝓤 H 𝓜 𝓡 code.env .C) (tables 𝓤 H 𝓜 𝓡 code.env .Λ) #cursor·next-block code.function (code.unfolded 𝓤 H 𝓜 𝓡)
+    (tables 𝓤 H 𝓜 𝓡 code.env .C) (tables 𝓤 H 𝓜 𝓡 code.env .Λ) #message-reader·read-block code.function (code.unfolded 𝓤 H 𝓜 𝓡)
     (next-meets 𝓤 H (𝓖 .A) (givenOf 𝓤 H 𝓜 𝓖) (𝓜 .mem) (𝓡 .run) (tablesOf 𝓤 H 𝓜 (tables 𝓤 H 𝓜 𝓡 code.env))
     (cited 𝓤 H (ParseBlock 𝓤 H (𝓖 .A) (𝓜 .mem) (𝓡 .run)) 𝓜 𝓡 code.env #chain·parse·parse-block block-def.routine code.calls-chain·parse·parse-block (block-thm.met 𝓤 H 𝓜 𝓖 𝓡)))

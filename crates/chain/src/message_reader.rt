@@ -1,5 +1,5 @@
 // The reader of a message: "a record that holds the message slice and a place" (document 01, "Layers"), thin over `parse`.
-// The borrow checker covers no function over such a record, so `reader_at`, `next_block` and `block_at` are proved by hand. Who calls `block_at`, whose
+// The borrow checker covers no function over such a record, so `reader_at`, `read_block` and `block_at` are proved by hand. Who calls `block_at`, whose
 // parameters are plain, needs no walk.
 
 use crate::block::Parsed;
@@ -20,7 +20,7 @@ pub fn reader_at<'a>(message: &'a [u8], at: usize) -> MessageReader<'a>
 }
 
 // The block with that command at the reader's place.
-pub fn next_block<'a>(r: MessageReader<'a>, command: u8) -> Parsed
+pub fn read_block<'a>(r: MessageReader<'a>, command: u8) -> Parsed
     ensures { λ p. ⌜ p ≡ parse (now (r .entry .message)) command (r .entry .at) ⌝ }
 {
     parse_block(r.message, command, r.at)
@@ -30,5 +30,5 @@ pub fn next_block<'a>(r: MessageReader<'a>, command: u8) -> Parsed
 pub fn block_at(s: &[u8], command: u8, at: usize) -> Parsed
     ensures { λ p. ⌜ p ≡ parse (now (s .entry)) command at ⌝ }
 {
-    next_block(reader_at(s, at), command)
+    read_block(reader_at(s, at), command)
 }

@@ -1,4 +1,4 @@
--- `chain::cursor::block_at` meets its contract: a walk of its MIR, by hand. A `MessageReader` that one call returns is held in a local and passed to the next, with the command. All that the proof knows of `reader_at` and of `next_block` is that each meets its contract.
+-- `chain::message_reader::block_at` meets its contract: a walk of its MIR, by hand. A `MessageReader` that one call returns is held in a local and passed to the next, with the command. All that the proof knows of `reader_at` and of `read_block` is that each meets its contract.
 -- The machine value that `reader_at` returns is stored and passed on as it is. In a local of a body MIR erases the lifetime of the struct's type, so the value is shown to have the type at `erased`: what the struct owns does not say the lifetime's name.
 -- Assumes nothing.
 use mathlib.Core.Path.{_≡_, refl, ap, _∙_}
@@ -42,21 +42,21 @@ use Rattle.chain.specs.Parse.{parse}
 use Rattle.chain.specs.declared.block.Parsed.{Parsed}
 use Rattle.chain.proofs.block.Parsed as S
 use Rattle.chain.proofs.block.Parsed.Laws as S′
-use Rattle.chain.specs.declared.cursor.MessageReader.{MessageReader}
-use Rattle.chain.proofs.cursor.MessageReader as T
-use Rattle.chain.proofs.cursor.MessageReader.Laws as T′
-use Rattle.chain.proofs.cursor.reader_at as new
-use Rattle.chain.proofs.cursor.reader_at.Symbol as new-def
-use Rattle.chain.proofs.cursor.reader_at.Symbol.{name as #cursor·reader-at}
-use Rattle.chain.proofs.cursor.reader_at.Met as new-thm
-use Rattle.chain.proofs.cursor.next_block as next
-use Rattle.chain.proofs.cursor.next_block.Symbol as next-def
-use Rattle.chain.proofs.cursor.next_block.Symbol.{name as #cursor·next-block}
-use Rattle.chain.proofs.cursor.next_block.Met as next-thm
-use Rattle.chain.proofs.cursor.block_at.Key.{name as #cursor·block-at}
-use Rattle.chain.proofs.cursor.block_at as block-at
-use Rattle.chain.proofs.cursor.block_at.Statement as stated
-use Rattle.chain.proofs.cursor.block_at.Code as code
+use Rattle.chain.specs.declared.message_reader.MessageReader.{MessageReader}
+use Rattle.chain.proofs.message_reader.MessageReader as T
+use Rattle.chain.proofs.message_reader.MessageReader.Laws as T′
+use Rattle.chain.proofs.message_reader.reader_at as new
+use Rattle.chain.proofs.message_reader.reader_at.Symbol as new-def
+use Rattle.chain.proofs.message_reader.reader_at.Symbol.{name as #message-reader·reader-at}
+use Rattle.chain.proofs.message_reader.reader_at.Met as new-thm
+use Rattle.chain.proofs.message_reader.read_block as next
+use Rattle.chain.proofs.message_reader.read_block.Symbol as next-def
+use Rattle.chain.proofs.message_reader.read_block.Symbol.{name as #message-reader·read-block}
+use Rattle.chain.proofs.message_reader.read_block.Met as next-thm
+use Rattle.chain.proofs.message_reader.block_at.Key.{name as #message-reader·block-at}
+use Rattle.chain.proofs.message_reader.block_at as block-at
+use Rattle.chain.proofs.message_reader.block_at.Statement as stated
+use Rattle.chain.proofs.message_reader.block_at.Code as code
 
 -- the struct's type, over the signature's lifetimes
 abbrev B : Lfts 1 → RattleType
@@ -112,7 +112,7 @@ module _ {M : Type 1} (𝓤 : URA M) (H : Heap 𝓤) (A : Atoms 𝓤) (W : Given
   new-said : (r : MessageReader) → ent 𝓤 (ensured 𝓤 H A new.ended (new.clauses 𝓤 H A mem run) (κ, tt) (s, (n, tt)) tt r) (fact 𝓤 ((r .message ≡ s) × (r .at ≡ n)))
   new-said r = exE 𝓤 _ (λ ws. snd∗ 𝓤 (sem 𝓤 H A (lasts new.ended (κ, tt) (s, (n, tt)) ws)) (fact 𝓤 ((r .message ≡ s) × (r .at ≡ n))))
 
-  -- the call of `next_block`, at the struct r with the machine value u
+  -- the call of `read_block`, at the struct r with the machine value u
   abbrev to-next : MessageReader → Val → Next 𝓤 H A mem run .Ghost
   to-next r u = (((κ, tt), (q, tt), tt, (r, (c, tt)), (u ∷ [], (vint w8 c ∷ [], tt))), tt)
 
@@ -131,7 +131,7 @@ module _ {M : Type 1} (𝓤 : URA M) (H : Heap 𝓤) (A : Atoms 𝓤) (W : Given
       move ! (1 ∷ []) $ frame ! $ nothing ! $ owned ! usize (Is usize) (uint-makes 𝓤 H A W w64) n _ (refl, n-fits) $ fjoin ! $ owned ! u8 (Is u8) (uint-makes 𝓤 H A W w8) c _ (refl, c-fits) $ fjoin ! $
       move ! (2 ∷ 0 ∷ []) $ fjoin ! $ frame ! $ done !
 
-  module _ (C : Calls 𝓤 H) (Λ : Loops 𝓤 H) (fm : FmC 𝓤 H (W .laws) C) (known-new : Triple 𝓤 (C #cursor·reader-at) (New 𝓤 H A mem run)) (known-next : Triple 𝓤 (C #cursor·next-block) (Next 𝓤 H A mem run)) where
+  module _ (C : Calls 𝓤 H) (Λ : Loops 𝓤 H) (fm : FmC 𝓤 H (W .laws) C) (known-new : Triple 𝓤 (C #message-reader·reader-at) (New 𝓤 H A mem run)) (known-next : Triple 𝓤 (C #message-reader·read-block) (Next 𝓤 H A mem run)) where
     walk : Is (ShrSlice (named 0) κ u8) s (v ∷ []) → ent 𝓤 (onEntry 𝓤 H A block-at.signature (κ, tt) (q, tt) (s, (c, (n, tt))) at) (WpFn 𝓤 H C Λ code.function (v ∷ vint w8 c ∷ vint w64 n ∷ []) Post)
     walk p =
         qed W (raw (onEntry 𝓤 H A block-at.signature (κ, tt) (q, tt) (s, (c, (n, tt))) at) ∷ []) ∵ enter ! C Λ code.function (v ∷ vint w8 c ∷ vint w64 n ∷ []) _ $
@@ -146,7 +146,7 @@ module _ {M : Type 1} (𝓤 : URA M) (H : Heap 𝓤) (A : Atoms 𝓤) (W : Given
         peeks ! (B (κ, tt)) (Is (B (κ, tt))) (shows 𝓤 H A (B (κ, tt))) r (u ∷ []) (λ is.
         land ! (from ! (stop !)) (init ! 3 refl (LL.lawful (T.the-type αᵉ) (T′.the-laws αᵉ) 𝓤 H A W .typed r _ is .0)) $
         use2 W (raw (Next 𝓤 H A mem run .pre (to-next r u))) (goes-next r u) $
-        -- [what `next_block` asks; what s owns; _4; …; _3; …; _2; …; _1; …; room for _0; …]
+        -- [what `read_block` asks; what s owns; _4; …; _3; …; _2; …; _1; …; room for _0; …]
         calls-at ! fm (Next 𝓤 H A mem run) known-next (to-next r u) (and-then ! (load ! (from ! (stop !)) (look ! 2 refl)) (and-then ! (load ! (from ! (stop !)) (look ! 6 refl)) (no-more !))) (λ u′.
         use1 W (later (some (λ (t : Parsed). ((‵ (flft κ q) ⊛ ‵ ftrue) ⊛ ‵ (S.the-row .own t (u′ ∷ []))) ⊛ raw (ensured 𝓤 H A next.ended (next.clauses 𝓤 H A mem run) (κ, tt) (r, (c, tt)) tt t)))) (id⊢ 𝓤 _) $ await ! tt $ pick ! (λ t.
         split ! $ move ! (1 ∷ []) $ use1 W (raw (fact 𝓤 (t ≡ parse (now (r .message)) c (r .at)))) (next-said r t) $ heard ! (t ≡ parse (now (r .message)) c (r .at)) (λ e′. split ! $ move ! (1 ∷ []) $
@@ -158,13 +158,13 @@ module _ {M : Type 1} (𝓤 : URA M) (H : Heap 𝓤) (A : Atoms 𝓤) (W : Given
         by ! (exits t u′ (e′ ∙ (ap (λ (x : RefT (List ℕ)). parse (now x) c (r .at)) (e .0) ∙ ap (parse (now s) c) (e .1)))))))))))))))))
 
 module _ {M : Type 1} (𝓤 : URA M) (H : Heap 𝓤) (A : Atoms 𝓤) (W : Given 𝓤 H A) (mem : Memory → SProp 𝓤) (run : Routine → Fun 𝓤) where
-  block-at-walks : (C : Calls 𝓤 H) (Λ : Loops 𝓤 H) → FmC 𝓤 H (W .laws) C → Triple 𝓤 (C #cursor·reader-at) (New 𝓤 H A mem run) → Triple 𝓤 (C #cursor·next-block) (Next 𝓤 H A mem run)
+  block-at-walks : (C : Calls 𝓤 H) (Λ : Loops 𝓤 H) → FmC 𝓤 H (W .laws) C → Triple 𝓤 (C #message-reader·reader-at) (New 𝓤 H A mem run) → Triple 𝓤 (C #message-reader·read-block) (Next 𝓤 H A mem run)
       → Walks 𝓤 H A block-at.ended stayed (WpFn 𝓤 H C Λ code.function) (block-at.clauses 𝓤 H A mem run)
   block-at-walks C Λ fm known-new known-next = walked 𝓤 H A block-at.ended stayed (block-at.clauses 𝓤 H A mem run) (WpFn 𝓤 H C Λ code.function) (λ κs. (slice-vals, (uint-vals w8, (uint-vals w64, tt)))) (λ κs. (shr-slice-tells (named 0) (κs .0) u8, (uint-tells w8, (uint-tells w64, tt))))
       (λ κs qs bounds a g are. via 𝓤 _ (fst∗ 𝓤 _ (emp 𝓤)) (walk 𝓤 H A W mem run (κs .0) (qs .0) (a .0) (a .1 .0) (a .1 .1 .0) (are .1 .0 .1) (are .1 .1 .0 .1) C Λ fm known-new known-next (are .0)))
 
 block-at-meets : {M : Type 1} (𝓤 : URA M) (H : Heap 𝓤) (A : Atoms 𝓤) (W : Given 𝓤 H A) (mem : Memory → SProp 𝓤) (run : Routine → Fun 𝓤) (𝓣 : Tables 𝓤 H)
-    → Triple 𝓤 (𝓣 .C #cursor·reader-at) (New 𝓤 H A mem run) → Triple 𝓤 (𝓣 .C #cursor·next-block) (Next 𝓤 H A mem run)
+    → Triple 𝓤 (𝓣 .C #message-reader·reader-at) (New 𝓤 H A mem run) → Triple 𝓤 (𝓣 .C #message-reader·read-block) (Next 𝓤 H A mem run)
     → Meets 𝓤 H A block-at.signature (WpFn 𝓤 H (𝓣 .C) (𝓣 .Λ) code.function) (block-at.spec 𝓤 H A mem run)
 block-at-meets 𝓤 H A W mem run 𝓣 known-new known-next = walk-meets 𝓤 H A block-at.ended stayed W (goes-none-slice 𝓤 H A W 1 (0 ∷ []) tt (plain (λ _. u8)) yes, (goes-none 𝓤 H A W 1 (λ _. u8) yes (λ κs x f. refl), (goes-none 𝓤 H A W 1 (λ _. usize) yes (λ κs x f. refl), tt))) (block-at.clauses 𝓤 H A mem run) (WpFn 𝓤 H (𝓣 .C) (𝓣 .Λ) code.function) (WpFn-mono 𝓤 H (W .laws) 𝓣 code.function)
     (block-at-walks 𝓤 H A W mem run (𝓣 .C) (𝓣 .Λ) (fmOf 𝓤 H (W .laws) 𝓣) known-new known-next)
@@ -173,7 +173,7 @@ pub block-at-spec : {M : Type 1} → stated.statement M
 unfolding code.routine tablesOf
 block-at-spec 𝓤 H 𝓜 𝓖 𝓡 =
     entered 𝓤 H (tripleOf 𝓤 H (𝓖 .A) block-at.signature (block-at.spec 𝓤 H (𝓖 .A) (𝓜 .mem) (𝓡 .run)))
-    (tables 𝓤 H 𝓜 𝓡 code.env .C) (tables 𝓤 H 𝓜 𝓡 code.env .Λ) #cursor·block-at code.function (code.unfolded 𝓤 H 𝓜 𝓡)
+    (tables 𝓤 H 𝓜 𝓡 code.env .C) (tables 𝓤 H 𝓜 𝓡 code.env .Λ) #message-reader·block-at code.function (code.unfolded 𝓤 H 𝓜 𝓡)
     (block-at-meets 𝓤 H (𝓖 .A) (givenOf 𝓤 H 𝓜 𝓖) (𝓜 .mem) (𝓡 .run) (tablesOf 𝓤 H 𝓜 (tables 𝓤 H 𝓜 𝓡 code.env))
-    (cited 𝓤 H (New 𝓤 H (𝓖 .A) (𝓜 .mem) (𝓡 .run)) 𝓜 𝓡 code.env #cursor·reader-at new-def.routine code.calls-chain·cursor·reader-at (new-thm.met 𝓤 H 𝓜 𝓖 𝓡))
-    (cited 𝓤 H (Next 𝓤 H (𝓖 .A) (𝓜 .mem) (𝓡 .run)) 𝓜 𝓡 code.env #cursor·next-block next-def.routine code.calls-chain·cursor·next-block (next-thm.met 𝓤 H 𝓜 𝓖 𝓡)))
+    (cited 𝓤 H (New 𝓤 H (𝓖 .A) (𝓜 .mem) (𝓡 .run)) 𝓜 𝓡 code.env #message-reader·reader-at new-def.routine code.calls-chain·message-reader·reader-at (new-thm.met 𝓤 H 𝓜 𝓖 𝓡))
+    (cited 𝓤 H (Next 𝓤 H (𝓖 .A) (𝓜 .mem) (𝓡 .run)) 𝓜 𝓡 code.env #message-reader·read-block next-def.routine code.calls-chain·message-reader·read-block (next-thm.met 𝓤 H 𝓜 𝓖 𝓡)))
