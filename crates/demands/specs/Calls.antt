@@ -6,22 +6,28 @@ use Prim.Native.Nat.{ℕ, _+_, _*_, _/_, _%_, _≤_, _<_}
 use native.Mathlib.Omega.{arith}
 use mathlib.Core.Bool.{true}
 use mathlib.Core.List.{List, map}
-use lib.ListN.{length}
+use mathlib.Core.Option.{some}
+use lib.ListN.{length, length-append}
 use Rattle.lists.specs.Put.{put}
 use Rattle.wire.specs.LittleEndian.{byteAt, le16At}
 use Rattle.records.specs.declared.Tables.{Tables}
-use Rattle.chain.specs.Layout.{headerCommand}
+use Rattle.chain.specs.Layout.{headerCommand, FIRST}
 use Rattle.chain.specs.Grammar.{Span, Reading, Sentence}
+use Rattle.chain.specs.Chain.{blocks}
 use Rattle.chain.specs.declared.block.Block.{Block}
 use Rattle.readings.specs.ReaderComplete.{reader-complete}
 use Rattle.readings.specs.ReaderSound.{spanOf}
+use Rattle.readings.specs.Chained.{read-chained}
+use Rattle.message.specs.Caller.{callerOf}
 use Rattle.message.specs.Refusal.{status}
 use Rattle.message.specs.declared.refusal.Status.{Status}
 use Rattle.message.specs.Reply.{two, replyHeader}
-use Rattle.message.specs.Message.{Ran, served, answered, replyOf, Taken, replied, take-message}
+use Rattle.message.specs.Message.{Ran, run, runChain, served, answered, replyOf, Taken, replied, take-message}
 use Rattle.demands.specs.Malformed.{malformed}
+use Rattle.demands.specs.ReplySize.{length-header}
+use Rattle.demands.specs.OneByOne.{chained-served}
 use Rattle.demands.specs.Sound.{Good}
-use Rattle.demands.specs.Taken.{Fit, fit-answered}
+use Rattle.demands.specs.Taken.{Fit, fit-answered, not-short}
 use Rattle.demands.specs.CallsOneByOne.{answered-small, callAll, comparedCall, calls-one-by-one}
 
 -- the SMBSTATUS that stands in a reply's header: class at 5, code at 7
@@ -42,6 +48,20 @@ unfolding replied
 status-call connection s t memory room f =
     ap (λ (k : Taken). statusRead (k .room)) (fit-answered connection s t memory room f)
     ∙ status-replied s room (answered connection s t memory) (answered-small connection s t memory)
+
+-- a sentence is answered by its commands in turn, and the reply's length is the header's and theirs
+module _ (connection : ℕ) (s : List ℕ) (t : Tables) (memory : List ℕ) where
+  pub sentence-answered : (bs : List Block) → blocks s ≡ some bs → answered connection s t memory ≡ run (callerOf connection s) s bs FIRST t memory
+  unfolding answered runChain blocks
+  sentence-answered bs e = rw (chained-served (read-chained s (headerCommand s) FIRST bs e), e)
+
+  pub length-call : (room : List ℕ) → Fit s t memory room → take-message connection s t memory room .length ≡ 32 + length (answered connection s t memory .blocks)
+  unfolding replied replyOf
+  length-call room fit =
+      let m : 35 ≤ length s = not-short s (fit .not-dropped) in
+      let h : length (replyHeader s (answered connection s t memory .status)) ≡ 32 = length-header s (answered connection s t memory .status) (omega arith) in
+      ap (λ (k : Taken). k .length) (fit-answered connection s t memory room fit)
+      ∙ rw (length-append (replyHeader s (answered connection s t memory .status)) (answered connection s t memory .blocks), h)
 
 -- "A message fit to be answered that begins with a known command is answered as malformed exactly if it is not a sentence": "Answered as malformed: 0,
 -- Status 2/1"

@@ -54,10 +54,14 @@ lastCall r = record { number = r .number; tables = r .tables; memory = r .memory
 unfoldable pub callThen : List ℕ → Calls → Calls
 callThen reply calls = record { number = calls .number; tables = calls .tables; memory = calls .memory; replies = reply ∷ calls .replies }
 
+-- a message that was carried out: number 0 ("done; for a message, a reply of stated length was written") and Status 0
+unfoldable pub carriedOut : Taken → Bool
+carriedOut r = eqb (r .number) 0 && statusZero (replyIn r)
+
 -- "It stops after the first one refused (Status not 0) or the last block."
 unfoldable pub callOn : Taken → List Block → (Tables → List ℕ → Calls) → Calls
 callOn r [] rest = lastCall r
-callOn r (b ∷ bs) rest = cond (statusZero (replyIn r)) (callThen (replyIn r) (rest (r .tables) (r .memory))) (lastCall r)
+callOn r (b ∷ bs) rest = cond (carriedOut r) (callThen (replyIn r) (rest (r .tables) (r .memory))) (lastCall r)
 
 -- "each block in turn makes a message", taken by the definition: "The first gets the sound tables and files that the chain got, each next those the last one left"
 unfoldable pub callAll : ℕ → List ℕ → List ℕ → List Block → Tables → List ℕ → Calls
@@ -179,7 +183,7 @@ step : (connection : ℕ) (s room : List ℕ) (b : Block) (bs : List Block) (t :
     ≡ callsOf (sendAll connection s bs (answered connection (alone s b) t memory .tables) (answered connection (alone s b) t memory .memory))
     → callOn (replied (alone s b) room (answered connection (alone s b) t memory)) bs (λ u m. callAll connection s room bs u m)
     ≡ callsOf (sendOn (alone s b) (answered connection (alone s b) t memory) (λ u m. sendAll connection s bs u m))
-unfolding callOn lastCall sendOn sendAll replied
+unfolding callOn carriedOut lastCall sendOn sendAll replied
 step connection s room b [] t memory e =
     rw (reply-read (alone s b) room (answered connection (alone s b) t memory))
     (last-sent (succeeded (answered connection (alone s b) t memory .status)) (replyOf (alone s b) (answered connection (alone s b) t memory)) _ _ _)

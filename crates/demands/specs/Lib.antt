@@ -15,4 +15,9 @@ pub mod MemorySize
 pub mod Taken
 pub mod CallsOneByOne
 pub mod Calls
+pub mod ValidOpen
 pub mod LoneCall
+pub mod RefusedCall
+pub mod MessageReasons
+pub mod NotServed
+pub mod RoomKept

@@ -69,7 +69,7 @@ pub record InWay (t : Tables) (o : Open) (offset size : ℕ) (Clash : Lock → T
 
 -- ---- a walk that finds one
 
-some-at : {A : Type 0} (p : A → Bool) (xs : List A) (f : Found) → found p xs ≡ f → {x : A} → In x xs → p x ≡ true → (k : ℕ) × (f ≡ At k)
+pub some-at : {A : Type 0} (p : A → Bool) (xs : List A) (f : Found) → found p xs ≡ f → {x : A} → In x xs → p x ≡ true → (k : ℕ) × (f ≡ At k)
 some-at p xs (At k) e m h = (k, refl)
 some-at p xs Nothing e {x} m h = absurd (not-decided-twice (p x) h (found-miss p m e))
 

@@ -87,6 +87,10 @@ not-served-taken connection s t memory room f e = fit-answered connection s t me
 
 module _ (s : List ℕ) (fit : dropped s ≡ false) where
   -- what a message that is not dropped has
+  pub not-short : 35 ≤ length s
+  unfolding dropped
+  not-short = ltb-false (length s) 35 (neither-holds (ltb (length s) 35) (ltb 8192 (length s) || (not (startsSmb s) || isReply s)) fit .0)
+
   pub not-long : length s ≤ 8192
   unfolding dropped
   not-long =

@@ -1,0 +1,251 @@
+-- A refusal in a chain, said of the call (document 01, "Refusals on the wire"): "A command refused changes no table and no file byte, its own unlocks
+-- included. Commands before it in the chain stand; those after it aren't begun." Assumes nothing.
+use mathlib.Core.Path.{_≡_, refl, sym, ap, _∙_}
+use Prim.Native.Nat.{ℕ, _+_, _≤_}
+use native.Mathlib.Omega.{arith}
+use mathlib.Core.Bool.{true}
+use mathlib.Core.Logic.{inl, inr}
+use mathlib.Core.List.{List, [], _∷_, _++_}
+use mathlib.Core.Option.{Option, none, some}
+use lib.ListN.{length, length-append}
+use Rattle.records.specs.declared.Tables.{Tables}
+use Rattle.lists.specs.Truth.{decided}
+use Rattle.chain.specs.Layout.{headerCommand, FIRST}
+use Rattle.chain.specs.Chain.{blocks}
+use Rattle.chain.specs.declared.block.Block.{Block}
+use Rattle.readings.specs.ReaderComplete.{no-sentence}
+use Rattle.message.specs.Caller.{callerOf}
+use Rattle.message.specs.declared.caller.Caller.{Caller}
+use Rattle.message.specs.Refusal.{status, statusOf}
+use Rattle.message.specs.declared.refusal.Refusal.{Refusal}
+use Rattle.message.specs.Command.{Said, Given, refused, done, perform}
+use Rattle.message.specs.Reply.{replyBlock, refusedBlock, replySize}
+use Rattle.message.specs.Message.{areaOf, dataOf, Ran, after, linkTo, afterGiven, run, served, onlyStatus, Taken, replied, take-message}
+use Rattle.demands.specs.ReplySize.{length-block}
+use Rattle.demands.specs.Taken.{Fit, fit-answered, malformed-taken, not-served-taken}
+use Rattle.demands.specs.Calls.{statusRead, status-call, sentence-answered, length-call}
+use Rattle.demands.specs.LoneCall.{given-least}
+
+-- what one command gives on tables and file memory
+abbrev pub gives : Caller → List ℕ → Block → Tables → List ℕ → Given
+gives c s b t memory = perform c t memory (b .body) (areaOf s b) (dataOf s b)
+
+-- how commands that are refused ended: those in front were carried out, the next was refused on what they left, and what they left stands; no later one
+-- has a reply block
+record Stopped (c : Caller) (s : List ℕ) (bs : List Block) (place : ℕ) (t : Tables) (memory : List ℕ) (last : Ran) : Type 0 where
+  front : List Block
+  command : Block
+  later : List Block
+  split : bs ≡ front ++ (command ∷ later)
+  front-done : run c s front place t memory .status ≡ status 0 0
+  why : Refusal
+  command-refused : gives c s command (run c s front place t memory .tables) (run c s front place t memory .memory) ≡ refused why
+  status-left : last .status ≡ statusOf why
+  tables-left : last .tables ≡ run c s front place t memory .tables
+  memory-left : last .memory ≡ run c s front place t memory .memory
+  blocks-left : length (last .blocks) ≡ length (run c s front place t memory .blocks) + 3
+
+module _ (c : Caller) (s : List ℕ) (b : Block) (bs : List Block) (place : ℕ) (t : Tables) (memory : List ℕ) where
+  -- a command that is done, and those after it
+  step-done : (u : Tables) (m : List ℕ) (said : Said) → gives c s b t memory ≡ done u m said
+      → run c s (b ∷ bs) place t memory ≡ after (replyBlock said place (linkTo bs (place + replySize said))) (run c s bs (place + replySize said) u m)
+  unfolding run afterGiven
+  step-done u m said e = rw e
+
+  -- one that is refused
+  step-refused : (why : Refusal) → gives c s b t memory ≡ refused why
+      → run c s (b ∷ bs) place t memory ≡ record { status = statusOf why; tables = t; memory = memory; blocks = refusedBlock }
+  unfolding run afterGiven
+  step-refused why e = rw e
+
+-- how many bytes stand in front
+step-length : (c : Caller) (s : List ℕ) (b : Block) (bs : List Block) (place : ℕ) (t : Tables) (memory : List ℕ) (u : Tables) (m : List ℕ) (said : Said) → gives c s b t memory ≡ done u m said
+    → length (run c s (b ∷ bs) place t memory .blocks) ≡ replySize said + length (run c s bs (place + replySize said) u m .blocks)
+unfolding after
+step-length c s b bs place t memory u m said e =
+    ap (λ (r : Ran). length (r .blocks)) (step-done c s b bs place t memory u m said e)
+    ∙ length-append (replyBlock said place (linkTo bs (place + replySize said))) (run c s bs (place + replySize said) u m .blocks)
+    ∙ ap (λ (n : ℕ). n + length (run c s bs (place + replySize said) u m .blocks)) (length-block said place (linkTo bs (place + replySize said)))
+
+-- by what the first gives: it is refused, or a later one
+stopped-by : (c : Caller) (s : List ℕ) (b : Block) (bs : List Block) (place : ℕ) (t : Tables) (memory : List ℕ) (g : Given) → gives c s b t memory ≡ g
+    → ((u : Tables) (m : List ℕ) (said : Said) → g ≡ done u m said → Stopped c s bs (place + replySize said) u m (run c s bs (place + replySize said) u m))
+    → Stopped c s (b ∷ bs) place t memory (run c s (b ∷ bs) place t memory)
+unfolding run after refusedBlock
+stopped-by c s b bs place t memory (refused why) e f =
+    let r = step-refused c s b bs place t memory why e in
+    record {
+      front = [];
+      command = b;
+      later = bs;
+      split = refl;
+      front-done = refl;
+      why = why;
+      command-refused = e;
+      status-left = ap (λ (x : Ran). x .status) r;
+      tables-left = ap (λ (x : Ran). x .tables) r;
+      memory-left = ap (λ (x : Ran). x .memory) r;
+      blocks-left = ap (λ (x : Ran). length (x .blocks)) r;
+    }
+stopped-by c s b bs place t memory (done u m said) e f =
+    let q = f u m said refl in
+    let whole = step-done c s b bs place t memory u m said e in
+    let part = step-done c s b (q .front) place t memory u m said e in
+    let n = step-length c s b bs place t memory u m said e in
+    let k = step-length c s b (q .front) place t memory u m said e in
+    record {
+      front = b ∷ q .front;
+      command = q .command;
+      later = q .later;
+      split = ap (λ (l : List Block). b ∷ l) (q .split);
+      front-done = ap (λ (x : Ran). x .status) part ∙ q .front-done;
+      why = q .why;
+      command-refused = rw part (q .command-refused);
+      status-left = ap (λ (x : Ran). x .status) whole ∙ q .status-left;
+      tables-left = ap (λ (x : Ran). x .tables) whole ∙ q .tables-left ∙ sym (ap (λ (x : Ran). x .tables) part);
+      memory-left = ap (λ (x : Ran). x .memory) whole ∙ q .memory-left ∙ sym (ap (λ (x : Ran). x .memory) part);
+      blocks-left = n ∙ more (replySize said) _ _ _ k (q .blocks-left);
+    }
+  where
+    more : (a x y z : ℕ) → z ≡ a + y → x ≡ y + 3 → a + x ≡ z + 3
+    more a x y z e f = omega arith
+
+-- commands that do not end with status 0/0 end so
+run-stopped : (c : Caller) (s : List ℕ) (bs : List Block) (place : ℕ) (t : Tables) (memory : List ℕ) → (run c s bs place t memory .status ≡ status 0 0 → ⊥)
+    → Stopped c s bs place t memory (run c s bs place t memory)
+unfolding run after
+run-stopped c s [] place t memory n = absurd (n refl)
+run-stopped c s (b ∷ bs) place t memory n =
+    stopped-by c s b bs place t memory (gives c s b t memory) refl
+    (λ u m said e. run-stopped c s bs (place + replySize said) u m (λ z. n (ap (λ (x : Ran). x .status) (step-done c s b bs place t memory u m said e) ∙ z)))
+
+-- what the call gave, where a command was refused
+pub record RefusedCall (c : Caller) (s : List ℕ) (bs : List Block) (t : Tables) (memory : List ℕ) (call : Taken) : Type 0 where
+  -- the commands: those before it, the one refused, those after it
+  pub front : List Block
+  pub command : Block
+  pub later : List Block
+  pub split : bs ≡ front ++ (command ∷ later)
+  -- "Commands before it in the chain stand": carried out alone they are done
+  pub front-done : run c s front FIRST t memory .status ≡ status 0 0
+  -- it is refused on what they left
+  pub why : Refusal
+  pub command-refused : gives c s command (run c s front FIRST t memory .tables) (run c s front FIRST t memory .memory) ≡ refused why
+  pub status-given : statusRead (call .room) ≡ statusOf why
+  -- "A command refused changes no table and no file byte": what they left stands
+  pub tables-left : call .tables ≡ run c s front FIRST t memory .tables
+  pub memory-left : call .memory ≡ run c s front FIRST t memory .memory
+  -- "those after it aren't begun": behind the header and the blocks of those before it stands the refused block, and nothing more
+  pub length-left : call .length ≡ 32 + (length (run c s front FIRST t memory .blocks) + 3)
+
+module _ (connection : ℕ) (s : List ℕ) (bs : List Block) (e : blocks s ≡ some bs) (t : Tables) (memory room : List ℕ) (fit : Fit s t memory room) where
+  -- what the call leaves is what the commands leave
+  call-tables : take-message connection s t memory room .tables ≡ run (callerOf connection s) s bs FIRST t memory .tables
+  unfolding replied
+  call-tables = ap (λ (k : Taken). k .tables) (fit-answered connection s t memory room fit) ∙ ap (λ (r : Ran). r .tables) (sentence-answered connection s t memory bs e)
+
+  call-memory : take-message connection s t memory room .memory ≡ run (callerOf connection s) s bs FIRST t memory .memory
+  unfolding replied
+  call-memory = ap (λ (k : Taken). k .memory) (fit-answered connection s t memory room fit) ∙ ap (λ (r : Ran). r .memory) (sentence-answered connection s t memory bs e)
+
+  call-status : statusRead (take-message connection s t memory room .room) ≡ run (callerOf connection s) s bs FIRST t memory .status
+  call-status = status-call connection s t memory room fit ∙ ap (λ (r : Ran). r .status) (sentence-answered connection s t memory bs e)
+
+  call-length : take-message connection s t memory room .length ≡ 32 + length (run (callerOf connection s) s bs FIRST t memory .blocks)
+  call-length = length-call connection s t memory room fit ∙ ap (λ (r : Ran). 32 + length (r .blocks)) (sentence-answered connection s t memory bs e)
+
+  -- "A command refused changes no table and no file byte, its own unlocks included. Commands before it in the chain stand; those after it aren't begun":
+  -- a sentence fit to be answered whose reply's Status is not 0/0
+  pub refused-call : (statusRead (take-message connection s t memory room .room) ≡ status 0 0 → ⊥)
+      → RefusedCall (callerOf connection s) s bs t memory (take-message connection s t memory room)
+  refused-call n =
+      let q = run-stopped (callerOf connection s) s bs FIRST t memory (λ z. n (call-status ∙ z)) in
+      record {
+        front = q .front;
+        command = q .command;
+        later = q .later;
+        split = q .split;
+        front-done = q .front-done;
+        why = q .why;
+        command-refused = q .command-refused;
+        status-given = call-status ∙ q .status-left;
+        tables-left = call-tables ∙ q .tables-left;
+        memory-left = call-memory ∙ q .memory-left;
+        length-left = call-length ∙ ap (λ (k : ℕ). 32 + k) (q .blocks-left);
+      }
+
+-- ---- what was there before the call stands
+
+-- tables and file memory are those before the call
+pub record Untouched (t : Tables) (memory : List ℕ) (call : Taken) : Type 0 where
+  pub same-tables : call .tables ≡ t
+  pub same-memory : call .memory ≡ memory
+
+-- commands with no reply block are none
+run-none : (c : Caller) (s : List ℕ) (bs : List Block) (place : ℕ) (t : Tables) (memory : List ℕ) → length (run c s bs place t memory .blocks) ≡ 0 → bs ≡ []
+unfolding run
+run-none c s [] place t memory e = refl
+run-none c s (b ∷ bs) place t memory e =
+    let n : 3 ≤ length (run c s (b ∷ bs) place t memory .blocks) = given-least (gives c s b t memory) bs place t memory (λ p u m. run c s bs p u m) in
+    absurd (let z : ⊥ = omega arith in z)
+
+-- nothing in front: what is left is what was there
+none-front : {c : Caller} {s : List ℕ} {bs : List Block} {t : Tables} {memory : List ℕ} {call : Taken} (r : RefusedCall c s bs t memory call) → r .front ≡ [] → Untouched t memory call
+unfolding run
+none-front {c} {s} {bs} {t} {memory} r e =
+    record {
+      same-tables = r .tables-left ∙ ap (λ (l : List Block). run c s l FIRST t memory .tables) e;
+      same-memory = r .memory-left ∙ ap (λ (l : List Block). run c s l FIRST t memory .memory) e;
+    }
+
+-- one command is not one in front of another
+one-front : (front later : List Block) (b d : Block) → b ∷ [] ≡ front ++ (d ∷ later) → front ≡ []
+one-front [] later b d e = refl
+one-front (x ∷ []) later b d e = let z : _≡_ {A = List Block} [] (d ∷ later) = cc in let n : _≡_ {A = ℕ} 0 1 = cc in absurd (omega arith)
+one-front (x ∷ (y ∷ front)) later b d e = let z : _≡_ {A = List Block} [] (y ∷ (front ++ (d ∷ later))) = cc in let n : _≡_ {A = ℕ} 0 1 = cc in absurd (omega arith)
+
+module _ (connection : ℕ) (s : List ℕ) (t : Tables) (memory room : List ℕ) (fit : Fit s t memory room) where
+  -- "A command refused changes no table and no file byte, its own unlocks included": a message of one command, with any Status but 0/0
+  pub alone-refused : (b : Block) → blocks s ≡ some (b ∷ []) → (statusRead (take-message connection s t memory room .room) ≡ status 0 0 → ⊥)
+      → Untouched t memory (take-message connection s t memory room)
+  alone-refused b e n =
+      let r = refused-call connection s (b ∷ []) e t memory room fit n in none-front r (one-front (r .front) (r .later) b (r .command) (r .split))
+
+  -- "those after it aren't begun": where the first command is refused, whatever comes after it
+  pub first-refused : (b : Block) (bs : List Block) → blocks s ≡ some (b ∷ bs) → (why : Refusal) → gives (callerOf connection s) s b t memory ≡ refused why
+      → (statusRead (take-message connection s t memory room .room) ≡ statusOf why) × Untouched t memory (take-message connection s t memory room)
+  first-refused b bs e why g =
+      let r = step-refused (callerOf connection s) s b bs FIRST t memory why g in (
+        call-status connection s (b ∷ bs) e t memory room fit ∙ ap (λ (x : Ran). x .status) r,
+        record {
+          same-tables = call-tables connection s (b ∷ bs) e t memory room fit ∙ ap (λ (x : Ran). x .tables) r;
+          same-memory = call-memory connection s (b ∷ bs) e t memory room fit ∙ ap (λ (x : Ran). x .memory) r;
+        },
+      )
+
+  sentence-refusal : (bs : List Block) → blocks s ≡ some bs → (statusRead (take-message connection s t memory room .room) ≡ status 0 0 → ⊥)
+      → take-message connection s t memory room .length ≡ 35 → Untouched t memory (take-message connection s t memory room)
+  sentence-refusal bs e n l =
+      let r = refused-call connection s bs e t memory room fit n in
+      let k : 32 + (length (run (callerOf connection s) s (r .front) FIRST t memory .blocks) + 3) ≡ 35 = sym (r .length-left) ∙ l in
+      none-front r (run-none (callerOf connection s) s (r .front) FIRST t memory (omega arith))
+
+  read-refusal : (o : Option (List Block)) → blocks s ≡ o → served (headerCommand s) ≡ true → (statusRead (take-message connection s t memory room .room) ≡ status 0 0 → ⊥)
+      → take-message connection s t memory room .length ≡ 35 → Untouched t memory (take-message connection s t memory room)
+  unfolding replied onlyStatus
+  read-refusal (some bs) e v n l = sentence-refusal bs e n l
+  read-refusal none e v n l =
+      let q = malformed-taken connection s t memory room fit v (no-sentence s .0 e) in
+      record { same-tables = ap (λ (k : Taken). k .tables) q; same-memory = ap (λ (k : Taken). k .memory) q }
+
+  -- so a reply of one refused block, whatever the message and whatever the refusal, says that nothing was changed
+  pub short-refusal : (statusRead (take-message connection s t memory room .room) ≡ status 0 0 → ⊥) → take-message connection s t memory room .length ≡ 35
+      → Untouched t memory (take-message connection s t memory room)
+  unfolding replied onlyStatus
+  short-refusal n l =
+      elim (decided (served (headerCommand s))) [
+        | inl v ↦ read-refusal (blocks s) refl v n l
+        | inr v ↦
+            let q = not-served-taken connection s t memory room fit v in
+            record { same-tables = ap (λ (k : Taken). k .tables) q; same-memory = ap (λ (k : Taken). k .memory) q }
+      ]
