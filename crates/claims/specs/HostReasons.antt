@@ -100,14 +100,14 @@ no-session : (t : Tables) (uid : ℕ) → contains uid (map uidOf (sessionsOf t)
 unfolding HasSession
 no-session t uid e s = not-decided-twice (contains uid (map uidOf (sessionsOf t))) (one-named uidOf uid (s .1) (s .2)) e
 
-has-tree : (t : Tables) (tid uid : ℕ) → any (isTree tid uid) (treesOf t) ≡ true → HasTree t tid uid
+pub has-tree : (t : Tables) (tid uid : ℕ) → any (isTree tid uid) (treesOf t) ≡ true → HasTree t tid uid
 unfolding HasTree isTree
 has-tree t tid uid e =
     let r = any-one (isTree tid uid) (treesOf t) e in
     let b = both-hold (eqb (r .0 .tid) tid) (eqb (r .0 .uid) uid) (r .2) in
     (r .0, r .1, eqb-true (r .0 .tid) tid (b .0), eqb-true (r .0 .uid) uid (b .1))
 
-no-tree : (t : Tables) (tid uid : ℕ) → any (isTree tid uid) (treesOf t) ≡ false → HasTree t tid uid → ⊥
+pub no-tree : (t : Tables) (tid uid : ℕ) → any (isTree tid uid) (treesOf t) ≡ false → HasTree t tid uid → ⊥
 unfolding HasTree isTree
 no-tree t tid uid e r =
     not-decided-twice (any (isTree tid uid) (treesOf t))
@@ -267,11 +267,11 @@ addTree-given t uid right (tree-full a b c d) =
 addTree-given t uid right (tree-done a b c d) = rw (a, le-ltb 1 right b, session-found t uid c, lt-leb 32 (t .ntrees) d)
 
 -- the tests of a tree, from the plain words
-tree-found : (t : Tables) (tid uid : ℕ) → HasTree t tid uid → any (isTree tid uid) (treesOf t) ≡ true
+pub tree-found : (t : Tables) (tid uid : ℕ) → HasTree t tid uid → any (isTree tid uid) (treesOf t) ≡ true
 tree-found t tid uid r =
     elim (decided (any (isTree tid uid) (treesOf t))) [ inl e ↦ e | inr e ↦ absurd (no-tree t tid uid e r) ]
 
-tree-missing : (t : Tables) (tid uid : ℕ) → (HasTree t tid uid → ⊥) → any (isTree tid uid) (treesOf t) ≡ false
+pub tree-missing : (t : Tables) (tid uid : ℕ) → (HasTree t tid uid → ⊥) → any (isTree tid uid) (treesOf t) ≡ false
 tree-missing t tid uid h = fails (any (isTree tid uid) (treesOf t)) (λ e. h (has-tree t tid uid e))
 
 read-only-tree : (t : Tables) (tid uid : ℕ) → HasReadOnly t tid uid → HasTree t tid uid

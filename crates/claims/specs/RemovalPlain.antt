@@ -1,6 +1,6 @@
 -- What is left of sound tables after each removal, in plain words (document 01, "Locks, reads and writes", last paragraph:
 -- "CLOSE removes the open and its locks. TREE_DISCONNECT removes the tree and its opens, LOGOFF the session and its trees,
--- PROCESS_EXIT the opens of that UID and process, each with what hangs on them"). Assumes nothing.
+-- PROCESS_EXIT the opens of that UID and process, each with what hangs on them"); the files' sizes stand as before. Assumes nothing.
 use mathlib.Core.Path.{_≡_, refl, sym, ap, _∙_}
 use mathlib.Core.Bool.{Bool, true, false, not, _&&_, and-true}
 use mathlib.Core.List.{List, map, List·Memᴰ as In}
@@ -13,11 +13,11 @@ use Rattle.records.specs.declared.Session.{Session}
 use Rattle.records.specs.declared.Tree.{Tree}
 use Rattle.records.specs.declared.Open.{Open}
 use Rattle.records.specs.declared.Tables.{Tables}
-use Rattle.records.specs.Held.{sessionsOf, treesOf, opensOf, locksOf}
+use Rattle.records.specs.Held.{sessionsOf, treesOf, opensOf, locksOf, withSessions, withTrees, withOpens, withLocks}
 use Rattle.numbers.specs.Number.{contains}
 use Rattle.numbers.specs.Column.{uidOf, tidOf, fidOf}
 use Rattle.soundness.specs.Sound.{sound, holdsOpen, openOk}
-use Rattle.removal.specs.Removal.{sessionNamed, treeNamed, openNamed, sessionStays, treeStays, openStays, lockStays, remove}
+use Rattle.removal.specs.Removal.{sessionNamed, treeNamed, openNamed, sessionStays, treeStays, openStays, lockStays, sweepSessions, sweepTrees, sweepOpens, sweepLocks, remove}
 use Rattle.removal.specs.declared.Gone.{Gone}
 use Rattle.removal.specs.declared.Gone.the-variants.{Connection, Session as UserGone, Tree as TreeGone, Open as OpenGone, Process}
 use Rattle.claims.specs.Numbered.{named-one, one-named, numbered-same}
@@ -94,10 +94,19 @@ module _ (t : Tables) (s : Sound t) where
 abbrev pub LocksOfOpens : Tables → Tables → Type 0
 LocksOfOpens t after = locksOf after ≡ keep (λ l. contains (l .fid) (map fidOf (opensOf after))) (locksOf t)
 
+-- no file's size is touched
+abbrev pub FilesStand : Tables → Tables → Type 0
+FilesStand t after = after .files ≡ t .files
+
 -- "each with what hangs on them": the locks
 pub locks-follow : (gone : Gone) (t : Tables) → LocksOfOpens t (remove gone t)
 unfolding lockStays
 locks-follow gone t = after-locks gone t ∙ ap (λ (l : List Open). keep (lockStays (map fidOf l)) (locksOf t)) (sym (after-opens gone t))
+
+-- and the files stay
+pub files-stand : (gone : Gone) (t : Tables) → FilesStand t (remove gone t)
+unfolding remove sweepSessions sweepTrees sweepOpens sweepLocks withSessions withTrees withOpens withLocks
+files-stand gone t = refl
 
 -- the open and the locks of its FID are gone
 pub record Closed (fid : ℕ) (t after : Tables) : Type 0 where
@@ -105,6 +114,7 @@ pub record Closed (fid : ℕ) (t after : Tables) : Type 0 where
   pub trees : treesOf after ≡ treesOf t
   pub opens : opensOf after ≡ keep (λ o. not (eqb (o .fid) fid)) (opensOf t)
   pub locks : locksOf after ≡ keep (λ l. not (eqb (l .fid) fid)) (locksOf t)
+  pub files : FilesStand t after
 
 -- the tree, its opens and their locks are gone
 pub record Disconnected (tid : ℕ) (t after : Tables) : Type 0 where
@@ -112,6 +122,7 @@ pub record Disconnected (tid : ℕ) (t after : Tables) : Type 0 where
   pub trees : treesOf after ≡ keep (λ r. not (eqb (r .tid) tid)) (treesOf t)
   pub opens : opensOf after ≡ keep (λ o. not (eqb (o .tid) tid)) (opensOf t)
   pub locks : LocksOfOpens t after
+  pub files : FilesStand t after
 
 -- the session, its trees, its opens and their locks are gone
 pub record LoggedOff (uid : ℕ) (t after : Tables) : Type 0 where
@@ -119,6 +130,7 @@ pub record LoggedOff (uid : ℕ) (t after : Tables) : Type 0 where
   pub trees : treesOf after ≡ keep (λ r. not (eqb (r .uid) uid)) (treesOf t)
   pub opens : opensOf after ≡ keep (λ o. not (eqb (o .uid) uid)) (opensOf t)
   pub locks : LocksOfOpens t after
+  pub files : FilesStand t after
 
 -- the opens of that UID and process and their locks are gone
 pub record Exited (uid process : ℕ) (t after : Tables) : Type 0 where
@@ -126,6 +138,7 @@ pub record Exited (uid process : ℕ) (t after : Tables) : Type 0 where
   pub trees : treesOf after ≡ treesOf t
   pub opens : opensOf after ≡ keep (λ o. not (eqb (o .uid) uid && eqb (o .process) process)) (opensOf t)
   pub locks : LocksOfOpens t after
+  pub files : FilesStand t after
 
 -- the sessions of the connection are gone, and trees, opens and locks of sessions that are gone
 pub record Dropped (connection : ℕ) (t after : Tables) : Type 0 where
@@ -133,6 +146,7 @@ pub record Dropped (connection : ℕ) (t after : Tables) : Type 0 where
   pub trees : treesOf after ≡ keep (λ r. contains (r .uid) (map uidOf (sessionsOf after))) (treesOf t)
   pub opens : opensOf after ≡ keep (λ o. contains (o .uid) (map uidOf (sessionsOf after))) (opensOf t)
   pub locks : LocksOfOpens t after
+  pub files : FilesStand t after
 
 module _ (t : Tables) (e : sound t ≡ true) where
   -- "CLOSE removes the open and its locks"
@@ -152,6 +166,7 @@ module _ (t : Tables) (e : sound t ≡ true) where
             ∙ ap (λ (l : List Open). keep (lockStays (map fidOf l)) (locksOf t)) o
             ∙ keep-same (lockStays (map fidOf (keep (λ o. not (eqb (o .fid) fid)) (opensOf t)))) (λ l. not (eqb (l .fid) fid)) (locksOf t)
             (λ l m. contains-kept fidOf (λ k. not (eqb k fid)) (opensOf t) (l .fid) (open-exists t s l m));
+        files = files-stand (OpenGone fid) t;
       }
 
   -- "TREE_DISCONNECT removes the tree and its opens"
@@ -170,6 +185,7 @@ module _ (t : Tables) (e : sound t ≡ true) where
             ∙ keep-same (openStays (TreeGone tid) (map tidOf (keep (λ r. not (eqb (r .tid) tid)) (treesOf t)))) (λ o. not (eqb (o .tid) tid)) (opensOf t)
             (λ o m. contains-kept tidOf (λ k. not (eqb k tid)) (treesOf t) (o .tid) (tree-exists t s o m));
         locks = locks-follow (TreeGone tid) t;
+        files = files-stand (TreeGone tid) t;
       }
 
   -- "LOGOFF the session and its trees", and their opens
@@ -192,6 +208,7 @@ module _ (t : Tables) (e : sound t ≡ true) where
             ∙ keep-same (openStays (UserGone uid) (map tidOf (keep (λ r. not (eqb (r .uid) uid)) (treesOf t)))) (λ o. not (eqb (o .uid) uid)) (opensOf t)
             (λ o m. open-follows t s (λ k. not (eqb k uid)) o m);
         locks = locks-follow (UserGone uid) t;
+        files = files-stand (UserGone uid) t;
       }
 
   -- "PROCESS_EXIT the opens of that UID and process"
@@ -206,6 +223,7 @@ module _ (t : Tables) (e : sound t ≡ true) where
         trees = after-trees (Process uid process) t ∙ all-trees-left t s (Process uid process) a b;
         opens = after-opens (Process uid process) t ∙ opens-not-named t s (Process uid process) a b;
         locks = locks-follow (Process uid process) t;
+        files = files-stand (Process uid process) t;
       }
 
   -- "drop a connection": its sessions, and the trees and opens of those
@@ -229,4 +247,5 @@ module _ (t : Tables) (e : sound t ≡ true) where
             (λ o m. open-follows t s (λ k. contains k (map uidOf (sessionsLeft (Connection c) t))) o m)
             ∙ ap (λ (l : List Session). keep (λ o. contains (o .uid) (map uidOf l)) (opensOf t)) (sym u);
         locks = locks-follow (Connection c) t;
+        files = files-stand (Connection c) t;
       }

@@ -21,3 +21,11 @@ pub mod RefusedCall
 pub mod MessageReasons
 pub mod NotServed
 pub mod RoomKept
+pub mod Admitted
+pub mod LockWords
+pub mod CommandReasons
+pub mod ReasonCalls
+pub mod FileBytes
+pub mod SentenceCases
+pub mod Reached
+pub mod FileCommands

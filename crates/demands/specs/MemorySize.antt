@@ -48,7 +48,7 @@ leaves-size : {t : Tables} {memory : List ℕ} {said : Said} → Leaves (done t 
 leaves-size (leaves-done h) = h
 
 -- a write ends inside its file
-write-ends : (offset count : ℕ) → endsPast offset count ≡ false → (count ≡ 0 → ⊥) → offset + count ≤ 4096
+pub write-ends : (offset count : ℕ) → endsPast offset count ≡ false → (count ≡ 0 → ⊥) → offset + count ≤ 4096
 unfolding endsPast
 write-ends offset count e n =
     let f : ltb 4096 (offset + count) ≡ false = rw (ne-eqb count 0 n) at e in ltb-false 4096 (offset + count) f

@@ -1,0 +1,549 @@
+-- The status of each command and the one reason for it, in plain words (document 01, "Refusals on the wire": the codes, and "Order: as written, for the whole of each
+-- command with all its ranges"). A reason names the failure of those before it in that order; the status is given just where its reason holds. Assumes nothing.
+use mathlib.Core.Path.{_≡_, refl, sym, ap, _∙_}
+use mathlib.Core.Logic.{_⊎_, inl, inr, _↔_}
+use Prim.Native.Nat.{ℕ, _+_, _*_, _/_, _%_, _≤_, _<_}
+use native.Mathlib.Omega.{arith}
+use mathlib.Core.Bool.{Bool, true, false, cond, not, _||_, and-false}
+use mathlib.Core.List.{List}
+use mathlib.Core.Option.{Option, none, some}
+use lib.ListN.{length, getD}
+use lib.Dec.{leb, ltb, eqb}
+use native.Mathlib.Decide.{ℕ-discrete}
+use borrow.Author.Tests.{leb-true, leb-false, le-leb, lt-leb, ltb-true, ltb-false, lt-ltb, le-ltb, eqb-true, eqb-false, eq-eqb, ne-eqb, not-true}
+use Rattle.lists.specs.Walk.{any}
+use Rattle.lists.specs.Truth.{both-hold, either-holds, fails, decided, not-decided-twice}
+use Rattle.lists.specs.declared.Found.{Found}
+use Rattle.lists.specs.declared.Found.the-variants.{At, Nothing}
+use Rattle.records.specs.declared.Open.{Open}
+use Rattle.records.specs.declared.Lock.{Lock}
+use Rattle.records.specs.declared.Tables.{Tables}
+use Rattle.records.specs.Empty.{noOpen}
+use Rattle.records.specs.Held.{opensOf, locksOf}
+use Rattle.locks.specs.Wire.{rangeSize, rangesAt}
+use Rattle.locks.specs.Request.{releaseAll, Grants, granted, blocked, grantAll, afterGrants, rangePasses, afterReleases, Result, request, settle, locking}
+use Rattle.locks.specs.declared.types.LockRange.{LockRange}
+use Rattle.locks.specs.declared.types.Purpose.the-variants.{Read as Reading, Write as Writing}
+use Rattle.soundness.specs.File.{fileOf}
+use Rattle.soundness.specs.Sound.{sound}
+use Rattle.claims.specs.SoundPlain.{sound-plain}
+use Rattle.claims.specs.HostReasons.{HasTree}
+use Rattle.claims.specs.Cases.{statusIn}
+use Rattle.chain.specs.declared.block.LockingFields.{LockingFields}
+use Rattle.chain.specs.declared.block.ReadFields.{ReadFields}
+use Rattle.chain.specs.declared.block.WriteFields.{WriteFields}
+use Rattle.chain.specs.declared.block.Body.{Body}
+use Rattle.chain.specs.declared.block.Body.the-variants.{Locking as LockingBody, Read as ReadBody, Write as WriteBody, Close, Logoff, TreeDisconnect, ProcessExit}
+use Rattle.message.specs.declared.caller.Caller.{Caller}
+use Rattle.message.specs.Refusal.{status, statusOf}
+use Rattle.message.specs.declared.refusal.Status.{Status}
+use Rattle.message.specs.declared.refusal.Refusal.the-variants.{NoAccess, LockType, NoSpace}
+use Rattle.message.specs.Contents.{readBytes, written, resized}
+use Rattle.message.specs.Command.{Given, Said, refused, done, read, wrote, withSession, withTree, withOpen, servedType, requestOf, lockingEnd, lockingAfter, doLocking, askOf, unlessBarred, barring, doRead, endsPast, doWrite, perform}
+use Rattle.demands.specs.LoneLock.{Conflicts, May, InWay, Owner, read-conflict as read-exact, write-conflict as write-exact}
+use Rattle.demands.specs.Admitted.{SessionHere, Admitted, NoSessionFor, NoTreeFor, NoOpenFor, admitted-may, session-or, tree-or, open-or, with-session, with-tree, with-open, session-given, tree-given, open-given}
+use Rattle.demands.specs.LockWords.{Released, Unnamed, Releasing, all-released, one-unnamed, release-means, released-is, unnamed-is, released-was, PastEnd, past-means, past-is, AllGranted, OneBlocked, Opened, Granting, all-granted, one-blocked, grant-means, granted-is, blocked-is}
+
+-- ---- the reasons
+
+-- "LOGOFF and PROCESS_EXIT stop after 2/91"
+pub data SessionReason (c : Caller) (t : Tables) : Status → Type 0 where
+  session-not : {n : Status} → NoSessionFor c t n → SessionReason c t n
+  session-done : SessionHere c t → SessionReason c t (status 0 0)
+
+-- "TREE_DISCONNECT after 2/5"
+pub data TreeReason (c : Caller) (t : Tables) : Status → Type 0 where
+  tree-not : {n : Status} → NoTreeFor c t n → TreeReason c t n
+  tree-done : SessionHere c t → HasTree t (c .tid) (c .uid) → TreeReason c t (status 0 0)
+
+-- "CLOSE after 1/6"
+pub data CloseReason (c : Caller) (t : Tables) (fid : ℕ) : Status → Type 0 where
+  close-not : {n : Status} → NoOpenFor c t fid n → CloseReason c t fid n
+  close-done : {o : Open} → Admitted c t fid o → CloseReason c t fid (status 0 0)
+
+-- "an exclusive lock of another owner overlaps offset and max"
+abbrev pub BarsRead : Caller → Tables → ReadFields → Open → Type 0
+BarsRead c t f o = InWay t o (f .offset) (f .max) (λ l. (l .shared ≡ false) × (Owner (f .fid) (c .process) l → ⊥))
+
+-- READ: "1/5 is a read on access 1", 1/33
+pub data ReadReason (c : Caller) (t : Tables) (f : ReadFields) : Status → Type 0 where
+  read-not : {n : Status} → NoOpenFor c t (f .fid) n → ReadReason c t f n
+  read-access : {o : Open} → Admitted c t (f .fid) o → o .access ≡ 1 → ReadReason c t f (status 1 5)
+  read-barred : {o : Open} → Admitted c t (f .fid) o → (o .access ≡ 1 → ⊥) → BarsRead c t f o → ReadReason c t f (status 1 33)
+  read-done : {o : Open} → Admitted c t (f .fid) o → (o .access ≡ 1 → ⊥) → (BarsRead c t f o → ⊥) → ReadReason c t f (status 0 0)
+
+-- "any lock overlaps it save the writer's own exclusive ones"
+abbrev pub BarsWrite : Caller → Tables → WriteFields → Open → Type 0
+BarsWrite c t f o = InWay t o (f .offset) (f .count) (λ l. (l .shared ≡ false) × Owner (f .fid) (c .process) l → ⊥)
+
+-- WRITE: "or a write on access 0", 1/33, "class 3, code 39, write would end past 4,096"; "Length 0 .. is done at any offset"
+pub data WriteReason (c : Caller) (t : Tables) (f : WriteFields) : Status → Type 0 where
+  write-not : {n : Status} → NoOpenFor c t (f .fid) n → WriteReason c t f n
+  write-access : {o : Open} → Admitted c t (f .fid) o → o .access ≡ 0 → WriteReason c t f (status 1 5)
+  write-barred : {o : Open} → Admitted c t (f .fid) o → (o .access ≡ 0 → ⊥) → BarsWrite c t f o → WriteReason c t f (status 1 33)
+  write-space : {o : Open} → Admitted c t (f .fid) o → (o .access ≡ 0 → ⊥) → (BarsWrite c t f o → ⊥) → 1 ≤ f .count → 4096 < f .offset + f .count
+      → WriteReason c t f (status 3 39)
+  write-done : {o : Open} → Admitted c t (f .fid) o → (o .access ≡ 0 → ⊥) → (BarsWrite c t f o → ⊥) → (f .count ≡ 0) ⊎ (f .offset + f .count ≤ 4096)
+      → WriteReason c t f (status 0 0)
+
+-- the type's bits 0x01 and 0x10 are all of it
+abbrev pub OnlyTwoBits : ℕ → Type 0
+OnlyTwoBits kind = kind ≡ kind % 2 + kind / 16 % 2 * 16
+
+-- the request's unlocks and locks, and whether they are shared: "Type bit 0x01 means shared"
+abbrev pub unlocksIn : LockingFields → List ℕ → List LockRange
+unlocksIn f area = rangesAt (eqb (f .kind / 16 % 2) 1) area 0 (f .unlocks)
+
+abbrev pub locksIn : LockingFields → List ℕ → List LockRange
+locksIn f area = rangesAt (eqb (f .kind / 16 % 2) 1) area (f .unlocks) (f .locks)
+
+abbrev pub sharedIn : LockingFields → Bool
+sharedIn f = eqb (f .kind % 2) 1
+
+-- LOCKING: "2/65535 lock type bit other than 0x01 and 0x10; 1/158 no such lock to release; 1/87 lock range passes 2^64; 1/33 lock conflict; 1/8 no lock record free"
+pub data LockingReason (c : Caller) (t : Tables) (f : LockingFields) (area : List ℕ) : Status → Type 0 where
+  locking-not : {n : Status} → NoOpenFor c t (f .fid) n → LockingReason c t f area n
+  locking-type : {o : Open} → Admitted c t (f .fid) o → (OnlyTwoBits (f .kind) → ⊥) → LockingReason c t f area (status 2 65535)
+  locking-unnamed : {o : Open} → Admitted c t (f .fid) o → OnlyTwoBits (f .kind) → Unnamed (f .fid) (unlocksIn f area) (locksOf t)
+      → LockingReason c t f area (status 1 158)
+  locking-past : {o : Open} {left : List Lock} → Admitted c t (f .fid) o → OnlyTwoBits (f .kind) → Released (f .fid) (unlocksIn f area) (locksOf t) left
+      → PastEnd (locksIn f area) → LockingReason c t f area (status 1 87)
+  locking-blocked : {o : Open} {left : List Lock} → Admitted c t (f .fid) o → OnlyTwoBits (f .kind) → Released (f .fid) (unlocksIn f area) (locksOf t) left
+      → (PastEnd (locksIn f area) → ⊥) → OneBlocked t o (f .fid) (sharedIn f) (locksIn f area) left → LockingReason c t f area (status 1 33)
+  locking-full : {o : Open} {left last : List Lock} → Admitted c t (f .fid) o → OnlyTwoBits (f .kind) → Released (f .fid) (unlocksIn f area) (locksOf t) left
+      → (PastEnd (locksIn f area) → ⊥) → AllGranted t o (f .fid) (sharedIn f) (locksIn f area) left last → 128 < length last
+      → LockingReason c t f area (status 1 8)
+  locking-done : {o : Open} {left last : List Lock} → Admitted c t (f .fid) o → OnlyTwoBits (f .kind) → Released (f .fid) (unlocksIn f area) (locksOf t) left
+      → (PastEnd (locksIn f area) → ⊥) → AllGranted t o (f .fid) (sharedIn f) (locksIn f area) left last → length last ≤ 128
+      → LockingReason c t f area (status 0 0)
+
+-- of each command
+unfoldable pub Reason : Caller → Tables → List ℕ → Body → Status → Type 0
+Reason c t area (LockingBody f) n = LockingReason c t f area n
+Reason c t area (ReadBody f) n = ReadReason c t f n
+Reason c t area (WriteBody f) n = WriteReason c t f n
+Reason c t area (Close fid) n = CloseReason c t fid n
+Reason c t area Logoff n = SessionReason c t n
+Reason c t area TreeDisconnect n = TreeReason c t n
+Reason c t area ProcessExit n = SessionReason c t n
+
+-- ---- 1/33 and other codes
+
+conflicts-status : (g : Given) → Conflicts g → statusIn g ≡ status 1 33
+unfolding statusIn statusOf
+conflicts-status g h = ap statusIn (h .1)
+
+other-status : (g : Given) → (statusIn g .code ≡ 33 → ⊥) → Conflicts g → ⊥
+unfolding status
+other-status g n h = n (ap (λ (s : Status). s .code) (conflicts-status g h))
+
+-- a write's end decides between 3/39 and done
+end-code : (b : Bool) → cond b (status 3 39) (status 0 0) .code ≡ 33 → ⊥
+unfolding status
+end-code true e = omega arith
+end-code false e = omega arith
+
+end-status : (b : Bool) (u : Tables) (m : List ℕ) (said : Said) → statusIn (cond b (refused NoSpace) (done u m said)) ≡ cond b (status 3 39) (status 0 0)
+unfolding statusIn statusOf
+end-status true u m said = refl
+end-status false u m said = refl
+
+past-means-space : (offset count : ℕ) → endsPast offset count ≡ true → (1 ≤ count) × (4096 < offset + count)
+unfolding endsPast
+past-means-space offset count e =
+    let a = both-hold (not (eqb count 0)) (ltb 4096 (offset + count)) e in
+    let n : count ≡ 0 → ⊥ = eqb-false count 0 (not-true (eqb count 0) (a .0)) in
+    (positive count n, ltb-true 4096 (offset + count) (a .1))
+  where
+    positive : (k : ℕ) → (k ≡ 0 → ⊥) → 1 ≤ k
+    positive k h = elim (decided (leb 1 k)) [ inl b ↦ leb-true 1 k b | inr b ↦ let z : k < 1 = leb-false 1 k b in absurd (h (omega arith)) ]
+
+space-is-past : (offset count : ℕ) → 1 ≤ count → 4096 < offset + count → endsPast offset count ≡ true
+unfolding endsPast
+space-is-past offset count h k = rw (ne-eqb count 0 (λ e. omega arith), lt-ltb 4096 (offset + count) k)
+
+inside-means : (offset count : ℕ) → endsPast offset count ≡ false → (count ≡ 0) ⊎ (offset + count ≤ 4096)
+unfolding endsPast
+inside-means offset count e =
+    elim (decided (eqb count 0)) [
+      | inl z ↦ inl (eqb-true count 0 z)
+      | inr z ↦ let f : ltb 4096 (offset + count) ≡ false = rw z at e in inr (ltb-false 4096 (offset + count) f)
+    ]
+
+inside-is : (offset count : ℕ) → (count ≡ 0) ⊎ (offset + count ≤ 4096) → endsPast offset count ≡ false
+unfolding endsPast
+inside-is offset count (inl z) = rw (eq-eqb count 0 z)
+inside-is offset count (inr h) = rw (le-ltb 4096 (offset + count) h) (and-false (not (eqb count 0)))
+
+-- ---- the type's bits
+
+served-means : (kind : ℕ) → servedType kind ≡ true → OnlyTwoBits kind
+unfolding servedType
+served-means kind e =
+    elim (either-holds (eqb kind 0) (eqb kind 1 || (eqb kind 16 || eqb kind 17)) e) [
+      | inl a ↦ rw (eqb-true kind 0 a)
+      | inr b ↦ elim (either-holds (eqb kind 1) (eqb kind 16 || eqb kind 17) b) [
+        | inl a ↦ rw (eqb-true kind 1 a)
+        | inr d ↦ elim (either-holds (eqb kind 16) (eqb kind 17) d) [
+          | inl a ↦ rw (eqb-true kind 16 a)
+          | inr a ↦ rw (eqb-true kind 17 a)
+        ]
+      ]
+    ]
+
+served-is : (kind : ℕ) → OnlyTwoBits kind → servedType kind ≡ true
+unfolding servedType
+served-is kind h =
+    elim (ℕ-discrete (kind % 2) 0) [
+      | yes a ↦ elim (ℕ-discrete (kind / 16 % 2) 0) [
+        | yes b ↦ let k : kind ≡ 0 = omega arith in rw k
+        | no b ↦ let d : kind / 16 % 2 ≡ 1 = one-of (kind / 16) b in let k : kind ≡ 16 = omega arith in rw k
+      ]
+      | no a ↦
+          let z : kind % 2 ≡ 1 = one-of kind a in
+          elim (ℕ-discrete (kind / 16 % 2) 0) [
+            | yes b ↦ let k : kind ≡ 1 = omega arith in rw k
+            | no b ↦ let d : kind / 16 % 2 ≡ 1 = one-of (kind / 16) b in let k : kind ≡ 17 = omega arith in rw k
+          ]
+    ]
+  where
+    one-of : (n : ℕ) → (n % 2 ≡ 0 → ⊥) → n % 2 ≡ 1
+    one-of n g = elim (ℕ-discrete (n % 2) 1) [ yes e ↦ e | no e ↦ absurd (g (omega arith)) ]
+
+-- ---- READ
+
+module _ (c : Caller) (t : Tables) (memory : List ℕ) (ok : sound t ≡ true) where
+  module _ (f : ReadFields) (k : ℕ) (may : May c t (f .fid) k) where
+    abbrev read-open : Open
+    read-open = getD (opensOf t) k noOpen
+
+    abbrev read-end : Given
+    read-end = done t memory (read (readBytes t memory (read-open .file) (f .offset) (f .max)))
+
+    read-refused : eqb (read-open .access) 1 ≡ true → doRead c t memory f ≡ refused NoAccess
+    unfolding doRead
+    read-refused e = with-open c t (f .fid) k _ may ∙ rw e
+
+    read-is : eqb (read-open .access) 1 ≡ false → doRead c t memory f ≡ unlessBarred (barring t (askOf c (f .fid) (f .offset) (f .max) Reading)) read-end
+    unfolding doRead
+    read-is e = with-open c t (f .fid) k _ may ∙ rw e
+
+    module _ (e : eqb (read-open .access) 1 ≡ false) where
+      -- a lock is in the way, or the read is done
+      read-ends : (x : Found) → doRead c t memory f ≡ unlessBarred x read-end → (BarsRead c t f read-open × (statusIn (doRead c t memory f) ≡ status 1 33))
+          ⊎ ((BarsRead c t f read-open → ⊥) × (statusIn (doRead c t memory f) ≡ status 0 0))
+      unfolding unlessBarred statusIn status
+      read-ends (At j) g = inl (read-exact c t memory k ok f may e .0 (j, g), conflicts-status (doRead c t memory f) (j, g))
+      read-ends Nothing g =
+          inr (λ w. other-status (doRead c t memory f) (read-other g) (read-exact c t memory k ok f may e .1 w), ap statusIn g)
+        where
+          read-other : doRead c t memory f ≡ read-end → statusIn (doRead c t memory f) .code ≡ 33 → ⊥
+          read-other g q = let z : statusIn (doRead c t memory f) .code ≡ 0 = ap (λ (x : Given). statusIn x .code) g in omega arith
+
+  read-given-open : (f : ReadFields) {n : Status} → NoOpenFor c t (f .fid) n → statusIn (doRead c t memory f) ≡ n
+  unfolding doRead
+  read-given-open f h = open-given c t (f .fid) _ h
+
+  -- READ: the status has its reason
+  read-reason : (f : ReadFields) → ReadReason c t f (statusIn (doRead c t memory f))
+  unfolding statusIn statusOf
+  read-reason f =
+      elim (open-or c t (f .fid)) [
+        | inl h ↦ rw (read-given-open f (h .1)) (read-not (h .1))
+        | inr (k, may, a) ↦ elim (decided (eqb (getD (opensOf t) k noOpen .access) 1)) [
+          | inl e ↦ rw (read-refused f k may e) (read-access a (eqb-true (getD (opensOf t) k noOpen .access) 1 e))
+          | inr e ↦ elim (read-ends f k may e (barring t (askOf c (f .fid) (f .offset) (f .max) Reading)) (read-is f k may e)) [
+            | inl w ↦ rw (w .1) (read-barred a (eqb-false (getD (opensOf t) k noOpen .access) 1 e) (w .0))
+            | inr w ↦ rw (w .1) (read-done a (eqb-false (getD (opensOf t) k noOpen .access) 1 e) (w .0))
+          ]
+        ]
+      ]
+
+  -- and where the reason holds, the status is given
+  read-given : (f : ReadFields) {n : Status} → ReadReason c t f n → statusIn (doRead c t memory f) ≡ n
+  unfolding statusIn statusOf
+  read-given f (read-not h) = read-given-open f h
+  read-given f (read-access {o} a e) =
+      let m = admitted-may c t (f .fid) ok o a in
+      ap statusIn (read-refused f (m .0) (m .1) (eq-eqb (getD (opensOf t) (m .0) noOpen .access) 1 (ap (λ (p : Open). p .access) (m .2) ∙ e)))
+  read-given f (read-barred {o} a n b) =
+      let m = admitted-may c t (f .fid) ok o a in
+      let e = ne-eqb (getD (opensOf t) (m .0) noOpen .access) 1 (λ x. n (ap (λ (p : Open). p .access) (sym (m .2)) ∙ x)) in
+      let b′ : BarsRead c t f (getD (opensOf t) (m .0) noOpen) = rw (m .2) b in
+      elim (read-ends f (m .0) (m .1) e (barring t (askOf c (f .fid) (f .offset) (f .max) Reading)) (read-is f (m .0) (m .1) e)) [
+        | inl w ↦ w .1
+        | inr w ↦ absurd (w .0 b′)
+      ]
+  read-given f (read-done {o} a n b) =
+      let m = admitted-may c t (f .fid) ok o a in
+      let e = ne-eqb (getD (opensOf t) (m .0) noOpen .access) 1 (λ x. n (ap (λ (p : Open). p .access) (sym (m .2)) ∙ x)) in
+      let b′ : BarsRead c t f (getD (opensOf t) (m .0) noOpen) → ⊥ = rw (m .2) b in
+      elim (read-ends f (m .0) (m .1) e (barring t (askOf c (f .fid) (f .offset) (f .max) Reading)) (read-is f (m .0) (m .1) e)) [
+        | inl w ↦ absurd (b′ (w .0))
+        | inr w ↦ w .1
+      ]
+
+  -- ---- WRITE
+
+  module _ (f : WriteFields) (bytes : List ℕ) where
+    abbrev write-end : Open → Given
+    write-end o = done (resized t (o .file) (f .offset) (f .count)) (written t memory (o .file) (f .offset) bytes) (wrote (f .count))
+
+    write-given-open : {n : Status} → NoOpenFor c t (f .fid) n → statusIn (doWrite c t memory f bytes) ≡ n
+    unfolding doWrite
+    write-given-open h = open-given c t (f .fid) _ h
+
+    module _ (k : ℕ) (may : May c t (f .fid) k) where
+      abbrev write-open : Open
+      write-open = getD (opensOf t) k noOpen
+
+      write-refused : eqb (write-open .access) 0 ≡ true → doWrite c t memory f bytes ≡ refused NoAccess
+      unfolding doWrite
+      write-refused e = with-open c t (f .fid) k _ may ∙ rw e
+
+      write-is : eqb (write-open .access) 0 ≡ false
+          → doWrite c t memory f bytes
+          ≡ unlessBarred (barring t (askOf c (f .fid) (f .offset) (f .count) Writing)) (cond (endsPast (f .offset) (f .count)) (refused NoSpace) (write-end write-open))
+      unfolding doWrite
+      write-is e = with-open c t (f .fid) k _ may ∙ rw e
+
+      module _ (e : eqb (write-open .access) 0 ≡ false) where
+        -- a lock is in the way, or the write's end decides
+        write-ends : (x : Found) → doWrite c t memory f bytes ≡ unlessBarred x (cond (endsPast (f .offset) (f .count)) (refused NoSpace) (write-end write-open))
+            → (BarsWrite c t f write-open × (statusIn (doWrite c t memory f bytes) ≡ status 1 33))
+            ⊎ ((BarsWrite c t f write-open → ⊥) × (statusIn (doWrite c t memory f bytes) ≡ cond (endsPast (f .offset) (f .count)) (status 3 39) (status 0 0)))
+        unfolding unlessBarred
+        write-ends (At j) g = inl (write-exact c t memory k ok f bytes may e .0 (j, g), conflicts-status (doWrite c t memory f bytes) (j, g))
+        write-ends Nothing g =
+            inr (
+              λ w. other-status (doWrite c t memory f bytes) (λ q. end-code (endsPast (f .offset) (f .count)) (sym (ap (λ (s : Status). s .code) (ap statusIn g ∙ end-status (endsPast (f .offset) (f .count)) _ _ _)) ∙ q)) (write-exact c t memory k ok f bytes may e .1 w),
+              ap statusIn g ∙ end-status (endsPast (f .offset) (f .count)) _ _ _,
+            )
+
+    -- WRITE: the status has its reason
+    write-reason : WriteReason c t f (statusIn (doWrite c t memory f bytes))
+    unfolding statusIn statusOf
+    write-reason =
+        elim (open-or c t (f .fid)) [
+          | inl h ↦ rw (write-given-open (h .1)) (write-not (h .1))
+          | inr (k, may, a) ↦ elim (decided (eqb (getD (opensOf t) k noOpen .access) 0)) [
+            | inl e ↦ rw (write-refused k may e) (write-access a (eqb-true (getD (opensOf t) k noOpen .access) 0 e))
+            | inr e ↦ elim (write-ends k may e (barring t (askOf c (f .fid) (f .offset) (f .count) Writing)) (write-is k may e)) [
+              | inl w ↦ rw (w .1) (write-barred a (eqb-false (getD (opensOf t) k noOpen .access) 0 e) (w .0))
+              | inr w ↦ elim (decided (endsPast (f .offset) (f .count))) [
+                | inl p ↦
+                    let s = past-means-space (f .offset) (f .count) p in
+                    rw (w .1, p) (write-space a (eqb-false (getD (opensOf t) k noOpen .access) 0 e) (w .0) (s .0) (s .1))
+                | inr p ↦ rw (w .1, p) (write-done a (eqb-false (getD (opensOf t) k noOpen .access) 0 e) (w .0) (inside-means (f .offset) (f .count) p))
+              ]
+            ]
+          ]
+        ]
+
+    -- no lock in the way: the write's end decides
+    write-free : {o : Open} → Admitted c t (f .fid) o → (o .access ≡ 0 → ⊥) → (BarsWrite c t f o → ⊥)
+        → statusIn (doWrite c t memory f bytes) ≡ cond (endsPast (f .offset) (f .count)) (status 3 39) (status 0 0)
+    write-free {o} a n b =
+        let m = admitted-may c t (f .fid) ok o a in
+        let e = ne-eqb (getD (opensOf t) (m .0) noOpen .access) 0 (λ x. n (ap (λ (p : Open). p .access) (sym (m .2)) ∙ x)) in
+        let b′ : BarsWrite c t f (getD (opensOf t) (m .0) noOpen) → ⊥ = rw (m .2) b in
+        elim (write-ends (m .0) (m .1) e (barring t (askOf c (f .fid) (f .offset) (f .count) Writing)) (write-is (m .0) (m .1) e)) [
+          | inl w ↦ absurd (b′ (w .0))
+          | inr w ↦ w .1
+        ]
+
+    -- and where the reason holds, the status is given
+    write-given : {n : Status} → WriteReason c t f n → statusIn (doWrite c t memory f bytes) ≡ n
+    unfolding statusIn statusOf
+    write-given (write-not h) = write-given-open h
+    write-given (write-access {o} a e) =
+        let m = admitted-may c t (f .fid) ok o a in
+        ap statusIn (write-refused (m .0) (m .1) (eq-eqb (getD (opensOf t) (m .0) noOpen .access) 0 (ap (λ (p : Open). p .access) (m .2) ∙ e)))
+    write-given (write-barred {o} a n b) =
+        let m = admitted-may c t (f .fid) ok o a in
+        let e = ne-eqb (getD (opensOf t) (m .0) noOpen .access) 0 (λ x. n (ap (λ (p : Open). p .access) (sym (m .2)) ∙ x)) in
+        let b′ : BarsWrite c t f (getD (opensOf t) (m .0) noOpen) = rw (m .2) b in
+        elim (write-ends (m .0) (m .1) e (barring t (askOf c (f .fid) (f .offset) (f .count) Writing)) (write-is (m .0) (m .1) e)) [
+          | inl w ↦ w .1
+          | inr w ↦ absurd (w .0 b′)
+        ]
+    write-given (write-space a n b h p) = rw (write-free a n b, space-is-past (f .offset) (f .count) h p)
+    write-given (write-done a n b h) = rw (write-free a n b, inside-is (f .offset) (f .count) h)
+
+  -- ---- LOCKING
+
+  -- each listed lock has an open, and those left are listed
+  left-opened : {fid : ℕ} {rs : List LockRange} {left : List Lock} → Released fid rs (locksOf t) left → Opened t left
+  unfolding Opened
+  left-opened r l m = sound-plain t .0 ok .lock-open l (released-was r m)
+
+  -- the status of a request's result
+  abbrev ends : Result → Status
+  ends r = statusIn (lockingAfter t memory (settle (t .locks) (t .nlocks) r))
+
+  module _ (f : LockingFields) (area : List ℕ) (announced : length area ≡ (f .unlocks + f .locks) * rangeSize (eqb (f .kind / 16 % 2) 1)) where
+    abbrev file-of : ℕ → ℕ
+    file-of n = fileOf (opensOf t) n
+
+    locking-given-open : {n : Status} → NoOpenFor c t (f .fid) n → statusIn (doLocking c t memory f area) ≡ n
+    unfolding doLocking
+    locking-given-open h = open-given c t (f .fid) _ h
+
+    locking-refused : (k : ℕ) → May c t (f .fid) k → servedType (f .kind) ≡ false → statusIn (doLocking c t memory f area) ≡ status 2 65535
+    unfolding doLocking statusIn statusOf
+    locking-refused k may e =
+        let g : doLocking c t memory f area ≡ refused LockType = with-open c t (f .fid) k _ may ∙ rw e in
+        ap statusIn g
+
+    -- the request, with what its unlocks give
+    abbrev after-unlocks : Option (List Lock) → Status
+    after-unlocks x = ends (afterReleases file-of (f .fid) (sharedIn f) (locksIn f area) x)
+
+    locking-is : (k : ℕ) → May c t (f .fid) k → servedType (f .kind) ≡ true
+        → statusIn (doLocking c t memory f area) ≡ after-unlocks (releaseAll file-of (f .fid) (unlocksIn f area) (locksOf t))
+    unfolding doLocking requestOf locking request
+    locking-is k may e =
+        ap statusIn (with-open c t (f .fid) k _ may
+        ∙ rw (e, eq-eqb (length area) ((f .unlocks + f .locks) * rangeSize (eqb (f .kind / 16 % 2) 1)) announced))
+
+    module _ {o : Open} (a : Admitted c t (f .fid) o) (bits : OnlyTwoBits (f .kind)) where
+      grants-reason : {left : List Lock} → Released (f .fid) (unlocksIn f area) (locksOf t) left → (PastEnd (locksIn f area) → ⊥)
+          → (x : Grants) → Granting t o (f .fid) (sharedIn f) (locksIn f area) left x → LockingReason c t f area (ends (afterGrants x))
+      unfolding afterGrants settle lockingAfter lockingEnd statusIn statusOf
+      grants-reason r low (granted last) (all-granted g) =
+          elim (decided (leb (length last) 128)) [
+            | inl e ↦ rw e (locking-done a bits r low g (leb-true (length last) 128 e))
+            | inr e ↦ rw e (locking-full a bits r low g (leb-false (length last) 128 e))
+          ]
+      grants-reason r low (blocked k) (one-blocked b) = locking-blocked a bits r low b
+
+      releases-reason : (x : Option (List Lock)) → Releasing (f .fid) (unlocksIn f area) (locksOf t) x → LockingReason c t f area (after-unlocks x)
+      unfolding afterReleases settle lockingAfter lockingEnd statusIn statusOf
+      releases-reason none (one-unnamed u) = locking-unnamed a bits u
+      releases-reason (some left) (all-released r) =
+          elim (decided (any rangePasses (locksIn f area))) [
+            | inl e ↦ rw e (locking-past a bits r (past-means (locksIn f area) e))
+            | inr e ↦ rw e (grants-reason r (λ w. not-decided-twice (any rangePasses (locksIn f area)) (past-is (locksIn f area) w) e)
+                (grantAll file-of (f .fid) (sharedIn f) (locksIn f area) left)
+                (grant-means t ok o (f .fid) (a .opened .listed) (a .opened .of-fid) (sharedIn f) (locksIn f area) left (left-opened r)))
+          ]
+
+    -- LOCKING: the status has its reason
+    locking-reason : LockingReason c t f area (statusIn (doLocking c t memory f area))
+    locking-reason =
+        elim (open-or c t (f .fid)) [
+          | inl h ↦ rw (locking-given-open (h .1)) (locking-not (h .1))
+          | inr (k, may, a) ↦ elim (decided (servedType (f .kind))) [
+            | inl e ↦ rw (locking-is k may e) (releases-reason a (served-means (f .kind) e) (releaseAll file-of (f .fid) (unlocksIn f area) (locksOf t))
+                (release-means file-of (f .fid) (unlocksIn f area) (locksOf t)))
+            | inr e ↦ rw (locking-refused k may e) (locking-type a (λ b. not-decided-twice (servedType (f .kind)) (served-is (f .kind) b) e))
+          ]
+        ]
+
+    -- a request of a served type, through an open
+    locking-asked : {o : Open} → Admitted c t (f .fid) o → OnlyTwoBits (f .kind)
+        → statusIn (doLocking c t memory f area) ≡ after-unlocks (releaseAll file-of (f .fid) (unlocksIn f area) (locksOf t))
+    locking-asked {o} a bits = let m = admitted-may c t (f .fid) ok o a in locking-is (m .0) (m .1) (served-is (f .kind) bits)
+
+    -- whose unlocks are done
+    locking-released : {o : Open} {left : List Lock} → Admitted c t (f .fid) o → OnlyTwoBits (f .kind) → Released (f .fid) (unlocksIn f area) (locksOf t) left
+        → statusIn (doLocking c t memory f area) ≡ after-unlocks (some left)
+    locking-released a bits r = locking-asked a bits ∙ ap after-unlocks (released-is file-of (f .fid) r)
+
+    -- and whose locks lie below 2^64
+    locking-walked : {o : Open} {left : List Lock} → Admitted c t (f .fid) o → OnlyTwoBits (f .kind) → Released (f .fid) (unlocksIn f area) (locksOf t) left
+        → (PastEnd (locksIn f area) → ⊥) → statusIn (doLocking c t memory f area) ≡ ends (afterGrants (grantAll file-of (f .fid) (sharedIn f) (locksIn f area) left))
+    unfolding afterReleases
+    locking-walked a bits r low =
+        rw (fails (any rangePasses (locksIn f area)) (λ e. low (past-means (locksIn f area) e))) at (locking-released a bits r)
+
+    -- and where the reason holds, the status is given
+    locking-given : {n : Status} → LockingReason c t f area n → statusIn (doLocking c t memory f area) ≡ n
+    unfolding afterReleases afterGrants settle lockingAfter lockingEnd statusIn statusOf
+    locking-given (locking-not h) = locking-given-open h
+    locking-given (locking-type {o} a h) =
+        let m = admitted-may c t (f .fid) ok o a in
+        locking-refused (m .0) (m .1) (fails (servedType (f .kind)) (λ e. h (served-means (f .kind) e)))
+    locking-given (locking-unnamed a bits u) = locking-asked a bits ∙ ap after-unlocks (unnamed-is file-of (f .fid) u)
+    locking-given (locking-past a bits r w) = locking-released a bits r ∙ rw (past-is (locksIn f area) w)
+    locking-given (locking-blocked {o} a bits r low b) =
+        let w = blocked-is t ok o (f .fid) (a .opened .listed) (a .opened .of-fid) (sharedIn f) (left-opened r) b in
+        locking-walked a bits r low ∙ ap (λ (x : Grants). ends (afterGrants x)) (w .1)
+    locking-given (locking-full {o} {left} {last} a bits r low g h) =
+        locking-walked a bits r low
+        ∙ ap (λ (x : Grants). ends (afterGrants x)) (granted-is t ok o (f .fid) (a .opened .listed) (a .opened .of-fid) (sharedIn f) (left-opened r) g)
+        ∙ rw (lt-leb (length last) 128 h)
+    locking-given (locking-done {o} {left} {last} a bits r low g h) =
+        locking-walked a bits r low
+        ∙ ap (λ (x : Grants). ends (afterGrants x)) (granted-is t ok o (f .fid) (a .opened .listed) (a .opened .of-fid) (sharedIn f) (left-opened r) g)
+        ∙ rw (le-leb (length last) 128 h)
+
+  -- ---- the others
+
+  close-reason : (fid : ℕ) (next : Open → Given) → ((o : Open) → statusIn (next o) ≡ status 0 0) → CloseReason c t fid (statusIn (withOpen c t fid next))
+  close-reason fid next zero =
+      elim (open-or c t fid) [
+        | inl h ↦ rw (open-given c t fid next (h .1)) (close-not (h .1))
+        | inr (k, may, a) ↦ rw (with-open c t fid k next may, zero (getD (opensOf t) k noOpen)) (close-done a)
+      ]
+
+  close-given : (fid : ℕ) (next : Open → Given) → ((o : Open) → statusIn (next o) ≡ status 0 0) → {n : Status} → CloseReason c t fid n → statusIn (withOpen c t fid next) ≡ n
+  close-given fid next zero (close-not h) = open-given c t fid next h
+  close-given fid next zero (close-done {o} a) =
+      let m = admitted-may c t fid ok o a in
+      ap statusIn (with-open c t fid (m .0) next (m .1)) ∙ zero (getD (opensOf t) (m .0) noOpen)
+
+  session-reason : (next : Given) → statusIn next ≡ status 0 0 → SessionReason c t (statusIn (withSession c t next))
+  session-reason next zero =
+      elim (session-or c t) [
+        | inl h ↦ rw (session-given c t next (h .1)) (session-not (h .1))
+        | inr s ↦ rw (with-session c t next s, zero) (session-done s)
+      ]
+
+  session-is : (next : Given) → statusIn next ≡ status 0 0 → {n : Status} → SessionReason c t n → statusIn (withSession c t next) ≡ n
+  session-is next zero (session-not h) = session-given c t next h
+  session-is next zero (session-done s) = ap statusIn (with-session c t next s) ∙ zero
+
+  tree-reason : (next : Given) → statusIn next ≡ status 0 0 → TreeReason c t (statusIn (withTree c t next))
+  tree-reason next zero =
+      elim (tree-or c t) [
+        | inl h ↦ rw (tree-given c t next (h .1)) (tree-not (h .1))
+        | inr (s, r) ↦ rw (with-tree c t next s r, zero) (tree-done s r)
+      ]
+
+  tree-is : (next : Given) → statusIn next ≡ status 0 0 → {n : Status} → TreeReason c t n → statusIn (withTree c t next) ≡ n
+  tree-is next zero (tree-not h) = tree-given c t next h
+  tree-is next zero (tree-done s r) = ap statusIn (with-tree c t next s r) ∙ zero
+
+-- ---- all seven
+
+-- a LOCKING block's byte area is just the announced ranges, as it is in every block of a reading
+unfoldable pub Announced : Body → List ℕ → Type 0
+Announced b area = (f : LockingFields) → b ≡ LockingBody f → length area ≡ (f .unlocks + f .locks) * rangeSize (eqb (f .kind / 16 % 2) 1)
+
+module _ (c : Caller) (t : Tables) (memory : List ℕ) (ok : sound t ≡ true) where
+  -- a command's status is given only for its reason
+  pub perform-reason : (b : Body) (area bytes : List ℕ) → Announced b area → Reason c t area b (statusIn (perform c t memory b area bytes))
+  unfolding Reason Announced perform statusIn
+  perform-reason (LockingBody f) area bytes h = locking-reason c t memory ok f area (h f refl)
+  perform-reason (ReadBody f) area bytes h = read-reason c t memory ok f
+  perform-reason (WriteBody f) area bytes h = write-reason c t memory ok f bytes
+  perform-reason (Close fid) area bytes h = close-reason c t memory ok fid _ (λ o. refl)
+  perform-reason Logoff area bytes h = session-reason c t memory ok _ refl
+  perform-reason TreeDisconnect area bytes h = tree-reason c t memory ok _ refl
+  perform-reason ProcessExit area bytes h = session-reason c t memory ok _ refl
+
+  -- "Order: as written": and where the reason holds, its status is given
+  pub perform-given : (b : Body) (area bytes : List ℕ) → Announced b area → {n : Status} → Reason c t area b n → statusIn (perform c t memory b area bytes) ≡ n
+  unfolding Reason Announced perform statusIn
+  perform-given (LockingBody f) area bytes h r = locking-given c t memory ok f area (h f refl) r
+  perform-given (ReadBody f) area bytes h r = read-given c t memory ok f r
+  perform-given (WriteBody f) area bytes h r = write-given c t memory ok f bytes r
+  perform-given (Close fid) area bytes h r = close-given c t memory ok fid _ (λ o. refl) r
+  perform-given Logoff area bytes h r = session-is c t memory ok _ refl r
+  perform-given TreeDisconnect area bytes h r = tree-is c t memory ok _ refl r
+  perform-given ProcessExit area bytes h r = session-is c t memory ok _ refl r
+
+  -- a command has a status exactly for its reason
+  pub perform-exact : (b : Body) (area bytes : List ℕ) → Announced b area → (n : Status) → (statusIn (perform c t memory b area bytes) ≡ n) ↔ Reason c t area b n
+  perform-exact b area bytes h n = (λ e. rw e at (perform-reason b area bytes h), λ r. perform-given b area bytes h r)

@@ -1,0 +1,161 @@
+-- What a READ or a WRITE that is done gives and leaves, byte by byte (document 01, "Locks, reads and writes"), said of the command. Assumes nothing.
+use mathlib.Core.Path.{_≡_, refl, sym, ap, _∙_}
+use Prim.Native.Nat.{ℕ, min, max, _+_, _-_, _*_, _≤_, _<_}
+use native.Mathlib.Omega.{arith}
+use mathlib.Core.Bool.{Bool, true, false, cond}
+use mathlib.Core.List.{List}
+use lib.ListN.{length, drop, getD, length-drop}
+use lib.Seq.{length-take-le}
+use lib.Dec.{eqb}
+use Rattle.lists.specs.declared.Found.{Found}
+use Rattle.lists.specs.declared.Found.the-variants.{At, Nothing}
+use Rattle.records.specs.declared.Open.{Open}
+use Rattle.records.specs.declared.Tables.{Tables}
+use Rattle.records.specs.Empty.{noOpen}
+use Rattle.records.specs.Held.{opensOf, withFiles}
+use Rattle.claims.specs.SoundPlain.{sound-plain}
+use Rattle.chain.specs.Layout.{WRITE, wordCount, blockEnd, fidAfterAndx, offsetLow, writeOffsetHigh, dataLength, dataOffset}
+use Rattle.chain.specs.Parse.{wideOffset}
+use Rattle.chain.specs.Grammar.{IsBlock, Data, locking-10, locking-20, read-10, read-12, write-12, write-14, close, logoff, tree-disconnect, process-exit}
+use Rattle.chain.specs.declared.block.Body.the-variants.{Write as WriteBody}
+use Rattle.chain.specs.declared.block.Next.{Next}
+use Rattle.chain.specs.declared.block.ReadFields.{ReadFields}
+use Rattle.chain.specs.declared.block.WriteFields.{WriteFields}
+use Rattle.readings.specs.BlockParse.{bodyAt, blockAt}
+use Rattle.message.specs.declared.caller.Caller.{Caller}
+use Rattle.message.specs.declared.refusal.Refusal.{Refusal}
+use Rattle.message.specs.declared.refusal.Refusal.the-variants.{NoAccess, NoSpace}
+use Rattle.message.specs.Contents.{sizeOf, readBytes, written, resized}
+use Rattle.message.specs.Command.{Given, Said, refused, done, read, wrote, unlessBarred, doRead, endsPast, doWrite}
+use Rattle.message.specs.Message.{dataOf}
+use Rattle.demands.specs.Sound.{Good}
+use Rattle.demands.specs.MemorySize.{write-ends}
+use Rattle.demands.specs.Admitted.{Admitted, admitted-may, with-open}
+use Rattle.demands.specs.FileBytes.{Wrote, written-bytes, read-length, read-byte, resized-size, resized-others, resized-records, written-nothing, resized-nothing}
+
+-- "It yields the file's bytes in the range below its size", z being the size: so many, and which
+pub record Yields (file z offset most : ℕ) (memory bytes : List ℕ) : Type 0 where
+  pub so-many : length bytes ≡ min most (z - offset)
+  pub which : (i : ℕ) → i < length bytes → getD bytes i 0 ≡ getD memory (file * 4096 + offset + i) 0
+
+-- the tables and the file memory after a write of some bytes: "Bytes between the old size and the write become 0, and a size below the write's end becomes that
+-- end"; every other size and every other table as before
+pub record WroteFile (t after : Tables) (file offset : ℕ) (bytes memory left : List ℕ) : Type 0 where
+  pub bytes-left : Wrote file (sizeOf t file) offset bytes memory left
+  pub size : sizeOf after file ≡ max (sizeOf t file) (offset + length bytes)
+  pub other-sizes : (i : ℕ) → (i ≡ file → ⊥) → sizeOf after i ≡ sizeOf t i
+  pub other-tables : after ≡ withFiles t (after .files)
+
+-- a command that is done was not refused on the way
+never : {P : Type 0} → _≡_ {A = ℕ} 0 1 → P
+never e = absurd (omega arith)
+
+not-refused : (b : Bool) (why : Refusal) (g : Given) {u : Tables} {m : List ℕ} {said : Said} → cond b (refused why) g ≡ done u m said → (b ≡ false) × (g ≡ done u m said)
+not-refused true why g e = never cc
+not-refused false why g e = (refl, e)
+
+not-barred : (x : Found) (g : Given) {u : Tables} {m : List ℕ} {said : Said} → unlessBarred x g ≡ done u m said → g ≡ done u m said
+unfolding unlessBarred
+not-barred (At k) g e = never cc
+not-barred Nothing g e = e
+
+same-bytes : {x y : List ℕ} → read x ≡ read y → x ≡ y
+same-bytes e = cc
+
+module _ (c : Caller) (t : Tables) (memory : List ℕ) (full : length memory ≡ 65536) (g : Good t) {u : Tables} {m : List ℕ} where
+  -- ---- READ
+
+  -- it leaves tables and files, and says the bytes that it read through the open's file
+  pub read-left : {said : Said} (f : ReadFields) (o : Open) → Admitted c t (f .fid) o → doRead c t memory f ≡ done u m said
+      → (u ≡ t) × (m ≡ memory) × (said ≡ read (readBytes t memory (o .file) (f .offset) (f .max)))
+  unfolding doRead
+  read-left {said} f o a e =
+      let w = admitted-may c t (f .fid) (g .sound) o a in
+      let h = not-refused (eqb (getD (opensOf t) (w .0) noOpen .access) 1) NoAccess _ (sym (with-open c t (f .fid) (w .0) _ (w .1)) ∙ e) in
+      let d : done t memory (read (readBytes t memory (getD (opensOf t) (w .0) noOpen .file) (f .offset) (f .max))) ≡ done u m said = not-barred _ _ (h .1) in
+      let d′ : done t memory (read (readBytes t memory (o .file) (f .offset) (f .max))) ≡ done u m said = rw (w .2) at d in
+      (cc, cc, cc)
+
+  -- and these are the file's bytes in the range
+  pub read-yields : (f : ReadFields) (o : Open) → Admitted c t (f .fid) o → (bytes : List ℕ) → doRead c t memory f ≡ done u m (read bytes)
+      → Yields (o .file) (sizeOf t (o .file)) (f .offset) (f .max) memory bytes
+  read-yields f o a bytes e =
+      let d = same-bytes (read-left f o a e .2) in
+      let low : o .file ≤ 15 = sound-plain t .0 (g .sound) .files o (a .opened .listed) in
+      rw d (record { so-many = read-length t memory (o .file) (f .offset) (g .sound) full low (f .max); which = read-byte t memory (o .file) (f .offset) (g .sound) full low (f .max) })
+
+  -- ---- WRITE
+
+  -- it leaves what the definitions say of the open's file, inside the file's room, and says the count
+  write-left : {said : Said} (f : WriteFields) (bytes : List ℕ) (o : Open) → Admitted c t (f .fid) o → doWrite c t memory f bytes ≡ done u m said
+      → (endsPast (f .offset) (f .count) ≡ false) × (u ≡ resized t (o .file) (f .offset) (f .count)) × (m ≡ written t memory (o .file) (f .offset) bytes) × (said ≡ wrote (f .count))
+  unfolding doWrite
+  write-left f bytes o a e =
+      let w = admitted-may c t (f .fid) (g .sound) o a in
+      let h = not-refused (eqb (getD (opensOf t) (w .0) noOpen .access) 0) NoAccess _ (sym (with-open c t (f .fid) (w .0) _ (w .1)) ∙ e) in
+      let s = not-refused (endsPast (f .offset) (f .count)) NoSpace _ (not-barred _ _ (h .1)) in
+      let d = rw (w .2) at (s .1) in
+      (s .0, cc, cc, cc)
+
+  -- a write of some bytes
+  pub write-leaves : {said : Said} (f : WriteFields) (bytes : List ℕ) (o : Open) → Admitted c t (f .fid) o → length bytes ≡ f .count → 1 ≤ f .count
+      → doWrite c t memory f bytes ≡ done u m said → WroteFile t u (o .file) (f .offset) bytes memory m
+  write-leaves f bytes o a n some-bytes e =
+      let w = write-left f bytes o a e in
+      let low : o .file ≤ 15 = sound-plain t .0 (g .sound) .files o (a .opened .listed) in
+      let ends : f .offset + f .count ≤ 4096 = write-ends (f .offset) (f .count) (w .0) (λ z. omega arith) in
+      rw (w .1, w .2)
+      (record {
+        bytes-left = written-bytes t memory (o .file) (f .offset) (g .sound) full low bytes (omega arith) (omega arith);
+        size = resized-size t (o .file) (f .offset) (f .count) some-bytes (g .shaped) low ∙ ap (λ (k : ℕ). max (sizeOf t (o .file)) (f .offset + k)) (sym n);
+        other-sizes = resized-others t (o .file) (f .offset) (f .count) some-bytes;
+        other-tables = resized-records t (o .file) (f .offset) (f .count) some-bytes;
+      })
+
+  -- "Length 0 writes nothing, changes no size"
+  pub write-nothing : {said : Said} (f : WriteFields) (bytes : List ℕ) (o : Open) → Admitted c t (f .fid) o → length bytes ≡ f .count → f .count ≡ 0
+      → doWrite c t memory f bytes ≡ done u m said → (u ≡ t) × (m ≡ memory)
+  write-nothing f bytes o a n z e =
+      let w = write-left f bytes o a e in
+      (w .1 ∙ ap (resized t (o .file) (f .offset)) z ∙ resized-nothing t (o .file) (f .offset), w .2 ∙ written-nothing t memory (o .file) (f .offset) bytes (n ∙ z))
+
+-- ---- the data of a block
+
+-- the fields of a WRITE block
+abbrev writeAt : List ℕ → ℕ → WriteFields
+writeAt s at =
+    record {
+      fid = fidAfterAndx s at;
+      offset = wideOffset (offsetLow s at) (writeOffsetHigh s at) (eqb (wordCount s at) 14);
+      count = dataLength s at;
+      from = dataOffset s at;
+    }
+
+-- "DataOffset + DataLength not past its end": the data has just the announced length
+data-long : {s : List ℕ} {at words : ℕ} (command : ℕ) (next : Next) → Data s at words → length (dataOf s (blockAt s command at next)) ≡ dataLength s at
+unfolding dataOf blockAt
+data-long {s} {at} command next d =
+    let i : blockEnd s at ≤ length s = d .shape .inside in
+    let e : dataOffset s at + dataLength s at ≤ blockEnd s at = d .ends in
+    length-take-le (dataLength s at) (drop (dataOffset s at) s) (rw (length-drop (dataOffset s at) s) (omega arith))
+
+-- of every block of a reading: a WRITE's data is as long as its count
+pub data-counted : {s : List ℕ} {at command : ℕ} → IsBlock s at command → (next : Next) (f : WriteFields) → bodyAt s command at ≡ WriteBody f
+    → length (dataOf s (blockAt s command at next)) ≡ f .count
+unfolding bodyAt
+data-counted (locking-10 p h) next f same = never cc
+data-counted (locking-20 p h) next f same = never cc
+data-counted (read-10 h) next f same = never cc
+data-counted (read-12 h) next f same = never cc
+data-counted {s} {at} (write-12 h) next f same =
+    let q : WriteBody (writeAt s at) ≡ WriteBody f = same in
+    let z : writeAt s at ≡ f = cc in
+    data-long WRITE next h ∙ ap (λ (x : WriteFields). x .count) z
+data-counted {s} {at} (write-14 h) next f same =
+    let q : WriteBody (writeAt s at) ≡ WriteBody f = same in
+    let z : writeAt s at ≡ f = cc in
+    data-long WRITE next h ∙ ap (λ (x : WriteFields). x .count) z
+data-counted (close h) next f same = never cc
+data-counted (logoff h) next f same = never cc
+data-counted (tree-disconnect h) next f same = never cc
+data-counted (process-exit h) next f same = never cc
