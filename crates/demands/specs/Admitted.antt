@@ -31,7 +31,7 @@ use Rattle.message.specs.declared.refusal.Status.{Status}
 use Rattle.message.specs.declared.refusal.Refusal.the-variants.{NoTree}
 use Rattle.message.specs.Command.{Given, refused, isSession, withSession, withTree, isOpen, openAt, withOpen}
 use Rattle.demands.specs.FoundFacts.{found-hit, found-miss}
-use Rattle.demands.specs.LoneLock.{May}
+use Rattle.demands.specs.LoneLock.{May, some-at}
 
 -- ---- the plain words
 
@@ -114,14 +114,10 @@ module _ (c : Caller) (t : Tables) where
     nowhere-open (At k) e h = absurd (h (getD (opensOf t) k noOpen, open-found k e))
     nowhere-open Nothing e h = refl
 
-    somewhere-open : (x : Found) → found (isOpen c fid) (opensOf t) ≡ x → (o : Open) × OpenOf c t fid o → (k : ℕ) × (x ≡ At k)
-    somewhere-open (At k) e h = (k, refl)
-    somewhere-open Nothing e h = absurd (open-nowhere e h)
-
     -- FIDs being distinct, the open that is found is the one meant
     pub admitted-may : sound t ≡ true → (o : Open) → Admitted c t fid o → (k : ℕ) × May c t fid k × (getD (opensOf t) k noOpen ≡ o)
     admitted-may ok o a =
-        let w = somewhere-open (found (isOpen c fid) (opensOf t)) refl (o, a .opened) in
+        let w = some-at (isOpen c fid) (opensOf t) (found (isOpen c fid) (opensOf t)) refl (a .opened .listed) (test-open o (a .opened)) in
         let h = open-found (w .0) (w .1) in (
           w .0,
           record { session = here-session (a .session); tree = tree-found t (c .tid) (c .uid) (a .tree); named = w .1 },

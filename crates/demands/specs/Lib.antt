@@ -15,13 +15,12 @@ pub mod MemorySize
 pub mod Taken
 pub mod CallsOneByOne
 pub mod Calls
-pub mod ValidOpen
-pub mod LoneCall
 pub mod RefusedCall
 pub mod MessageReasons
 pub mod NotServed
 pub mod RoomKept
 pub mod Admitted
+pub mod LoneCall
 pub mod LockWords
 pub mod CommandReasons
 pub mod ReasonCalls

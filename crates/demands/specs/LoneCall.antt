@@ -43,7 +43,7 @@ use Rattle.message.specs.Message.{areaOf, dataOf, Ran, after, linkTo, afterGive
 use Rattle.demands.specs.Malformed.{length-area}
 use Rattle.demands.specs.ReplySize.{length-block}
 use Rattle.demands.specs.LoneLock.{Conflicts, Owner, InWay, read-conflict, write-conflict, loneRange, loneShared, lock-conflict}
-use Rattle.demands.specs.ValidOpen.{Valid, valid-may}
+use Rattle.demands.specs.Admitted.{Admitted, admitted-may}
 use Rattle.demands.specs.Taken.{Fit}
 use Rattle.demands.specs.Calls.{statusRead, status-call, sentence-answered, length-call}
 
@@ -188,11 +188,11 @@ module _ (connection : ℕ) (s : List ℕ) (b : Block) (bs : List Block) (e : bl
   module _ (o : Open) where
     -- "A lock alone in its request, of a served type, on a valid open and within range, is refused for conflict exactly when a listed lock of that file
     -- overlaps it and the two aren't both shared": whatever commands follow LOCKING in the message. (None may come before it.)
-    pub lone-lock-call : (f : LockingFields) → b .body ≡ LockingBody f → Valid (callerOf connection s) t (f .fid) o → f .unlocks ≡ 0 → f .locks ≡ 1 → servedType (f .kind) ≡ true
+    pub lone-lock-call : (f : LockingFields) → b .body ≡ LockingBody f → Admitted (callerOf connection s) t (f .fid) o → f .unlocks ≡ 0 → f .locks ≡ 1 → servedType (f .kind) ≡ true
         → WithinRange f (areaOf s b) → FirstConflict (take-message connection s t memory room) ↔ LoneInWay t o f (areaOf s b)
     unfolding perform blocks rangePasses passesEnd
     lone-lock-call f body valid u l kind low =
-        let m = valid-may (callerOf connection s) t (f .fid) o (fit .tables-sound) valid in
+        let m = admitted-may (callerOf connection s) t (f .fid) (fit .tables-sound) o valid in
         let n : length (areaOf s b) ≡ 1 * rangeSize (eqb (f .kind / 16 % 2) 1) =
         area-first (read-chained s (headerCommand s) FIRST (b ∷ bs) e) b bs refl f body ∙ rw (u, l) in
         first-says (doLocking (callerOf connection s) t memory f (areaOf s b)) (ap (λ (x : Body). perform (callerOf connection s) t memory x (areaOf s b) (dataOf s b)) body)
@@ -200,23 +200,23 @@ module _ (connection : ℕ) (s : List ℕ) (b : Block) (bs : List Block) (e : bl
         (le-ltb (2 ^ 64) (loneRange f (areaOf s b) .offset + loneRange f (areaOf s b) .length) low)))
 
     -- "A read is refused 1/33 exactly if an exclusive lock of another owner overlaps offset and max", on an open that may be read
-    pub lone-read-call : (f : ReadFields) → b .body ≡ ReadBody f → Valid (callerOf connection s) t (f .fid) o → (o .access ≡ 1 → ⊥)
+    pub lone-read-call : (f : ReadFields) → b .body ≡ ReadBody f → Admitted (callerOf connection s) t (f .fid) o → (o .access ≡ 1 → ⊥)
         → FirstConflict (take-message connection s t memory room)
         ↔ InWay t o (f .offset) (f .max) (λ l. (l .shared ≡ false) × (Owner (f .fid) (callerOf connection s .process) l → ⊥))
     unfolding perform
     lone-read-call f body valid access =
-        let m = valid-may (callerOf connection s) t (f .fid) o (fit .tables-sound) valid in
+        let m = admitted-may (callerOf connection s) t (f .fid) (fit .tables-sound) o valid in
         let a : eqb (getD (opensOf t) (m .0) noOpen .access) 1 ≡ false = rw (m .2) (ne-eqb (o .access) 1 access) in
         first-says (doRead (callerOf connection s) t memory f) (ap (λ (x : Body). perform (callerOf connection s) t memory x (areaOf s b) (dataOf s b)) body)
         (rw (m .2) at (read-conflict (callerOf connection s) t memory (m .0) (fit .tables-sound) f (m .1) a))
 
     -- "A write is refused 1/33 exactly if any lock overlaps it save the writer's own exclusive ones", on an open that may be written
-    pub lone-write-call : (f : WriteFields) → b .body ≡ WriteBody f → Valid (callerOf connection s) t (f .fid) o → (o .access ≡ 0 → ⊥)
+    pub lone-write-call : (f : WriteFields) → b .body ≡ WriteBody f → Admitted (callerOf connection s) t (f .fid) o → (o .access ≡ 0 → ⊥)
         → FirstConflict (take-message connection s t memory room)
         ↔ InWay t o (f .offset) (f .count) (λ l. (l .shared ≡ false) × Owner (f .fid) (callerOf connection s .process) l → ⊥)
     unfolding perform
     lone-write-call f body valid access =
-        let m = valid-may (callerOf connection s) t (f .fid) o (fit .tables-sound) valid in
+        let m = admitted-may (callerOf connection s) t (f .fid) (fit .tables-sound) o valid in
         let a : eqb (getD (opensOf t) (m .0) noOpen .access) 0 ≡ false = rw (m .2) (ne-eqb (o .access) 0 access) in
         first-says (doWrite (callerOf connection s) t memory f (dataOf s b)) (ap (λ (x : Body). perform (callerOf connection s) t memory x (areaOf s b) (dataOf s b)) body)
         (rw (m .2) at (write-conflict (callerOf connection s) t memory (m .0) (fit .tables-sound) f (dataOf s b) (m .1) a))
@@ -251,7 +251,7 @@ module _ (connection : ℕ) (s : List ℕ) (b : Block) (e : blocks s ≡ some (b
 
   -- "A lock alone in its request, of a served type, on a valid open and within range, is refused for conflict exactly when a listed lock of that file
   -- overlaps it and the two aren't both shared": 1/33 in the reply
-  pub lone-lock-alone : (o : Open) (f : LockingFields) → b .body ≡ LockingBody f → Valid (callerOf connection s) t (f .fid) o → f .unlocks ≡ 0 → f .locks ≡ 1 → servedType (f .kind) ≡ true
+  pub lone-lock-alone : (o : Open) (f : LockingFields) → b .body ≡ LockingBody f → Admitted (callerOf connection s) t (f .fid) o → f .unlocks ≡ 0 → f .locks ≡ 1 → servedType (f .kind) ≡ true
       → WithinRange f (areaOf s b) → (statusRead (take-message connection s t memory room .room) ≡ status 1 33) ↔ LoneInWay t o f (areaOf s b)
   lone-lock-alone o f body valid u l kind low = one-says (lone-lock-call connection s b [] e t memory room fit o f body valid u l kind low)
 
@@ -281,7 +281,7 @@ first-block {s} (chained-more {command} {at} {c} {a} {rest} h l r) =
 -- of any reading, with the fields where the layout has them
 pub lone-lock-reading : (connection : ℕ) (s : List ℕ) {spans : List Span} → Reading s spans → (t : Tables) (memory room : List ℕ) → Fit s t memory room → (o : Open)
     → headerCommand s ≡ LOCKING → unlockCount s FIRST ≡ 0 → lockCount s FIRST ≡ 1 → servedType (lockType s FIRST) ≡ true
-    → Valid (callerOf connection s) t (fidAfterAndx s FIRST) o → WithinRange (lockingFields s) (lockingArea s)
+    → Admitted (callerOf connection s) t (fidAfterAndx s FIRST) o → WithinRange (lockingFields s) (lockingArea s)
     → FirstConflict (take-message connection s t memory room) ↔ LoneInWay t o (lockingFields s) (lockingArea s)
 unfolding blocks bodyAt areaOf
 lone-lock-reading connection s r t memory room fit o command u l kind valid low =
