@@ -8,7 +8,7 @@ use mathlib.Core.List.{List}
 use lib.ListN.{length}
 use lib.Dec.{leb, eqb}
 use borrow.Author.Tests.{leb-true, eqb-true, lt-leb}
-use Rattle.lists.specs.Truth.{both-hold}
+use Rattle.lists.specs.Truth.{both-hold, either-cases, chosen}
 use Rattle.locks.specs.Wire.{rangeSize}
 use Rattle.chain.specs.Layout.{CLOSE, PROCESS_EXIT, LOCKING, READ, WRITE, TREE_DISCONNECT, LOGOFF, NO_COMMAND, wordCount, byteCount, blockEnd, andxCommand, andxOffset, lockType, unlockCount, lockCount, closeFid}
 use Rattle.chain.specs.Parse.{shaped, bare, isLarge, lockingFits, readFits, dataInside, writeFits, mayFollow, linkFits, linkAt, answer, parseLocking, parseRead, parseWrite, parseClose, parseLogoff, parseEmpty, parse}
@@ -19,11 +19,6 @@ use Rattle.chain.specs.declared.block.Next.the-variants.{End, Follow}
 use Rattle.chain.specs.declared.block.Block.{Block}
 use Rattle.chain.specs.declared.block.Parsed.{Parsed}
 use Rattle.chain.specs.declared.block.Parsed.the-variants.{Whole, Malformed}
-
--- what follows from each of two tests follows where one of them holds
-pub one-holds : {P : Type 0} (t u : Bool) → (t || u) ≡ true → (t ≡ true → P) → (u ≡ true → P) → P
-one-holds true u e f g = f refl
-one-holds false u e f g = g e
 
 module _ (s : List ℕ) (at : ℕ) where
   -- past the end stands no block
@@ -54,12 +49,12 @@ module _ (s : List ℕ) (at : ℕ) where
 
   pub read-inside : readFits s at ≡ true → blockEnd s at ≤ length s
   unfolding readFits
-  read-inside e = one-holds (bare s at 10) (bare s at 12) e (bare-inside 10) (bare-inside 12)
+  read-inside e = either-cases (bare s at 10) (bare s at 12) e (bare-inside 10) (bare-inside 12)
 
   pub write-inside : writeFits s at ≡ true → blockEnd s at ≤ length s
   unfolding writeFits
   write-inside e =
-      one-holds (shaped s at 12) (shaped s at 14) (both-hold (shaped s at 12 || shaped s at 14) (dataInside s at) e .0) (shaped-inside 12) (shaped-inside 14)
+      either-cases (shaped s at 12) (shaped s at 14) (both-hold (shaped s at 12 || shaped s at 14) (dataInside s at) e .0) (shaped-inside 12) (shaped-inside 14)
 
 -- a follower that the AndX words name stands not before the block's end
 link-case : (stop may : Bool) (end command at c a : ℕ) → (stop || (may && leb end at)) ≡ true → cond stop End (Follow command at) ≡ Follow c a → end ≤ a
@@ -100,11 +95,6 @@ module _ (s : List ℕ) (command at : ℕ) (fits : Bool) (body : Body) (b : Bloc
       let told = answered s command at fits body End b e in
       record { inside = inside (told .0); ahead = λ c a f. let never : _≡_ {A = ℕ} 0 1 = cc (told .1) in absurd (omega arith) }
 
--- one of two readings
-chosen : {P : Type 0} (t : Bool) (p q : Parsed) (b : Block) → (p ≡ Whole b → P) → (q ≡ Whole b → P) → cond t p q ≡ Whole b → P
-chosen true p q b f g e = f e
-chosen false p q b f g e = g e
-
 module _ (s : List ℕ) (at : ℕ) (b : Block) where
   placed-locking : parseLocking s at ≡ Whole b → Placed s at b
   unfolding parseLocking
@@ -137,11 +127,11 @@ module _ (s : List ℕ) (at : ℕ) (b : Block) where
   pub placed : (command : ℕ) → parse s command at ≡ Whole b → Placed s at b
   unfolding parse
   placed command e =
-      chosen (eqb command LOCKING) (parseLocking s at) _ b placed-locking
-      (chosen (eqb command READ) (parseRead s at) _ b placed-read
-      (chosen (eqb command WRITE) (parseWrite s at) _ b placed-write
-      (chosen (eqb command CLOSE) (parseClose s at) _ b placed-close
-      (chosen (eqb command LOGOFF) (parseLogoff s at) _ b placed-logoff
-      (chosen (eqb command TREE_DISCONNECT) (parseEmpty s TREE_DISCONNECT at TreeDisconnect) _ b (placed-empty TREE_DISCONNECT TreeDisconnect)
-      (chosen (eqb command PROCESS_EXIT) (parseEmpty s PROCESS_EXIT at ProcessExit) Malformed b (placed-empty PROCESS_EXIT ProcessExit) unserved))))))
+      chosen (eqb command LOCKING) (parseLocking s at) _ (Whole b) placed-locking
+      (chosen (eqb command READ) (parseRead s at) _ (Whole b) placed-read
+      (chosen (eqb command WRITE) (parseWrite s at) _ (Whole b) placed-write
+      (chosen (eqb command CLOSE) (parseClose s at) _ (Whole b) placed-close
+      (chosen (eqb command LOGOFF) (parseLogoff s at) _ (Whole b) placed-logoff
+      (chosen (eqb command TREE_DISCONNECT) (parseEmpty s TREE_DISCONNECT at TreeDisconnect) _ (Whole b) (placed-empty TREE_DISCONNECT TreeDisconnect)
+      (chosen (eqb command PROCESS_EXIT) (parseEmpty s PROCESS_EXIT at ProcessExit) Malformed (Whole b) (placed-empty PROCESS_EXIT ProcessExit) unserved))))))
       e

@@ -8,7 +8,7 @@ use mathlib.Core.List.{List}
 use lib.ListN.{length, take, drop}
 use lib.Dec.{leb, eqb}
 use borrow.Author.Tests.{leb-true}
-use Rattle.lists.specs.Truth.{both-hold}
+use Rattle.lists.specs.Truth.{both-hold, chosen}
 use Rattle.chain.specs.Layout.{CLOSE, PROCESS_EXIT, LOCKING, READ, WRITE, TREE_DISCONNECT, LOGOFF, wordCount, byteArea, byteCount, blockEnd, unlockCount, lockCount, lockType, dataLength, dataOffset}
 use Rattle.chain.specs.Parse.{shaped, isLarge, lockingFits, dataInside, writeFits, linkFits, linkAt, answer, parseLocking, parseRead, parseWrite, parseClose, parseLogoff, parseEmpty, parse}
 use Rattle.chain.specs.ParseLaws.{shaped-words, locking-inside, write-inside}
@@ -53,10 +53,6 @@ module _ (s : List ℕ) (command at : ℕ) where
       rw (← same) (h refl)
   yielded false body next b h e = let never : _≡_ {A = ℕ} 0 1 = cc in absurd (omega arith)
 
-chosen : {P : Type 0} (t : Bool) (p q : Parsed) (b : Block) → (p ≡ Whole b → P) → (q ≡ Whole b → P) → cond t p q ≡ Whole b → P
-chosen true p q b f g e = f e
-chosen false p q b f g e = g e
-
 module _ (s : List ℕ) (at : ℕ) where
   locking-part : lockingFits s at ≡ true → LockingPart s at (blockEnd s at - at)
   unfolding lockingFits
@@ -80,15 +76,15 @@ module _ (s : List ℕ) (at : ℕ) where
   pub block-part : (command : ℕ) (b : Block) → parse s command at ≡ Whole b → Part s at (b .length) (b .body)
   unfolding parse parseLocking parseRead parseWrite parseClose parseLogoff parseEmpty Part
   block-part command b e =
-      chosen (eqb command LOCKING) _ _ b
+      chosen (eqb command LOCKING) _ _ (Whole b)
       (yielded s LOCKING at (lockingFits s at && linkFits s LOCKING at) _ (linkAt s at) b (λ h. locking-part (both-hold (lockingFits s at) (linkFits s LOCKING at) h .0)))
-      (chosen (eqb command READ) _ _ b (yielded s READ at _ _ (linkAt s at) b (λ h. refl))
-      (chosen (eqb command WRITE) _ _ b
+      (chosen (eqb command READ) _ _ (Whole b) (yielded s READ at _ _ (linkAt s at) b (λ h. refl))
+      (chosen (eqb command WRITE) _ _ (Whole b)
       (yielded s WRITE at (writeFits s at && linkFits s WRITE at) _ (linkAt s at) b (λ h. write-part (both-hold (writeFits s at) (linkFits s WRITE at) h .0) _ refl refl))
-      (chosen (eqb command CLOSE) _ _ b (yielded s CLOSE at _ _ _ b (λ h. refl))
-      (chosen (eqb command LOGOFF) _ _ b (yielded s LOGOFF at _ Logoff (linkAt s at) b (λ h. refl))
-      (chosen (eqb command TREE_DISCONNECT) _ _ b (yielded s TREE_DISCONNECT at _ TreeDisconnect _ b (λ h. refl))
-      (chosen (eqb command PROCESS_EXIT) _ Malformed b (yielded s PROCESS_EXIT at _ ProcessExit _ b (λ h. refl))
+      (chosen (eqb command CLOSE) _ _ (Whole b) (yielded s CLOSE at _ _ _ b (λ h. refl))
+      (chosen (eqb command LOGOFF) _ _ (Whole b) (yielded s LOGOFF at _ Logoff (linkAt s at) b (λ h. refl))
+      (chosen (eqb command TREE_DISCONNECT) _ _ (Whole b) (yielded s TREE_DISCONNECT at _ TreeDisconnect _ b (λ h. refl))
+      (chosen (eqb command PROCESS_EXIT) _ Malformed (Whole b) (yielded s PROCESS_EXIT at _ ProcessExit _ b (λ h. refl))
       (λ z. let never : _≡_ {A = ℕ} 0 1 = cc in absurd (omega arith))))))))
       e
 

@@ -63,8 +63,3 @@ moves-still {t = t} a q g =
 pub moves-refused : {given : Given} {t : Tables} {m : List ℕ} {r : Moved} (why : Refusal) → given ≡ refused why → r ≡ still t (Refused why)
     → Moves given t m r m
 moves-refused why e q = moves-still (Refused why) q (gives-refused why e refl)
-
--- a test has one answer
-pub not-both : {P : Type 0} (b : Bool) → b ≡ true → b ≡ false → P
-not-both true h e = let never : _≡_ {A = ℕ} 0 1 = cc in absurd (omega arith)
-not-both false h e = let never : _≡_ {A = ℕ} 0 1 = cc in absurd (omega arith)

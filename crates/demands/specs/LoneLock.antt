@@ -7,7 +7,7 @@ use mathlib.Core.Bool.{Bool, true, false, cond, not, _&&_}
 use mathlib.Core.List.{List, [], _∷_, _++_, List·Memᴰ as In}
 use lib.ListN.{length, getD}
 use lib.Dec.{leb, eqb}
-use borrow.Author.Tests.{eqb-true, eq-eqb}
+use borrow.Author.Tests.{eqb-true, eq-eqb, not-true}
 use Rattle.lists.specs.Walk.{any, found}
 use Rattle.lists.specs.Truth.{both-hold, hold-both, fails, not-decided-twice, not-holds}
 use Rattle.lists.specs.declared.Found.{Found}
@@ -81,10 +81,6 @@ grant-bars shared l = (
   λ e b. let z : not (true && true) ≡ true = rw (b .0, b .1) at e in let n : _≡_ {A = ℕ} 0 1 = cc in omega arith,
   λ n. not-holds (l .shared && shared) (fails (l .shared && shared) (λ e. n (both-hold (l .shared) shared e))),
 )
-
-not-true : (t : Bool) → not t ≡ true → t ≡ false
-not-true true e = let z : _≡_ {A = ℕ} 0 1 = cc in absurd (omega arith)
-not-true false e = refl
 
 owns-exact : (q : Ask) (l : Lock) → (owns q l ≡ true) ↔ Owner (q .fid) (q .process) l
 unfolding owns

@@ -2,7 +2,7 @@
 -- Assumes nothing.
 use mathlib.Core.Path.{_≡_, refl, sym, _∙_}
 use mathlib.Core.Logic.{_⊎_, inl, inr}
-use mathlib.Core.Bool.{Bool, true, false, not, _&&_, _||_, false≢true}
+use mathlib.Core.Bool.{Bool, true, false, cond, not, _&&_, _||_, false≢true}
 
 -- a test holds or fails
 pub decided : (t : Bool) → (t ≡ true) ⊎ (t ≡ false)
@@ -37,6 +37,10 @@ pub neither-holds : (t u : Bool) → (t || u) ≡ false → (t ≡ false) × (u 
 neither-holds true u e = absurd (false≢true (sym e))
 neither-holds false u e = (refl, e)
 
+-- a disjunction whose first part holds
+pub holds-first : (t u : Bool) → t ≡ true → (t || u) ≡ true
+holds-first t u e = rw e
+
 -- a disjunction whose second part holds
 pub holds-second : (t u : Bool) → u ≡ true → (t || u) ≡ true
 holds-second true u e = refl
@@ -51,3 +55,25 @@ pub same-truth : (t u : Bool) → (t ≡ true → u ≡ true) → (u ≡ true �
 same-truth true u f g = sym (f refl)
 same-truth false true f g = g refl
 same-truth false false f g = refl
+
+-- ---- how to go on from a test
+
+module _ {C : Type 0} where
+  -- a test holds or fails
+  pub test-cases : (t : Bool) → (t ≡ true → C) → (t ≡ false → C) → C
+  test-cases true left right = left refl
+  test-cases false left right = right refl
+
+  -- of two tests whose disjunction holds one holds
+  pub either-cases : (t u : Bool) → (t || u) ≡ true → (t ≡ true → C) → (u ≡ true → C) → C
+  either-cases true u e left right = left refl
+  either-cases false u e left right = right e
+
+  -- a choice gives what its test chose
+  pub choice-cases : {B : Type 0} (t : Bool) (x y z : B) → cond t x y ≡ z → (t ≡ true → x ≡ z → C) → (t ≡ false → y ≡ z → C) → C
+  choice-cases true x y z e left right = left refl e
+  choice-cases false x y z e left right = right refl e
+
+  -- one of two
+  pub chosen : {B : Type 0} (t : Bool) (x y z : B) → (x ≡ z → C) → (y ≡ z → C) → cond t x y ≡ z → C
+  chosen t x y z left right e = choice-cases t x y z e (λ _. left) (λ _. right)

@@ -9,7 +9,7 @@ use mathlib.Core.List.{List}
 use lib.ListN.{length}
 use lib.Dec.{leb, eqb}
 use borrow.Author.Tests.{eqb-true, leb-true, eq-eqb, le-leb, ne-eqb}
-use Rattle.lists.specs.Truth.{both-hold}
+use Rattle.lists.specs.Truth.{both-hold, hold-both, test-cases, choice-cases}
 use Rattle.chain.specs.Layout.{CLOSE, PROCESS_EXIT, LOCKING, READ, WRITE, TREE_DISCONNECT, LOGOFF, NO_COMMAND, wordCount, blockEnd, andxCommand, andxOffset, fidAfterAndx, lockType, unlockCount, lockCount, offsetLow, readMax, readOffsetHigh, dataLength, dataOffset, writeOffsetHigh, closeFid}
 use Rattle.chain.specs.Grammar.{IsBlock, locking-10, locking-20, read-10, read-12, write-12, write-14, close, logoff, tree-disconnect, process-exit, MayFollow, locking-read, locking-write, read-close, write-write, write-read, write-close, NamedAndx, locking-andx, read-andx, write-andx, logoff-andx, Plain, close-plain, tree-disconnect-plain, process-exit-plain}
 use Rattle.chain.specs.Parse.{mayFollow, linkFits, linkAt, answer, wideOffset, parseLocking, parseRead, parseWrite, parseClose, parseLogoff, parseEmpty, parse}
@@ -19,7 +19,6 @@ use Rattle.chain.specs.declared.block.Next.{Next}
 use Rattle.chain.specs.declared.block.Next.the-variants.{End, Follow}
 use Rattle.chain.specs.declared.block.Block.{Block}
 use Rattle.chain.specs.declared.block.Parsed.the-variants.{Whole}
-use Rattle.readings.specs.Cases.{test-cases, choice-cases, both-true}
 use Rattle.readings.specs.Follows.{follow-sound, follow-complete}
 use Rattle.readings.specs.BlockTests.{Served, plain, andx, fits, fits-sound, fits-complete}
 
@@ -195,7 +194,7 @@ module _ (s : List ℕ) (at : ℕ) where
   link-complete a (link-end _ e) = let p = eq-eqb (andxCommand s at) NO_COMMAND e in (rw p, rw p)
   link-complete {command} a (link-next f h) =
       let p : eqb (andxCommand s at) NO_COMMAND ≡ false = ne-eqb (andxCommand s at) NO_COMMAND (follow-not-end f) in (
-        rw p (both-true (mayFollow command (andxCommand s at)) (leb (blockEnd s at) (andxOffset s at)) (follow-complete f)
+        rw p (hold-both (mayFollow command (andxCommand s at)) (leb (blockEnd s at) (andxOffset s at)) (follow-complete f)
             (le-leb (blockEnd s at) (andxOffset s at) h)),
         rw p,
       )
@@ -243,7 +242,7 @@ module _ (s : List ℕ) (at : ℕ) where
       rw (← (g .1))
       (parse-andx a
       ∙ answer-good s command at (fits s command at && linkFits s command at) (bodyAt s command at) (linkAt s at)
-      (both-true (fits s command at) (linkFits s command at) (fits-complete s at h) (g .0)))
+      (hold-both (fits s command at) (linkFits s command at) (fits-complete s at h) (g .0)))
 
   -- and every block by the rules is yielded
   pub parse-complete : {command : ℕ} {next : Next} → IsBlock s at command → Link s command at next

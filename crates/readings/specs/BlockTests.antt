@@ -9,12 +9,11 @@ use mathlib.Core.List.{List}
 use lib.ListN.{length}
 use lib.Dec.{leb, eqb}
 use borrow.Author.Tests.{eqb-true, eqb-false, leb-true, eq-eqb, le-leb, ne-eqb}
-use Rattle.lists.specs.Truth.{both-hold}
+use Rattle.lists.specs.Truth.{both-hold, hold-both, holds-first, holds-second, test-cases, either-cases}
 use Rattle.locks.specs.Wire.{rangeSize}
 use Rattle.chain.specs.Layout.{CLOSE, LOCKING, READ, WRITE, LOGOFF, wordCount, byteArea, byteCount, blockEnd, lockType, unlockCount, lockCount, dataLength, dataOffset}
 use Rattle.chain.specs.Grammar.{Shape, Bare, Ranges, Data, IsBlock, locking-10, locking-20, read-10, read-12, write-12, write-14, close, logoff, tree-disconnect, process-exit, NamedAndx, locking-andx, read-andx, write-andx, logoff-andx, Plain, close-plain, tree-disconnect-plain, process-exit-plain}
 use Rattle.chain.specs.Parse.{shaped, bare, isLarge, lockingFits, readFits, dataInside, writeFits}
-use Rattle.readings.specs.Cases.{test-cases, either-cases, both-true, either-left, either-right}
 
 -- the requests served: those named ANDX and the others
 pub data Served : ℕ → Type 0 where
@@ -42,7 +41,7 @@ module _ (s : List ℕ) (at : ℕ) where
   pub shaped-complete : (words : ℕ) → Shape s at words → shaped s at words ≡ true
   unfolding shaped
   shaped-complete words h =
-      both-true (eqb (wordCount s at) words) (leb (blockEnd s at) (length s)) (eq-eqb (wordCount s at) words (h .counted))
+      hold-both (eqb (wordCount s at) words) (leb (blockEnd s at) (length s)) (eq-eqb (wordCount s at) words (h .counted))
       (le-leb (blockEnd s at) (length s) (h .inside))
 
   -- the rows with 0 bytes, over their word count
@@ -55,7 +54,7 @@ module _ (s : List ℕ) (at : ℕ) where
   pub bare-complete : (words : ℕ) → Bare s at words → bare s at words ≡ true
   unfolding bare
   bare-complete words h =
-      both-true (shaped s at words) (eqb (byteCount s at) 0) (shaped-complete words (h .shape)) (eq-eqb (byteCount s at) 0 (h .empty))
+      hold-both (shaped s at words) (eqb (byteCount s at) 0) (shaped-complete words (h .shape)) (eq-eqb (byteCount s at) 0 (h .empty))
 
   -- "(unlocks + locks) × 10, or × 20 with type bit 0x10"
   ranges-sound : (large : Bool) → shaped s at 8 ≡ true
@@ -70,7 +69,7 @@ module _ (s : List ℕ) (at : ℕ) where
   unfolding lockingFits
   ranges-complete large p h =
       rw p
-      (both-true (shaped s at 8) (eqb (byteCount s at) ((unlockCount s at + lockCount s at) * rangeSize large)) (shaped-complete 8 (h .shape))
+      (hold-both (shaped s at 8) (eqb (byteCount s at) ((unlockCount s at + lockCount s at) * rangeSize large)) (shaped-complete 8 (h .shape))
       (eq-eqb (byteCount s at) ((unlockCount s at + lockCount s at) * rangeSize large) (h .announced)))
 
   -- a lock type without bit 0x10
@@ -107,7 +106,7 @@ module _ (s : List ℕ) (at : ℕ) where
   data-inside : {words : ℕ} → Data s at words → dataInside s at ≡ true
   unfolding dataInside
   data-inside h =
-      both-true (leb (byteArea s at) (dataOffset s at)) (leb (dataOffset s at + dataLength s at) (blockEnd s at))
+      hold-both (leb (byteArea s at) (dataOffset s at)) (leb (dataOffset s at + dataLength s at) (blockEnd s at))
       (le-leb (byteArea s at) (dataOffset s at) (h .starts)) (le-leb (dataOffset s at + dataLength s at) (blockEnd s at) (h .ends))
 
   -- WRITE: 12 or 14 words
@@ -133,14 +132,14 @@ module _ (s : List ℕ) (at : ℕ) where
   unfolding fits lockingFits isLarge readFits writeFits rangeSize
   fits-complete (locking-10 p h) = ranges-complete false (ne-eqb (lockType s at / 16 % 2) 1 (omega arith)) h
   fits-complete (locking-20 p h) = ranges-complete true (eq-eqb (lockType s at / 16 % 2) 1 p) h
-  fits-complete (read-10 h) = either-left (bare s at 10) (bare s at 12) (bare-complete 10 h)
-  fits-complete (read-12 h) = either-right (bare s at 10) (bare s at 12) (bare-complete 12 h)
+  fits-complete (read-10 h) = holds-first (bare s at 10) (bare s at 12) (bare-complete 10 h)
+  fits-complete (read-12 h) = holds-second (bare s at 10) (bare s at 12) (bare-complete 12 h)
   fits-complete (write-12 h) =
-      both-true (shaped s at 12 || shaped s at 14) (dataInside s at)
-      (either-left (shaped s at 12) (shaped s at 14) (shaped-complete 12 (h .shape))) (data-inside h)
+      hold-both (shaped s at 12 || shaped s at 14) (dataInside s at)
+      (holds-first (shaped s at 12) (shaped s at 14) (shaped-complete 12 (h .shape))) (data-inside h)
   fits-complete (write-14 h) =
-      both-true (shaped s at 12 || shaped s at 14) (dataInside s at)
-      (either-right (shaped s at 12) (shaped s at 14) (shaped-complete 14 (h .shape))) (data-inside h)
+      hold-both (shaped s at 12 || shaped s at 14) (dataInside s at)
+      (holds-second (shaped s at 12) (shaped s at 14) (shaped-complete 14 (h .shape))) (data-inside h)
   fits-complete (close h) = bare-complete 3 h
   fits-complete (logoff h) = bare-complete 2 h
   fits-complete (tree-disconnect h) = bare-complete 0 h

@@ -10,7 +10,7 @@ use borrow.Author.Tests.{eqb-true}
 use Rattle.chain.specs.Layout.{CLOSE, LOCKING, READ, WRITE}
 use Rattle.chain.specs.Grammar.{MayFollow, locking-read, locking-write, read-close, write-write, write-read, write-close}
 use Rattle.chain.specs.Parse.{mayFollow}
-use Rattle.readings.specs.Cases.{either-cases, choice-cases}
+use Rattle.lists.specs.Truth.{either-cases, choice-cases}
 
 -- behind a LOCKING block: READ_ANDX, WRITE_ANDX
 after-locking : (next : ℕ) → (eqb next READ || eqb next WRITE) ≡ true → MayFollow LOCKING next

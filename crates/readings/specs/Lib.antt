@@ -1,4 +1,3 @@
-pub mod Cases
 pub mod Follows
 pub mod BlockTests
 pub mod BlockParse

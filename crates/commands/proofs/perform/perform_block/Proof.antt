@@ -2,7 +2,8 @@
 -- Assumes nothing.
 use Rattle.message.specs.Command.{perform}
 use Rattle.message.specs.Message.{areaOf}
-use Rattle.commands.specs.Moves.{isTransfer, not-both}
+use Rattle.lists.specs.Truth.{not-decided-twice}
+use Rattle.commands.specs.Moves.{isTransfer}
 use Rattle.commands.specs.BlockPart.{locking-told}
 use borrow.Author.Needs.{needs}
 use Rattle.commands.proofs.perform.perform_block.Statement.{statement}
@@ -81,12 +82,12 @@ returns-5 c =
 returns-6 : tie.Need-returns-6
 unfolding isTransfer
 returns-6 c =
-    not-both (isTransfer (c .before .before .before .before .args .b .body)) (rw (c .before .enum-told4 .given .1)) (c .before .before .before .before .pre .1 .1)
+    absurd (not-decided-twice (isTransfer (c .before .before .before .before .args .b .body)) (rw (c .before .enum-told4 .given .1)) (c .before .before .before .before .pre .1 .1))
 
 returns-7 : tie.Need-returns-7
 unfolding isTransfer
 returns-7 c =
-    not-both (isTransfer (c .before .before .before .before .args .b .body)) (rw (c .before .enum-told5 .given .1)) (c .before .before .before .before .pre .1 .1)
+    absurd (not-decided-twice (isTransfer (c .before .before .before .before .args .b .body)) (rw (c .before .enum-told5 .given .1)) (c .before .before .before .before .pre .1 .1))
 
 pub perform-block-spec : {M : Type 1} → statement M
 perform-block-spec =

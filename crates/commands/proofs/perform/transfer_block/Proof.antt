@@ -3,7 +3,8 @@
 use native.Mathlib.Omega.{arith}
 use Rattle.message.specs.Command.{perform}
 use Rattle.message.specs.Message.{dataOf}
-use Rattle.commands.specs.Moves.{isTransfer, moves-still, not-both}
+use Rattle.lists.specs.Truth.{not-decided-twice}
+use Rattle.commands.specs.Moves.{isTransfer, moves-still}
 use Rattle.commands.specs.BlockPart.{write-told}
 use borrow.Author.Needs.{needs}
 use Rattle.commands.proofs.perform.transfer_block.Statement.{statement}
@@ -82,27 +83,27 @@ returns-2 c =
 returns-3 : tie.Need-returns-3
 unfolding isTransfer
 returns-3 c =
-    not-both (isTransfer (c .before .before .before .before .before .args .b .body)) (c .before .before .before .before .before .pre .1 .1 .1) (rw (c .before .enum-told .given .1))
+    absurd (not-decided-twice (isTransfer (c .before .before .before .before .before .args .b .body)) (c .before .before .before .before .before .pre .1 .1 .1) (rw (c .before .enum-told .given .1)))
 
 returns-4 : tie.Need-returns-4
 unfolding isTransfer
 returns-4 c =
-    not-both (isTransfer (c .before .before .before .before .before .args .b .body)) (c .before .before .before .before .before .pre .1 .1 .1) (rw (c .before .enum-told2 .given .1))
+    absurd (not-decided-twice (isTransfer (c .before .before .before .before .before .args .b .body)) (c .before .before .before .before .before .pre .1 .1 .1) (rw (c .before .enum-told2 .given .1)))
 
 returns-5 : tie.Need-returns-5
 unfolding isTransfer
 returns-5 c =
-    not-both (isTransfer (c .before .before .before .before .before .args .b .body)) (c .before .before .before .before .before .pre .1 .1 .1) (rw (c .before .enum-told3 .given .1))
+    absurd (not-decided-twice (isTransfer (c .before .before .before .before .before .args .b .body)) (c .before .before .before .before .before .pre .1 .1 .1) (rw (c .before .enum-told3 .given .1)))
 
 returns-6 : tie.Need-returns-6
 unfolding isTransfer
 returns-6 c =
-    not-both (isTransfer (c .before .before .before .before .before .args .b .body)) (c .before .before .before .before .before .pre .1 .1 .1) (rw (c .before .enum-told4 .given .1))
+    absurd (not-decided-twice (isTransfer (c .before .before .before .before .before .args .b .body)) (c .before .before .before .before .before .pre .1 .1 .1) (rw (c .before .enum-told4 .given .1)))
 
 returns-7 : tie.Need-returns-7
 unfolding isTransfer
 returns-7 c =
-    not-both (isTransfer (c .before .before .before .before .before .args .b .body)) (c .before .before .before .before .before .pre .1 .1 .1) (rw (c .before .enum-told5 .given .1))
+    absurd (not-decided-twice (isTransfer (c .before .before .before .before .before .args .b .body)) (c .before .before .before .before .before .pre .1 .1 .1) (rw (c .before .enum-told5 .given .1)))
 
 pub transfer-block-spec : {M : Type 1} → statement M
 transfer-block-spec =
