@@ -12,7 +12,7 @@ use Rattle.numbers.specs.Column.{uidOf}
 use Rattle.lists.specs.Walk.{all, allTails}
 use Rattle.numbers.specs.Number.{contains, numbered}
 use Rattle.soundness.specs.Sound.{sound, withinRoom, fileOk, soundRecords, soundLocks, agreeAll}
-use Rattle.host.specs.HostCall.{noTables, refused, done, newSession, addSession, newTree, addTree, newOpen, addOpen, loaded, loadFile, dropConnection}
+use Rattle.host.specs.HostCall.{noTables, refused, done, newSession, addSession, newTree, addTree, newOpen, addOpen, withSize, loadFile, dropConnection}
 use Rattle.host.specs.declared.answer.Answer.{Answer}
 use Rattle.removal.specs.declared.Gone.the-variants.{Connection}
 use Rattle.lists.specs.Members.{all-set}
@@ -83,10 +83,10 @@ module _ (t : Tables) (s : Sound t) where
       (held-fewer (t .nopens) (t .opens) 64 (p .room)))
       (locks-open (opensOf t) (newOpen t uid tid process file access) (locksOf t) (s .locks))
 
-  load-sound : (file size : ℕ) → size ≤ 4096 → sound (loaded t file size) ≡ true
-  unfolding loaded withFiles fileOk
+  load-sound : (file size : ℕ) → size ≤ 4096 → sound (withSize t file size) ≡ true
+  unfolding withSize withFiles fileOk
   load-sound file size h =
-      sound-lists (loaded t file size) (sessionsOf t) (treesOf t) (opensOf t) (locksOf t) refl refl refl refl (s .room)
+      sound-lists (withSize t file size) (sessionsOf t) (treesOf t) (opensOf t) (locksOf t) refl refl refl refl (s .room)
       (all-set fileOk (t .files) file (record { size = size }) (s .sizes) (le-leb size 4096 h))
       (s .records) (s .locks)
 
@@ -161,7 +161,7 @@ module _ (t : Tables) (s : Shaped t) where
 
   -- the same after loading a file
   pub loadFile-shaped : (file : ℕ) (bytes memory : List ℕ) → Shaped (loadFile t file bytes memory .tables)
-  unfolding ShapedAfter done loaded
+  unfolding ShapedAfter done withSize
   loadFile-shaped file bytes memory =
       loadFile-either t ShapedAfter refused-shaped file bytes memory
       (λ p. shaped-files t s (set (t .files) file (record { size = length bytes }))

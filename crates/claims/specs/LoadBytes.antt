@@ -13,7 +13,7 @@ use Rattle.records.specs.Empty.{noFile}
 use Rattle.records.specs.declared.File.{File}
 use Rattle.records.specs.declared.Tables.{Tables}
 use Rattle.records.specs.Held.{withFiles}
-use Rattle.host.specs.HostCall.{done, loadNumber, loaded, loadFile, loadMemory}
+use Rattle.host.specs.HostCall.{done, loadNumber, withSize, loadFile, loadMemory}
 use Rattle.claims.specs.Shaped.{Shaped}
 use Rattle.claims.specs.HostCases.{LoadPassed, load-passed}
 use Rattle.claims.specs.HostAnswer.{loadFile-number}
@@ -81,7 +81,7 @@ module _ (t : Tables) (file : ℕ) (bytes memory : List ℕ) (e : loadFile t fil
       })
 
   tables-loaded : loadFile t file bytes memory .tables ≡ withFiles t (set (t .files) file (record { size = length bytes }))
-  unfolding loadFile done loaded
+  unfolding loadFile done withSize
   tables-loaded = rw (eq-eqb (loadNumber t file (length bytes) (length memory)) 0 (sym (loadFile-number t file bytes memory) ∙ e))
 
   -- "A load sets the size"

@@ -9,7 +9,7 @@ use Rattle.records.specs.declared.File.{File}
 use Rattle.records.specs.declared.Tables.{Tables}
 use Rattle.records.specs.Empty.{noFile}
 use Rattle.records.specs.Held.{withFiles}
-use Rattle.host.specs.HostCall.{loaded}
+use Rattle.host.specs.HostCall.{withSize}
 use Rattle.chain.specs.declared.block.Body.{Body}
 use Rattle.chain.specs.declared.block.Body.the-variants.{Locking, Read, Write, Close, Logoff, TreeDisconnect, ProcessExit}
 use Rattle.message.specs.Command.{Given, refused}
@@ -34,7 +34,7 @@ isTransfer ProcessExit = false
 
 -- what was performed: the tables with that size set
 abbrev pub movedOf : Tables → Moved → Performed
-movedOf t r = performed (r .answer) (loaded t (r .file) (r .size))
+movedOf t r = performed (r .answer) (withSize t (r .file) (r .size))
 
 -- it is what the command gives, and the file is one of the 16
 pub record Moves (given : Given) (t : Tables) (memory : List ℕ) (r : Moved) (left : List ℕ) : Type 0 where
@@ -50,8 +50,8 @@ same-file [] k = refl
 same-file (f ∷ l) zero = refl
 same-file (f ∷ l) (suc k) = ap (λ (x : List File). f ∷ x) (same-file l k)
 
-same-tables : (t : Tables) → loaded t 0 (sizeOf t 0) ≡ t
-unfolding loaded withFiles sizeOf
+same-tables : (t : Tables) → withSize t 0 (sizeOf t 0) ≡ t
+unfolding withSize withFiles sizeOf
 same-tables t = ap (withFiles t) (same-file (t .files) 0)
 
 pub moves-still : {given : Given} {t : Tables} {m left : List ℕ} {r : Moved} (a : Answer) → r ≡ still t a → Gives given t m (performed a t) left

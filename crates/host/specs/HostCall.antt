@@ -99,12 +99,12 @@ loadNumber t file size memory =
     (cond (any (isOf file) (opensOf t)) 9 0)))
 
 -- "A load sets the size"
-unfoldable pub loaded : Tables → ℕ → ℕ → Tables
-loaded t file size = withFiles t (set (t .files) file (record { size = size }))
+unfoldable pub withSize : Tables → ℕ → ℕ → Tables
+withSize t file size = withFiles t (set (t .files) file (record { size = size }))
 
 unfoldable pub loadFile : Tables → ℕ → List ℕ → List ℕ → Answer
 loadFile t file bytes memory =
-    cond (eqb (loadNumber t file (length bytes) (length memory)) 0) (done 0 (loaded t file (length bytes)))
+    cond (eqb (loadNumber t file (length bytes) (length memory)) 0) (done 0 (withSize t file (length bytes)))
     (refused (loadNumber t file (length bytes) (length memory)) t)
 
 -- "and puts zeros after the loaded bytes, up to 4,096"

@@ -18,7 +18,7 @@ ghost use mathlib.Core.List.{_++_};
 ghost use Prim.Native.Nat.{_-_, _≤_, _<_};
 ghost use lib.ListN.{length, take, replicate};
 ghost use Rattle.lists.specs.Walk.{any};
-ghost use Rattle.host.specs.HostCall.{isOf, loadNumber, loaded, loadFile, loadMemory};
+ghost use Rattle.host.specs.HostCall.{isOf, loadNumber, withSize, loadFile, loadMemory};
 
 // Whether one of the first count opens is of the file.
 fn some_open_of(opens: [Open; 64], count: usize, file: u8) -> bool
@@ -71,7 +71,7 @@ fn fill_file(contents: &[u8], room: &mut [u8])
 // The tables with a file's size set.
 fn with_size(t: Tables, file: usize, size: usize) -> Tables
     requires { ⌜ file < 16 ⌝ }
-    ensures { λ r. ⌜ r ≡ loaded t file size ⌝ }
+    ensures { λ r. ⌜ r ≡ withSize t file size ⌝ }
 {
     let mut next = t;
     next.files[file] = File { size };

@@ -2,7 +2,7 @@
 -- Assumes nothing.
 use Prim.Native.Nat.{ℕ, max, _+_, _≤_}
 use borrow.Author.Tests.{ne-eqb}
-use Rattle.host.specs.HostCall.{loaded}
+use Rattle.host.specs.HostCall.{withSize}
 use Rattle.message.specs.Contents.{sizeOf, resized}
 use Rattle.commands.specs.Moves.{moves-refused, moves-still}
 use borrow.Author.Needs.{needs}
@@ -60,7 +60,7 @@ same-length : tie.Need-same-length
 same-length c = search needs
 
 returns-3 : tie.Need-returns-3
-unfolding writeFree givenOf inside resized loaded
+unfolding writeFree givenOf inside resized withSize
 returns-3 c =
     let pre = c .before .before .before .before .before .before .before .before .before .before .before .pre in
     let args = c .before .before .before .before .before .before .before .before .before .before .before .args in
@@ -69,9 +69,9 @@ returns-3 c =
     let low : args .file ≤ 15 = pre .1 .0 in
     record {
       gives =
-          gives-done (Wrote (args .f .count)) (loaded (args .t) (args .file) (max (sizeOf (args .t) (args .file)) (args .f .offset + args .f .count))) (wrote (args .f .count))
+          gives-done (Wrote (args .f .count)) (withSize (args .t) (args .file) (max (sizeOf (args .t) (args .file)) (args .f .offset + args .f .count))) (wrote (args .f .count))
           (rw (sym (ends-past .ensures) ∙ if1 .left, ne-eqb (args .f .count) 0 (c .before .before .before .before .before .if2 .left), c .before .before .before .write-bytes .ensures))
-          (ap (λ (n : ℕ). performed (Wrote (args .f .count)) (loaded (args .t) (args .file) n)) (c .raised-size .ensures)) refl refl;
+          (ap (λ (n : ℕ). performed (Wrote (args .f .count)) (withSize (args .t) (args .file) n)) (c .raised-size .ensures)) refl refl;
       file-there = omega arith;
     }
 

@@ -1,7 +1,7 @@
 -- `host::load::with_size` meets its contract: one file record is set.
 -- Assumes nothing.
 use mathlib.Core.Path.{refl}
-use Rattle.host.specs.HostCall.{loaded}
+use Rattle.host.specs.HostCall.{withSize}
 use Rattle.records.specs.Held.{withFiles}
 use borrow.Author.Needs.{needs}
 use Rattle.host.proofs.load.with_size.Statement.{statement}
@@ -14,7 +14,7 @@ element-set-from-next : tie.Need-element-set-from-next
 element-set-from-next c = search needs
 
 returns : tie.Need-returns
-unfolding loaded withFiles
+unfolding withSize withFiles
 returns c = refl
 
 pub with-size-spec : {M : Type 1} → statement M

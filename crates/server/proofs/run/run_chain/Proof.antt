@@ -5,7 +5,7 @@ use mathlib.Core.Path.{_≡_, sym, ap, _∙_}
 use mathlib.Core.Logic.{⊎-elim}
 use lib.ListN.{length}
 use Rattle.records.specs.Held.{withFiles}
-use Rattle.host.specs.HostCall.{loaded}
+use Rattle.host.specs.HostCall.{withSize}
 use Rattle.message.specs.Command.{perform}
 use Rattle.message.specs.Message.{areaOf, dataOf}
 use Rattle.message.specs.Given.{Gives}
@@ -25,7 +25,7 @@ abbrev μ-loop : tie.MeasureT-loop
 
 -- what was performed: where the two ways meet
 given-here : (c : tie.Joined1 Inv-loop μ-loop) → (Gives (perform (c .before .before .before .before .before .before .before .before .before .before .before .args .c) (c .before .before .before .before .before .before .loop .t) (c .before .before .before .before .before .before .loop .memory) (c .before .before .before .b .given .0 .0 .body) (areaOf (c .before .before .before .before .before .before .before .before .before .before .before .args .s .now) (c .before .before .before .b .given .0 .0)) (dataOf (c .before .before .before .before .before .before .before .before .before .before .before .args .s .now) (c .before .before .before .b .given .0 .0))) (c .before .before .before .before .before .before .loop .t) (c .before .before .before .before .before .before .loop .memory) (performed (c .if1 .answer) (c .if1 .t)) (c .if1 .memory)) × (length (c .if1 .memory) ≡ 65536)
-unfolding loaded withFiles
+unfolding withSize withFiles
 given-here c =
     let loop = c .before .before .before .before .before .before .loop in
     ⊎-elim
