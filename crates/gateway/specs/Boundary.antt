@@ -19,7 +19,7 @@ unfoldable pub ready : List ℕ → Bool
 ready w = fits w && sound (unpacked w)
 
 -- what a call on w that returns r leaves for the next one: the words out, where the core left the tables t
-pub record Next (w out : List ℕ) (r : ℕ) (t : Tables) : Type 0 where
+pub record ForNext (w out : List ℕ) (r : ℕ) (t : Tables) : Type 0 where
   -- of a call that is done, the words hold the core's tables, whole
   pub held : r ≡ 0 → unpacked out ≡ t
   -- document 01, "Tables and room": "Every call on sound tables leaves sound tables"

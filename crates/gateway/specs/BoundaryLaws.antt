@@ -15,7 +15,7 @@ use Rattle.lists.specs.Truth.{decided, both-hold, hold-both}
 use Rattle.records.specs.declared.Tables.{Tables}
 use Rattle.soundness.specs.Sound.{sound}
 use Rattle.words.specs.Words.{fits, packed, unpacked, table, laid}
-use Rattle.gateway.specs.Boundary.{ready, Next, numberOf, isDone, wordsAfter, idAfter, fileLoaded, loadNumberOf, memoryAfter}
+use Rattle.gateway.specs.Boundary.{ready, ForNext, numberOf, isDone, wordsAfter, idAfter, fileLoaded, loadNumberOf, memoryAfter}
 
 -- ---- for the next call
 
@@ -25,11 +25,11 @@ unfolding ready
 ready-of out t f e s = hold-both (fits out) (sound (unpacked out)) f (ap sound e ∙ s)
 
 -- a refusal leaves the words
-pub undone-next : (w : List ℕ) (r : ℕ) (t : Tables) → (r ≡ 0 → ⊥) → Next w w r t
+pub undone-next : (w : List ℕ) (r : ℕ) (t : Tables) → (r ≡ 0 → ⊥) → ForNext w w r t
 undone-next w r t n = record { held = λ z. absurd (n z); again = λ e. e }
 
 -- the words of the core's tables, where the core leaves sound tables sound
-pub done-next : (w out : List ℕ) (t : Tables) → fits out ≡ true → unpacked out ≡ t → (sound (unpacked w) ≡ true → sound t ≡ true) → Next w out 0 t
+pub done-next : (w out : List ℕ) (t : Tables) → fits out ≡ true → unpacked out ≡ t → (sound (unpacked w) ≡ true → sound t ≡ true) → ForNext w out 0 t
 unfolding ready
 done-next w out t f e keeps =
     record { held = λ _. e; again = λ h. ready-of out t f e (keeps (both-hold (fits w) (sound (unpacked w)) h .1)) }
@@ -41,7 +41,7 @@ pub record Leaves (w : List ℕ) (id : ℕ) (a : Answer) (r : ℕ) (out : List �
   pub number : r ≡ numberOf w a
   pub words : out ≡ wordsAfter w a
   pub given : after ≡ idAfter id w a
-  pub next : Next w out r (a .tables)
+  pub next : ForNext w out r (a .tables)
 
 module _ (w : List ℕ) (id : ℕ) (a : Answer) where
   pub unfit : fits w ≡ false → Leaves w id a 4 w id

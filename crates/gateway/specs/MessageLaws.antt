@@ -17,11 +17,11 @@ use Rattle.demands.specs.Taken.{take-message-good}
 use Rattle.words.specs.Words.{fits, packed, unpacked, sessionIn, treeIn, openIn, lockIn, fileIn}
 use Rattle.words.specs.Turns.{length-upTo}
 use Rattle.gateway.specs.BoundaryLaws.{done-next}
-use Rattle.gateway.specs.Boundary.{Next, Left, left, leftBy, wrongRoom, messageTaken, messageLeft}
+use Rattle.gateway.specs.Boundary.{ForNext, Left, left, leftBy, wrongRoom, messageTaken, messageLeft}
 
 -- the five parts of what is left, and what it is for the next call
-pub left-is : (number : ℕ) (words memory room : List ℕ) (n : ℕ) (l : Left) {w : List ℕ} {t : Tables} → left number words memory room n ≡ l → Next w words number t
-    → (number ≡ l .number) × ((words ≡ l .words) × ((memory ≡ l .memory) × ((room ≡ l .room) × ((n ≡ l .length) × Next w words number t))))
+pub left-is : (number : ℕ) (words memory room : List ℕ) (n : ℕ) (l : Left) {w : List ℕ} {t : Tables} → left number words memory room n ≡ l → ForNext w words number t
+    → (number ≡ l .number) × ((words ≡ l .words) × ((memory ≡ l .memory) × ((room ≡ l .room) × ((n ≡ l .length) × ForNext w words number t))))
 left-is number words memory room n l e next = (
   ap (λ (x : Left). x .number) e,
   (
@@ -101,7 +101,7 @@ module _ (connection : ℕ) (s w memory room : List ℕ) (before : ℕ) where
             let m : take-message connection s (unpacked w) memory room .number ≡ 0 = ap (λ (x : Taken). x .number) (sym same) ∙ z in
             ap (λ (l : List ℕ). left 0 l (k .memory) (k .room) (k .length)) (p .0) ∙ rw (right, e, m, same)
 
-        pub done-message : Next w out 0 (messageTaken connection s w memory room .tables)
+        pub done-message : ForNext w out 0 (messageTaken connection s w memory room .tables)
         unfolding messageTaken
         done-message =
             done-next w out (take-message connection s (unpacked w) memory room .tables) (p .1 .0) (p .1 .1 ∙ ap (λ (x : Taken). x .tables) same)

@@ -1,4 +1,4 @@
--- Words that are ready are never answered with 4, "tables not sound": since each call leaves ready words ready (`Next`), a host
+-- Words that are ready are never answered with 4, "tables not sound": since each call leaves ready words ready (`ForNext`), a host
 -- that starts from `gateway_empty` and leaves the words alone never meets 4. Assumes nothing.
 use mathlib.Core.Path.{_≡_}
 use Prim.Native.Nat.{ℕ}

@@ -17,7 +17,7 @@ ghost use mathlib.Core.Path.{_≡_};
 ghost use mathlib.Core.Bool.{true};
 ghost use Rattle.host.specs.HostCall.{noTables};
 ghost use Rattle.words.specs.Words.{packed, unpacked};
-ghost use Rattle.gateway.specs.Boundary.{numberOf, wordsAfter, idAfter, sessionAdded, treeAdded, openAdded, connectionDropped, fileLoaded, loadNumberOf, memoryAfter, messageTaken, messageLeft, ready, Next};
+ghost use Rattle.gateway.specs.Boundary.{numberOf, wordsAfter, idAfter, sessionAdded, treeAdded, openAdded, connectionDropped, fileLoaded, loadNumberOf, memoryAfter, messageTaken, messageLeft, ready, ForNext};
 
 // Tables to start from.
 #[no_mangle]
@@ -39,7 +39,7 @@ pub extern "C" fn gateway_add_session(
     ensures { λ r. ⌜ r ≡ numberOf (now (tables .entry)) (sessionAdded (now (tables .entry)) connection) ⌝ }
     ensures { λ _. ⌜ now (tables .exit) ≡ wordsAfter (now (tables .entry)) (sessionAdded (now (tables .entry)) connection) ⌝ }
     ensures { λ _. ⌜ now (uid .exit) ≡ idAfter (now (uid .entry)) (now (tables .entry)) (sessionAdded (now (tables .entry)) connection) ⌝ }
-    ensures { λ r. ⌜ Next (now (tables .entry)) (now (tables .exit)) r (sessionAdded (now (tables .entry)) connection .tables) ⌝ }
+    ensures { λ r. ⌜ ForNext (now (tables .entry)) (now (tables .exit)) r (sessionAdded (now (tables .entry)) connection .tables) ⌝ }
 {
     if !words_fit(tables) {
         return NOT_SOUND;
@@ -66,7 +66,7 @@ pub extern "C" fn gateway_add_tree(
     ensures { λ r. ⌜ r ≡ numberOf (now (tables .entry)) (treeAdded (now (tables .entry)) uid right) ⌝ }
     ensures { λ _. ⌜ now (tables .exit) ≡ wordsAfter (now (tables .entry)) (treeAdded (now (tables .entry)) uid right) ⌝ }
     ensures { λ _. ⌜ now (tid .exit) ≡ idAfter (now (tid .entry)) (now (tables .entry)) (treeAdded (now (tables .entry)) uid right) ⌝ }
-    ensures { λ r. ⌜ Next (now (tables .entry)) (now (tables .exit)) r (treeAdded (now (tables .entry)) uid right .tables) ⌝ }
+    ensures { λ r. ⌜ ForNext (now (tables .entry)) (now (tables .exit)) r (treeAdded (now (tables .entry)) uid right .tables) ⌝ }
 {
     if !words_fit(tables) {
         return NOT_SOUND;
@@ -96,7 +96,7 @@ pub extern "C" fn gateway_add_open(
     ensures { λ r. ⌜ r ≡ numberOf (now (tables .entry)) (openAdded (now (tables .entry)) uid tid process file access) ⌝ }
     ensures { λ _. ⌜ now (tables .exit) ≡ wordsAfter (now (tables .entry)) (openAdded (now (tables .entry)) uid tid process file access) ⌝ }
     ensures { λ _. ⌜ now (fid .exit) ≡ idAfter (now (fid .entry)) (now (tables .entry)) (openAdded (now (tables .entry)) uid tid process file access) ⌝ }
-    ensures { λ r. ⌜ Next (now (tables .entry)) (now (tables .exit)) r (openAdded (now (tables .entry)) uid tid process file access .tables) ⌝ }
+    ensures { λ r. ⌜ ForNext (now (tables .entry)) (now (tables .exit)) r (openAdded (now (tables .entry)) uid tid process file access .tables) ⌝ }
 {
     if !words_fit(tables) {
         return NOT_SOUND;
@@ -123,7 +123,7 @@ pub extern "C" fn gateway_load_file(
     ensures { λ r. ⌜ r ≡ loadNumberOf (now (tables .entry)) file (now (contents .entry)) (now (memory .entry)) ⌝ }
     ensures { λ _. ⌜ now (tables .exit) ≡ wordsAfter (now (tables .entry)) (fileLoaded (now (tables .entry)) file (now (contents .entry)) (now (memory .entry))) ⌝ }
     ensures { λ _. ⌜ now (memory .exit) ≡ memoryAfter (now (tables .entry)) file (now (contents .entry)) (now (memory .entry)) ⌝ }
-    ensures { λ r. ⌜ Next (now (tables .entry)) (now (tables .exit)) r (fileLoaded (now (tables .entry)) file (now (contents .entry)) (now (memory .entry)) .tables) ⌝ }
+    ensures { λ r. ⌜ ForNext (now (tables .entry)) (now (tables .exit)) r (fileLoaded (now (tables .entry)) file (now (contents .entry)) (now (memory .entry)) .tables) ⌝ }
 {
     if memory.len() != 65536 {
         return WRONG_ROOM;
@@ -146,7 +146,7 @@ pub extern "C" fn gateway_load_file(
 pub extern "C" fn gateway_drop_connection(tables: &mut [u64; 1172], connection: u32) -> u8
     ensures { λ r. ⌜ r ≡ numberOf (now (tables .entry)) (connectionDropped (now (tables .entry)) connection) ⌝ }
     ensures { λ _. ⌜ now (tables .exit) ≡ wordsAfter (now (tables .entry)) (connectionDropped (now (tables .entry)) connection) ⌝ }
-    ensures { λ r. ⌜ Next (now (tables .entry)) (now (tables .exit)) r (connectionDropped (now (tables .entry)) connection .tables) ⌝ }
+    ensures { λ r. ⌜ ForNext (now (tables .entry)) (now (tables .exit)) r (connectionDropped (now (tables .entry)) connection .tables) ⌝ }
 {
     if !words_fit(tables) {
         return NOT_SOUND;
@@ -177,7 +177,7 @@ pub extern "C" fn gateway_take_message(
     ensures { λ _. ⌜ now (memory .exit) ≡ messageLeft connection (now (message .entry)) (now (tables .entry)) (now (memory .entry)) (now (room .entry)) (now (written .entry)) .memory ⌝ }
     ensures { λ _. ⌜ now (room .exit) ≡ messageLeft connection (now (message .entry)) (now (tables .entry)) (now (memory .entry)) (now (room .entry)) (now (written .entry)) .room ⌝ }
     ensures { λ _. ⌜ now (written .exit) ≡ messageLeft connection (now (message .entry)) (now (tables .entry)) (now (memory .entry)) (now (room .entry)) (now (written .entry)) .length ⌝ }
-    ensures { λ r. ⌜ Next (now (tables .entry)) (now (tables .exit)) r (messageTaken connection (now (message .entry)) (now (tables .entry)) (now (memory .entry)) (now (room .entry)) .tables) ⌝ }
+    ensures { λ r. ⌜ ForNext (now (tables .entry)) (now (tables .exit)) r (messageTaken connection (now (message .entry)) (now (tables .entry)) (now (memory .entry)) (now (room .entry)) .tables) ⌝ }
 {
     if room.len() < 12292 {
         return WRONG_ROOM;
