@@ -47,44 +47,49 @@ use Rattle.demands.specs.LockWords.{Released, Unnamed, Releasing, all-re
 -- ---- the reasons
 
 -- "LOGOFF and PROCESS_EXIT stop after 2/91"
-pub data SessionReason (c : Caller) (t : Tables) : Status → Type 0 where
-  session-not : {n : Status} → NoSessionFor c t n → SessionReason c t n
-  session-done : SessionHere c t → SessionReason c t (status 0 0)
+pub data SessionStatus (c : Caller) (t : Tables) : Status → Type 0 where
+  -- 2/91: Admitted.antt
+  session-not : {n : Status} → NoSessionFor c t n → SessionStatus c t n
+  session-there : SessionHere c t → SessionStatus c t (status 0 0)
 
 -- "TREE_DISCONNECT after 2/5"
-pub data TreeReason (c : Caller) (t : Tables) : Status → Type 0 where
-  tree-not : {n : Status} → NoTreeFor c t n → TreeReason c t n
-  tree-done : SessionHere c t → HasTree t (c .tid) (c .uid) → TreeReason c t (status 0 0)
+pub data TreeStatus (c : Caller) (t : Tables) : Status → Type 0 where
+  -- 2/91 or 2/5: Admitted.antt
+  tree-not : {n : Status} → NoTreeFor c t n → TreeStatus c t n
+  tree-there : SessionHere c t → HasTree t (c .tid) (c .uid) → TreeStatus c t (status 0 0)
 
 -- "CLOSE after 1/6"
-pub data CloseReason (c : Caller) (t : Tables) (fid : ℕ) : Status → Type 0 where
-  close-not : {n : Status} → NoOpenFor c t fid n → CloseReason c t fid n
-  close-done : {o : Open} → Admitted c t fid o → CloseReason c t fid (status 0 0)
+pub data CloseStatus (c : Caller) (t : Tables) (fid : ℕ) : Status → Type 0 where
+  -- 2/91, 2/5 or 1/6: Admitted.antt
+  close-not : {n : Status} → NoOpenFor c t fid n → CloseStatus c t fid n
+  close-done : {o : Open} → Admitted c t fid o → CloseStatus c t fid (status 0 0)
 
 -- "an exclusive lock of another owner overlaps offset and max"
 abbrev pub BarsRead : Caller → Tables → ReadFields → Open → Type 0
-BarsRead c t f o = InWay t o (f .offset) (f .max) (λ l. (l .shared ≡ false) × (Owner (f .fid) (c .process) l → ⊥))
+BarsRead c t f o = InWay t o (locksOf t) (f .offset) (f .max) (λ l. (l .shared ≡ false) × (Owner (f .fid) (c .process) l → ⊥))
 
 -- READ: "1/5 is a read on access 1", 1/33
-pub data ReadReason (c : Caller) (t : Tables) (f : ReadFields) : Status → Type 0 where
-  read-not : {n : Status} → NoOpenFor c t (f .fid) n → ReadReason c t f n
-  read-access : {o : Open} → Admitted c t (f .fid) o → o .access ≡ 1 → ReadReason c t f (status 1 5)
-  read-barred : {o : Open} → Admitted c t (f .fid) o → (o .access ≡ 1 → ⊥) → BarsRead c t f o → ReadReason c t f (status 1 33)
-  read-done : {o : Open} → Admitted c t (f .fid) o → (o .access ≡ 1 → ⊥) → (BarsRead c t f o → ⊥) → ReadReason c t f (status 0 0)
+pub data ReadStatus (c : Caller) (t : Tables) (f : ReadFields) : Status → Type 0 where
+  -- 2/91, 2/5 or 1/6: Admitted.antt
+  read-not : {n : Status} → NoOpenFor c t (f .fid) n → ReadStatus c t f n
+  read-access : {o : Open} → Admitted c t (f .fid) o → o .access ≡ 1 → ReadStatus c t f (status 1 5)
+  read-barred : {o : Open} → Admitted c t (f .fid) o → (o .access ≡ 1 → ⊥) → BarsRead c t f o → ReadStatus c t f (status 1 33)
+  read-done : {o : Open} → Admitted c t (f .fid) o → (o .access ≡ 1 → ⊥) → (BarsRead c t f o → ⊥) → ReadStatus c t f (status 0 0)
 
 -- "any lock overlaps it save the writer's own exclusive ones"
 abbrev pub BarsWrite : Caller → Tables → WriteFields → Open → Type 0
-BarsWrite c t f o = InWay t o (f .offset) (f .count) (λ l. (l .shared ≡ false) × Owner (f .fid) (c .process) l → ⊥)
+BarsWrite c t f o = InWay t o (locksOf t) (f .offset) (f .count) (λ l. (l .shared ≡ false) × Owner (f .fid) (c .process) l → ⊥)
 
 -- WRITE: "or a write on access 0", 1/33, "class 3, code 39, write would end past 4,096"; "Length 0 .. is done at any offset"
-pub data WriteReason (c : Caller) (t : Tables) (f : WriteFields) : Status → Type 0 where
-  write-not : {n : Status} → NoOpenFor c t (f .fid) n → WriteReason c t f n
-  write-access : {o : Open} → Admitted c t (f .fid) o → o .access ≡ 0 → WriteReason c t f (status 1 5)
-  write-barred : {o : Open} → Admitted c t (f .fid) o → (o .access ≡ 0 → ⊥) → BarsWrite c t f o → WriteReason c t f (status 1 33)
+pub data WriteStatus (c : Caller) (t : Tables) (f : WriteFields) : Status → Type 0 where
+  -- 2/91, 2/5 or 1/6: Admitted.antt
+  write-not : {n : Status} → NoOpenFor c t (f .fid) n → WriteStatus c t f n
+  write-access : {o : Open} → Admitted c t (f .fid) o → o .access ≡ 0 → WriteStatus c t f (status 1 5)
+  write-barred : {o : Open} → Admitted c t (f .fid) o → (o .access ≡ 0 → ⊥) → BarsWrite c t f o → WriteStatus c t f (status 1 33)
   write-space : {o : Open} → Admitted c t (f .fid) o → (o .access ≡ 0 → ⊥) → (BarsWrite c t f o → ⊥) → 1 ≤ f .count → 4096 < f .offset + f .count
-      → WriteReason c t f (status 3 39)
+      → WriteStatus c t f (status 3 39)
   write-done : {o : Open} → Admitted c t (f .fid) o → (o .access ≡ 0 → ⊥) → (BarsWrite c t f o → ⊥) → (f .count ≡ 0) ⊎ (f .offset + f .count ≤ 4096)
-      → WriteReason c t f (status 0 0)
+      → WriteStatus c t f (status 0 0)
 
 -- the type's bits 0x01 and 0x10 are all of it
 abbrev pub OnlyTwoBits : ℕ → Type 0
@@ -101,31 +106,32 @@ abbrev pub sharedIn : LockingFields → Bool
 sharedIn f = eqb (f .kind % 2) 1
 
 -- LOCKING: "2/65535 lock type bit other than 0x01 and 0x10; 1/158 no such lock to release; 1/87 lock range passes 2^64; 1/33 lock conflict; 1/8 no lock record free"
-pub data LockingReason (c : Caller) (t : Tables) (f : LockingFields) (area : List ℕ) : Status → Type 0 where
-  locking-not : {n : Status} → NoOpenFor c t (f .fid) n → LockingReason c t f area n
-  locking-type : {o : Open} → Admitted c t (f .fid) o → (OnlyTwoBits (f .kind) → ⊥) → LockingReason c t f area (status 2 65535)
+pub data LockingStatus (c : Caller) (t : Tables) (f : LockingFields) (area : List ℕ) : Status → Type 0 where
+  -- 2/91, 2/5 or 1/6: Admitted.antt
+  locking-not : {n : Status} → NoOpenFor c t (f .fid) n → LockingStatus c t f area n
+  locking-type : {o : Open} → Admitted c t (f .fid) o → (OnlyTwoBits (f .kind) → ⊥) → LockingStatus c t f area (status 2 65535)
   locking-unnamed : {o : Open} → Admitted c t (f .fid) o → OnlyTwoBits (f .kind) → Unnamed (f .fid) (unlocksIn f area) (locksOf t)
-      → LockingReason c t f area (status 1 158)
+      → LockingStatus c t f area (status 1 158)
   locking-past : {o : Open} {left : List Lock} → Admitted c t (f .fid) o → OnlyTwoBits (f .kind) → Released (f .fid) (unlocksIn f area) (locksOf t) left
-      → PastEnd (locksIn f area) → LockingReason c t f area (status 1 87)
+      → PastEnd (locksIn f area) → LockingStatus c t f area (status 1 87)
   locking-blocked : {o : Open} {left : List Lock} → Admitted c t (f .fid) o → OnlyTwoBits (f .kind) → Released (f .fid) (unlocksIn f area) (locksOf t) left
-      → (PastEnd (locksIn f area) → ⊥) → OneBlocked t o (f .fid) (sharedIn f) (locksIn f area) left → LockingReason c t f area (status 1 33)
+      → (PastEnd (locksIn f area) → ⊥) → OneBlocked t o (f .fid) (sharedIn f) (locksIn f area) left → LockingStatus c t f area (status 1 33)
   locking-full : {o : Open} {left last : List Lock} → Admitted c t (f .fid) o → OnlyTwoBits (f .kind) → Released (f .fid) (unlocksIn f area) (locksOf t) left
       → (PastEnd (locksIn f area) → ⊥) → AllGranted t o (f .fid) (sharedIn f) (locksIn f area) left last → 128 < length last
-      → LockingReason c t f area (status 1 8)
+      → LockingStatus c t f area (status 1 8)
   locking-done : {o : Open} {left last : List Lock} → Admitted c t (f .fid) o → OnlyTwoBits (f .kind) → Released (f .fid) (unlocksIn f area) (locksOf t) left
       → (PastEnd (locksIn f area) → ⊥) → AllGranted t o (f .fid) (sharedIn f) (locksIn f area) left last → length last ≤ 128
-      → LockingReason c t f area (status 0 0)
+      → LockingStatus c t f area (status 0 0)
 
 -- of each command
 unfoldable pub Reason : Caller → Tables → List ℕ → Body → Status → Type 0
-Reason c t area (LockingBody f) n = LockingReason c t f area n
-Reason c t area (ReadBody f) n = ReadReason c t f n
-Reason c t area (WriteBody f) n = WriteReason c t f n
-Reason c t area (Close fid) n = CloseReason c t fid n
-Reason c t area Logoff n = SessionReason c t n
-Reason c t area TreeDisconnect n = TreeReason c t n
-Reason c t area ProcessExit n = SessionReason c t n
+Reason c t area (LockingBody f) n = LockingStatus c t f area n
+Reason c t area (ReadBody f) n = ReadStatus c t f n
+Reason c t area (WriteBody f) n = WriteStatus c t f n
+Reason c t area (Close fid) n = CloseStatus c t fid n
+Reason c t area Logoff n = SessionStatus c t n
+Reason c t area TreeDisconnect n = TreeStatus c t n
+Reason c t area ProcessExit n = SessionStatus c t n
 
 -- ---- 1/33 and other codes
 
@@ -210,6 +216,10 @@ served-is kind h =
     one-of : (n : ℕ) → (n % 2 ≡ 0 → ⊥) → n % 2 ≡ 1
     one-of n g = elim (ℕ-discrete (n % 2) 1) [ yes e ↦ e | no e ↦ absurd (g (omega arith)) ]
 
+-- "lock type bit other than 0x01 and 0x10": the test is just that
+pub served-exact : (kind : ℕ) → (servedType kind ≡ true) ↔ OnlyTwoBits kind
+served-exact kind = (served-means kind, served-is kind)
+
 -- ---- READ
 
 module _ (c : Caller) (t : Tables) (memory : List ℕ) (ok : sound t ≡ true) where
@@ -245,7 +255,7 @@ module _ (c : Caller) (t : Tables) (memory : List ℕ) (ok : sound t ≡ true) w
   read-given-open f h = open-given c t (f .fid) _ h
 
   -- READ: the status has its reason
-  read-reason : (f : ReadFields) → ReadReason c t f (statusIn (doRead c t memory f))
+  read-reason : (f : ReadFields) → ReadStatus c t f (statusIn (doRead c t memory f))
   unfolding statusIn statusOf
   read-reason f =
       elim (open-or c t (f .fid)) [
@@ -260,7 +270,7 @@ module _ (c : Caller) (t : Tables) (memory : List ℕ) (ok : sound t ≡ true) w
       ]
 
   -- and where the reason holds, the status is given
-  read-given : (f : ReadFields) {n : Status} → ReadReason c t f n → statusIn (doRead c t memory f) ≡ n
+  read-given : (f : ReadFields) {n : Status} → ReadStatus c t f n → statusIn (doRead c t memory f) ≡ n
   unfolding statusIn statusOf
   read-given f (read-not h) = read-given-open f h
   read-given f (read-access {o} a e) =
@@ -321,7 +331,7 @@ module _ (c : Caller) (t : Tables) (memory : List ℕ) (ok : sound t ≡ true) w
             )
 
     -- WRITE: the status has its reason
-    write-reason : WriteReason c t f (statusIn (doWrite c t memory f bytes))
+    write-reason : WriteStatus c t f (statusIn (doWrite c t memory f bytes))
     unfolding statusIn statusOf
     write-reason =
         elim (open-or c t (f .fid)) [
@@ -353,7 +363,7 @@ module _ (c : Caller) (t : Tables) (memory : List ℕ) (ok : sound t ≡ true) w
         ]
 
     -- and where the reason holds, the status is given
-    write-given : {n : Status} → WriteReason c t f n → statusIn (doWrite c t memory f bytes) ≡ n
+    write-given : {n : Status} → WriteStatus c t f n → statusIn (doWrite c t memory f bytes) ≡ n
     unfolding statusIn statusOf
     write-given (write-not h) = write-given-open h
     write-given (write-access {o} a e) =
@@ -408,7 +418,7 @@ module _ (c : Caller) (t : Tables) (memory : List ℕ) (ok : sound t ≡ true) w
 
     module _ {o : Open} (a : Admitted c t (f .fid) o) (bits : OnlyTwoBits (f .kind)) where
       grants-reason : {left : List Lock} → Released (f .fid) (unlocksIn f area) (locksOf t) left → (PastEnd (locksIn f area) → ⊥)
-          → (x : Grants) → Granting t o (f .fid) (sharedIn f) (locksIn f area) left x → LockingReason c t f area (ends (afterGrants x))
+          → (x : Grants) → Granting t o (f .fid) (sharedIn f) (locksIn f area) left x → LockingStatus c t f area (ends (afterGrants x))
       unfolding afterGrants settle lockingAfter lockingEnd statusIn statusOf
       grants-reason r low (granted last) (all-granted g) =
           elim (decided (leb (length last) 128)) [
@@ -417,7 +427,7 @@ module _ (c : Caller) (t : Tables) (memory : List ℕ) (ok : sound t ≡ true) w
           ]
       grants-reason r low (blocked k) (one-blocked b) = locking-blocked a bits r low b
 
-      releases-reason : (x : Option (List Lock)) → Releasing (f .fid) (unlocksIn f area) (locksOf t) x → LockingReason c t f area (after-unlocks x)
+      releases-reason : (x : Option (List Lock)) → Releasing (f .fid) (unlocksIn f area) (locksOf t) x → LockingStatus c t f area (after-unlocks x)
       unfolding afterReleases settle lockingAfter lockingEnd statusIn statusOf
       releases-reason none (one-unnamed u) = locking-unnamed a bits u
       releases-reason (some left) (all-released r) =
@@ -429,7 +439,7 @@ module _ (c : Caller) (t : Tables) (memory : List ℕ) (ok : sound t ≡ true) w
           ]
 
     -- LOCKING: the status has its reason
-    locking-reason : LockingReason c t f area (statusIn (doLocking c t memory f area))
+    locking-reason : LockingStatus c t f area (statusIn (doLocking c t memory f area))
     locking-reason =
         elim (open-or c t (f .fid)) [
           | inl h ↦ rw (locking-given-open (h .1)) (locking-not (h .1))
@@ -458,7 +468,7 @@ module _ (c : Caller) (t : Tables) (memory : List ℕ) (ok : sound t ≡ true) w
         rw (fails (any rangePasses (locksIn f area)) (λ e. low (past-means (locksIn f area) e))) at (locking-released a bits r)
 
     -- and where the reason holds, the status is given
-    locking-given : {n : Status} → LockingReason c t f area n → statusIn (doLocking c t memory f area) ≡ n
+    locking-given : {n : Status} → LockingStatus c t f area n → statusIn (doLocking c t memory f area) ≡ n
     unfolding afterReleases afterGrants settle lockingAfter lockingEnd statusIn statusOf
     locking-given (locking-not h) = locking-given-open h
     locking-given (locking-type {o} a h) =
@@ -480,40 +490,40 @@ module _ (c : Caller) (t : Tables) (memory : List ℕ) (ok : sound t ≡ true) w
 
   -- ---- the others
 
-  close-reason : (fid : ℕ) (next : Open → Given) → ((o : Open) → statusIn (next o) ≡ status 0 0) → CloseReason c t fid (statusIn (withOpen c t fid next))
+  close-reason : (fid : ℕ) (next : Open → Given) → ((o : Open) → statusIn (next o) ≡ status 0 0) → CloseStatus c t fid (statusIn (withOpen c t fid next))
   close-reason fid next zero =
       elim (open-or c t fid) [
         | inl h ↦ rw (open-given c t fid next (h .1)) (close-not (h .1))
         | inr (k, may, a) ↦ rw (with-open c t fid k next may, zero (getD (opensOf t) k noOpen)) (close-done a)
       ]
 
-  close-given : (fid : ℕ) (next : Open → Given) → ((o : Open) → statusIn (next o) ≡ status 0 0) → {n : Status} → CloseReason c t fid n → statusIn (withOpen c t fid next) ≡ n
+  close-given : (fid : ℕ) (next : Open → Given) → ((o : Open) → statusIn (next o) ≡ status 0 0) → {n : Status} → CloseStatus c t fid n → statusIn (withOpen c t fid next) ≡ n
   close-given fid next zero (close-not h) = open-given c t fid next h
   close-given fid next zero (close-done {o} a) =
       let m = admitted-may c t fid ok o a in
       ap statusIn (with-open c t fid (m .0) next (m .1)) ∙ zero (getD (opensOf t) (m .0) noOpen)
 
-  session-reason : (next : Given) → statusIn next ≡ status 0 0 → SessionReason c t (statusIn (withSession c t next))
+  session-reason : (next : Given) → statusIn next ≡ status 0 0 → SessionStatus c t (statusIn (withSession c t next))
   session-reason next zero =
       elim (session-or c t) [
         | inl h ↦ rw (session-given c t next (h .1)) (session-not (h .1))
-        | inr s ↦ rw (with-session c t next s, zero) (session-done s)
+        | inr s ↦ rw (with-session c t next s, zero) (session-there s)
       ]
 
-  session-is : (next : Given) → statusIn next ≡ status 0 0 → {n : Status} → SessionReason c t n → statusIn (withSession c t next) ≡ n
+  session-is : (next : Given) → statusIn next ≡ status 0 0 → {n : Status} → SessionStatus c t n → statusIn (withSession c t next) ≡ n
   session-is next zero (session-not h) = session-given c t next h
-  session-is next zero (session-done s) = ap statusIn (with-session c t next s) ∙ zero
+  session-is next zero (session-there s) = ap statusIn (with-session c t next s) ∙ zero
 
-  tree-reason : (next : Given) → statusIn next ≡ status 0 0 → TreeReason c t (statusIn (withTree c t next))
+  tree-reason : (next : Given) → statusIn next ≡ status 0 0 → TreeStatus c t (statusIn (withTree c t next))
   tree-reason next zero =
       elim (tree-or c t) [
         | inl h ↦ rw (tree-given c t next (h .1)) (tree-not (h .1))
-        | inr (s, r) ↦ rw (with-tree c t next s r, zero) (tree-done s r)
+        | inr (s, r) ↦ rw (with-tree c t next s r, zero) (tree-there s r)
       ]
 
-  tree-is : (next : Given) → statusIn next ≡ status 0 0 → {n : Status} → TreeReason c t n → statusIn (withTree c t next) ≡ n
+  tree-is : (next : Given) → statusIn next ≡ status 0 0 → {n : Status} → TreeStatus c t n → statusIn (withTree c t next) ≡ n
   tree-is next zero (tree-not h) = tree-given c t next h
-  tree-is next zero (tree-done s r) = ap statusIn (with-tree c t next s r) ∙ zero
+  tree-is next zero (tree-there s r) = ap statusIn (with-tree c t next s r) ∙ zero
 
 -- ---- all seven
 

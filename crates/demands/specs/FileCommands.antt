@@ -87,7 +87,7 @@ module _ (c : Caller) (t : Tables) (memory : List ℕ) (full : length memory ≡
   -- ---- WRITE
 
   -- it leaves what the definitions say of the open's file, inside the file's room, and says the count
-  write-left : {said : Said} (f : WriteFields) (bytes : List ℕ) (o : Open) → Admitted c t (f .fid) o → doWrite c t memory f bytes ≡ done u m said
+  pub write-left : {said : Said} (f : WriteFields) (bytes : List ℕ) (o : Open) → Admitted c t (f .fid) o → doWrite c t memory f bytes ≡ done u m said
       → (endsPast (f .offset) (f .count) ≡ false) × (u ≡ resized t (o .file) (f .offset) (f .count)) × (m ≡ written t memory (o .file) (f .offset) bytes) × (said ≡ wrote (f .count))
   unfolding doWrite
   write-left f bytes o a e =
@@ -97,7 +97,11 @@ module _ (c : Caller) (t : Tables) (memory : List ℕ) (full : length memory ≡
       let d = rw (w .2) at (s .1) in
       (s .0, cc, cc, cc)
 
-  -- a write of some bytes
+  -- "WRITE: 6 words: AndX, count, ..": the count that its reply block says is the one asked for, whether 0 or more
+  pub write-says : {said : Said} (f : WriteFields) (bytes : List ℕ) (o : Open) → Admitted c t (f .fid) o → doWrite c t memory f bytes ≡ done u m said → said ≡ wrote (f .count)
+  write-says f bytes o a e = write-left f bytes o a e .3
+
+  -- a write of some bytes; what it says is `write-says`
   pub write-leaves : {said : Said} (f : WriteFields) (bytes : List ℕ) (o : Open) → Admitted c t (f .fid) o → length bytes ≡ f .count → 1 ≤ f .count
       → doWrite c t memory f bytes ≡ done u m said → WroteFile t u (o .file) (f .offset) bytes memory m
   write-leaves f bytes o a n some-bytes e =
@@ -112,7 +116,7 @@ module _ (c : Caller) (t : Tables) (memory : List ℕ) (full : length memory ≡
         other-tables = resized-records t (o .file) (f .offset) (f .count) some-bytes;
       })
 
-  -- "Length 0 writes nothing, changes no size"
+  -- "Length 0 writes nothing, changes no size"; what it says is `write-says`
   pub write-nothing : {said : Said} (f : WriteFields) (bytes : List ℕ) (o : Open) → Admitted c t (f .fid) o → length bytes ≡ f .count → f .count ≡ 0
       → doWrite c t memory f bytes ≡ done u m said → (u ≡ t) × (m ≡ memory)
   write-nothing f bytes o a n z e =

@@ -24,7 +24,9 @@ pub mod LoneCall
 pub mod LockWords
 pub mod CommandReasons
 pub mod ReasonCalls
+pub mod ChainReasons
 pub mod FileBytes
 pub mod SentenceCases
 pub mod Reached
 pub mod FileCommands
+pub mod LockLeaves

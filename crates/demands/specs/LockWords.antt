@@ -20,7 +20,7 @@ use Rattle.records.specs.declared.Lock.{Lock}
 use Rattle.records.specs.declared.Tables.{Tables}
 use Rattle.records.specs.Empty.{noLock}
 use Rattle.records.specs.Held.{opensOf}
-use Rattle.locks.specs.Range.{Overlap, overlaps, passesEnd, overlap-iff}
+use Rattle.locks.specs.Range.{overlaps, passesEnd, overlap-iff}
 use Rattle.locks.specs.Answer.{owns, bars, inWay, named, answersFor, answers}
 use Rattle.locks.specs.Request.{askOf, lockOf, removeAt, afterFind, releaseAll, Grants, granted, blocked, afterWalk, grantAll, rangePasses}
 use Rattle.locks.specs.declared.types.LockRange.{LockRange}
@@ -30,7 +30,7 @@ use Rattle.soundness.specs.Sound.{sound}
 use Rattle.claims.specs.SoundParts.{sound-says}
 use Rattle.claims.specs.SoundPlain.{fileOf-one}
 use Rattle.demands.specs.FoundFacts.{found-hit, found-miss}
-use Rattle.demands.specs.LoneLock.{OfFile}
+use Rattle.demands.specs.LoneLock.{BarsLock}
 
 -- ---- unlocks
 
@@ -208,24 +208,17 @@ past-is rs w = one-any rangePasses (w .1) (lt-ltb (2 ^ 64) (w .0 .offset + w .0 
 
 -- ---- locks
 
--- a lock of the list stands in the way of a range: it is of that file and overlaps, and the two are not both shared
-pub record Stands (t : Tables) (o : Open) (shared : Bool) (r : LockRange) (list : List Lock) : Type 0 where
-  pub lock : Lock
-  pub listed : In lock list
-  pub of-file : OfFile t o lock
-  pub overlap : Overlap (lock .offset) (lock .length) (r .offset) (r .length)
-  pub clash : (lock .shared ≡ true) × (shared ≡ true) → ⊥
-
--- "Then locks in order, each against the list as it stands, the asker's own locks included, however long it gets": nothing stands in the way of any
+-- "Then locks in order, each against the list as it stands, the asker's own locks included, however long it gets": no lock of the list is in the way of any
+-- (`BarsLock` in LoneLock.antt)
 pub data AllGranted (t : Tables) (o : Open) (fid : ℕ) (shared : Bool) : List LockRange → List Lock → List Lock → Type 0 where
   none-to-grant : {list : List Lock} → AllGranted t o fid shared [] list list
-  grant-then : {r : LockRange} {rs : List LockRange} {list last : List Lock} → (Stands t o shared r list → ⊥)
+  grant-then : {r : LockRange} {rs : List LockRange} {list last : List Lock} → (BarsLock t o list shared r → ⊥)
       → AllGranted t o fid shared rs (list ++ (lockOf fid shared r ∷ [])) last → AllGranted t o fid shared (r ∷ rs) list last
 
--- or something does
+-- or one is in the way
 pub data OneBlocked (t : Tables) (o : Open) (fid : ℕ) (shared : Bool) : List LockRange → List Lock → Type 0 where
-  blocked-here : {r : LockRange} {rs : List LockRange} {list : List Lock} → Stands t o shared r list → OneBlocked t o fid shared (r ∷ rs) list
-  blocked-later : {r : LockRange} {rs : List LockRange} {list : List Lock} → (Stands t o shared r list → ⊥)
+  blocked-here : {r : LockRange} {rs : List LockRange} {list : List Lock} → BarsLock t o list shared r → OneBlocked t o fid shared (r ∷ rs) list
+  blocked-later : {r : LockRange} {rs : List LockRange} {list : List Lock} → (BarsLock t o list shared r → ⊥)
       → OneBlocked t o fid shared rs (list ++ (lockOf fid shared r ∷ [])) → OneBlocked t o fid shared (r ∷ rs) list
 
 -- each lock's FID is an open's
@@ -251,9 +244,9 @@ module _ (t : Tables) (ok : sound t ≡ true) (o : Open) (fid : ℕ) (there-is :
     abbrev in-way : Lock → Bool
     in-way l = answers file-of (askOf fid (Grant shared) r) l
 
-    stands-means : (list : List Lock) → Opened t list → (l : Lock) → In l list → in-way l ≡ true → Stands t o shared r list
+    bars-means : (list : List Lock) → Opened t list → (l : Lock) → In l list → in-way l ≡ true → BarsLock t o list shared r
     unfolding answers answersFor askOf inWay bars Opened
-    stands-means list opened l m e =
+    bars-means list opened l m e =
         let a = both-hold (overlaps (l .offset) (l .length) (r .offset) (r .length)) (not (l .shared && shared) && eqb (file-of (l .fid)) (file-of fid)) e in
         let b = both-hold (not (l .shared && shared)) (eqb (file-of (l .fid)) (file-of fid)) (a .1) in
         let p = opened l m in
@@ -265,9 +258,9 @@ module _ (t : Tables) (ok : sound t ≡ true) (o : Open) (fid : ℕ) (there-is :
           clash = λ s. not-decided-twice (l .shared && shared) (hold-both (l .shared) shared (s .0) (s .1)) (not-true (l .shared && shared) (b .0));
         }
 
-    stands-is : (list : List Lock) (s : Stands t o shared r list) → in-way (s .lock) ≡ true
+    bars-is : (list : List Lock) (s : BarsLock t o list shared r) → in-way (s .lock) ≡ true
     unfolding answers answersFor askOf inWay bars
-    stands-is list s =
+    bars-is list s =
         let p = s .of-file in
         let same : file-of (s .lock .fid) ≡ file-of fid = ap file-of (sym (p .2)) ∙ file-one (p .1) ∙ p .3 ∙ sym file-asked in
         hold-both (overlaps (s .lock .offset) (s .lock .length) (r .offset) (r .length)) (not (s .lock .shared && shared) && eqb (file-of (s .lock .fid)) (file-of fid))
@@ -276,11 +269,11 @@ module _ (t : Tables) (ok : sound t ≡ true) (o : Open) (fid : ℕ) (there-is :
         (not-holds (s .lock .shared && shared) (fails (s .lock .shared && shared) (λ e. s .clash (both-hold (s .lock .shared) shared e))))
         (eq-eqb (file-of (s .lock .fid)) (file-of fid) same))
 
-    found-stands : (list : List Lock) → Opened t list → (k : ℕ) → found in-way list ≡ At k → Stands t o shared r list
-    found-stands list opened k e = let h = found-hit in-way list k noLock e in stands-means list opened (getD list k noLock) (h .listed) (h .passes)
+    found-bars : (list : List Lock) → Opened t list → (k : ℕ) → found in-way list ≡ At k → BarsLock t o list shared r
+    found-bars list opened k e = let h = found-hit in-way list k noLock e in bars-means list opened (getD list k noLock) (h .listed) (h .passes)
 
-    none-stands : (list : List Lock) → found in-way list ≡ Nothing → Stands t o shared r list → ⊥
-    none-stands list e s = not-decided-twice (in-way (s .lock)) (stands-is list s) (found-miss in-way (s .listed) e)
+    none-bars : (list : List Lock) → found in-way list ≡ Nothing → BarsLock t o list shared r → ⊥
+    none-bars list e s = not-decided-twice (in-way (s .lock)) (bars-is list s) (found-miss in-way (s .listed) e)
 
     -- the list with the lock granted
     opened-more : (list : List Lock) → Opened t list → Opened t (list ++ (lockOf fid shared r ∷ []))
@@ -294,20 +287,20 @@ module _ (t : Tables) (ok : sound t ≡ true) (o : Open) (fid : ℕ) (there-is :
     walk-granting : (rs : List LockRange) (list : List Lock) → Opened t list → (x : Found) → found in-way list ≡ x → (next : Grants)
         → Granting t o fid shared rs (list ++ (lockOf fid shared r ∷ [])) next → Granting t o fid shared (r ∷ rs) list (afterWalk x next)
     unfolding afterWalk
-    walk-granting rs list opened (At k) e next g = one-blocked (blocked-here (found-stands list opened k e))
-    walk-granting rs list opened Nothing e (granted last) (all-granted a) = all-granted (grant-then (none-stands list e) a)
-    walk-granting rs list opened Nothing e (blocked k) (one-blocked a) = one-blocked (blocked-later (none-stands list e) a)
+    walk-granting rs list opened (At k) e next g = one-blocked (blocked-here (found-bars list opened k e))
+    walk-granting rs list opened Nothing e (granted last) (all-granted a) = all-granted (grant-then (none-bars list e) a)
+    walk-granting rs list opened Nothing e (blocked k) (one-blocked a) = one-blocked (blocked-later (none-bars list e) a)
 
-    -- nothing stands in the way: the walk finds nothing
-    stands-none : (list : List Lock) → Opened t list → (x : Found) → found in-way list ≡ x → (Stands t o shared r list → ⊥) → (next : Grants) → afterWalk x next ≡ next
+    -- none is in the way: the walk finds nothing
+    bars-none : (list : List Lock) → Opened t list → (x : Found) → found in-way list ≡ x → (BarsLock t o list shared r → ⊥) → (next : Grants) → afterWalk x next ≡ next
     unfolding afterWalk
-    stands-none list opened (At k) e h next = absurd (h (found-stands list opened k e))
-    stands-none list opened Nothing e h next = refl
+    bars-none list opened (At k) e h next = absurd (h (found-bars list opened k e))
+    bars-none list opened Nothing e h next = refl
 
-    stands-some : (list : List Lock) (x : Found) → found in-way list ≡ x → Stands t o shared r list → (next : Grants) → (k : ℕ) × (afterWalk x next ≡ blocked k)
+    bars-some : (list : List Lock) (x : Found) → found in-way list ≡ x → BarsLock t o list shared r → (next : Grants) → (k : ℕ) × (afterWalk x next ≡ blocked k)
     unfolding afterWalk
-    stands-some list (At k) e s next = (k, refl)
-    stands-some list Nothing e s next = absurd (none-stands list e s)
+    bars-some list (At k) e s next = (k, refl)
+    bars-some list Nothing e s next = absurd (none-bars list e s)
 
   pub grant-means : (rs : List LockRange) (list : List Lock) → Opened t list → Granting t o fid shared rs list (grantAll file-of fid shared rs list)
   unfolding grantAll
@@ -320,12 +313,12 @@ module _ (t : Tables) (ok : sound t ≡ true) (o : Open) (fid : ℕ) (there-is :
   unfolding grantAll
   granted-is opened none-to-grant = refl
   granted-is opened (grant-then {r} {rs} {list} h a) =
-      stands-none r list opened (found (in-way r) list) refl h (grantAll file-of fid shared rs (list ++ (lockOf fid shared r ∷ [])))
+      bars-none r list opened (found (in-way r) list) refl h (grantAll file-of fid shared rs (list ++ (lockOf fid shared r ∷ [])))
       ∙ granted-is (opened-more r list opened) a
 
   pub blocked-is : {rs : List LockRange} {list : List Lock} → Opened t list → OneBlocked t o fid shared rs list → (k : ℕ) × (grantAll file-of fid shared rs list ≡ blocked k)
   unfolding grantAll
-  blocked-is opened (blocked-here {r} {rs} {list} s) = stands-some r list (found (in-way r) list) refl s (grantAll file-of fid shared rs (list ++ (lockOf fid shared r ∷ [])))
+  blocked-is opened (blocked-here {r} {rs} {list} s) = bars-some r list (found (in-way r) list) refl s (grantAll file-of fid shared rs (list ++ (lockOf fid shared r ∷ [])))
   blocked-is opened (blocked-later {r} {rs} {list} h b) =
       let w = blocked-is (opened-more r list opened) b in
-      (w .0, stands-none r list opened (found (in-way r) list) refl h (grantAll file-of fid shared rs (list ++ (lockOf fid shared r ∷ []))) ∙ w .1)
+      (w .0, bars-none r list opened (found (in-way r) list) refl h (grantAll file-of fid shared rs (list ++ (lockOf fid shared r ∷ []))) ∙ w .1)

@@ -4,7 +4,7 @@ use mathlib.Core.Path.{_≡_, refl, sym, ap, _∙_}
 use mathlib.Core.Logic.{_↔_}
 use Prim.Native.Nat.{ℕ, _+_, _*_, _/_, _%_, _^_, _≤_}
 use native.Mathlib.Omega.{arith}
-use mathlib.Core.Bool.{true, false}
+use mathlib.Core.Bool.{false}
 use mathlib.Core.List.{List, [], _∷_}
 use mathlib.Core.Option.{some}
 use lib.ListN.{length, take, drop, getD, length-append}
@@ -12,7 +12,7 @@ use lib.Dec.{eqb}
 use borrow.Author.Tests.{eq-eqb, ne-eqb, le-ltb}
 use Rattle.records.specs.declared.Open.{Open}
 use Rattle.records.specs.Empty.{noOpen}
-use Rattle.records.specs.Held.{opensOf}
+use Rattle.records.specs.Held.{opensOf, locksOf}
 use Rattle.records.specs.declared.Tables.{Tables}
 use Rattle.locks.specs.Range.{passesEnd}
 use Rattle.locks.specs.Wire.{rangeSize}
@@ -37,13 +37,14 @@ use Rattle.message.specs.declared.refusal.Status.{Status}
 use Rattle.message.specs.declared.refusal.Refusal.{Refusal}
 use Rattle.message.specs.declared.refusal.Refusal.the-variants.{NotServed, NotSentence, NoSession, NoTree, NoOpen, NoAccess, LockType, NoSuchLock, PassesEnd, Conflict, NoRecord, NoSpace}
 use Rattle.message.specs.declared.caller.Caller.{Caller}
-use Rattle.message.specs.Command.{Said, locked, loggedOff, read, wrote, plain, Given, refused, done, servedType, doLocking, doRead, doWrite, perform}
+use Rattle.message.specs.Command.{Said, locked, loggedOff, read, wrote, plain, Given, refused, done, doLocking, doRead, doWrite, perform}
 use Rattle.message.specs.Reply.{replyBlock, refusedBlock, replySize}
 use Rattle.message.specs.Message.{areaOf, dataOf, Ran, after, linkTo, afterGiven, run, Taken, take-message}
 use Rattle.demands.specs.Malformed.{length-area}
 use Rattle.demands.specs.ReplySize.{length-block}
-use Rattle.demands.specs.LoneLock.{Conflicts, Owner, InWay, read-conflict, write-conflict, loneRange, loneShared, lock-conflict}
+use Rattle.demands.specs.LoneLock.{Conflicts, BarsLock, read-conflict, write-conflict, loneRange, loneShared, lock-conflict}
 use Rattle.demands.specs.Admitted.{Admitted, admitted-may}
+use Rattle.demands.specs.CommandReasons.{BarsRead, BarsWrite, OnlyTwoBits, served-exact}
 use Rattle.demands.specs.Taken.{Fit}
 use Rattle.demands.specs.Calls.{statusRead, status-call, sentence-answered, length-call}
 
@@ -54,7 +55,7 @@ FirstConflict call = (statusRead (call .room) ≡ status 1 33) × (call .length 
 
 -- "a listed lock of that file overlaps it and the two aren't both shared"
 abbrev pub LoneInWay : Tables → Open → LockingFields → List ℕ → Type 0
-LoneInWay t o f area = InWay t o (loneRange f area .offset) (loneRange f area .length) (λ l. (l .shared ≡ true) × (loneShared f ≡ true) → ⊥)
+LoneInWay t o f area = BarsLock t o (locksOf t) (loneShared f) (loneRange f area)
 
 -- "within range": the lone range does not pass 2^64
 abbrev pub WithinRange : LockingFields → List ℕ → Type 0
@@ -188,34 +189,34 @@ module _ (connection : ℕ) (s : List ℕ) (b : Block) (bs : List Block) (e : bl
   module _ (o : Open) where
     -- "A lock alone in its request, of a served type, on a valid open and within range, is refused for conflict exactly when a listed lock of that file
     -- overlaps it and the two aren't both shared": whatever commands follow LOCKING in the message. (None may come before it.)
-    pub lone-lock-call : (f : LockingFields) → b .body ≡ LockingBody f → Admitted (callerOf connection s) t (f .fid) o → f .unlocks ≡ 0 → f .locks ≡ 1 → servedType (f .kind) ≡ true
+    pub lone-lock-call : (f : LockingFields) → b .body ≡ LockingBody f → Admitted (callerOf connection s) t (f .fid) o → f .unlocks ≡ 0 → f .locks ≡ 1 → OnlyTwoBits (f .kind)
         → WithinRange f (areaOf s b) → FirstConflict (take-message connection s t memory room) ↔ LoneInWay t o f (areaOf s b)
     unfolding perform blocks rangePasses passesEnd
-    lone-lock-call f body valid u l kind low =
+    lone-lock-call f body valid u l bits low =
         let m = admitted-may (callerOf connection s) t (f .fid) (fit .tables-sound) o valid in
         let n : length (areaOf s b) ≡ 1 * rangeSize (eqb (f .kind / 16 % 2) 1) =
         area-first (read-chained s (headerCommand s) FIRST (b ∷ bs) e) b bs refl f body ∙ rw (u, l) in
         first-says (doLocking (callerOf connection s) t memory f (areaOf s b)) (ap (λ (x : Body). perform (callerOf connection s) t memory x (areaOf s b) (dataOf s b)) body)
-        (rw (m .2) at (lock-conflict (callerOf connection s) t memory (m .0) (fit .tables-sound) f (areaOf s b) (m .1) u l kind n
+        (rw (m .2) at (lock-conflict (callerOf connection s) t memory (m .0) (fit .tables-sound) f (areaOf s b) (m .1) u l (served-exact (f .kind) .1 bits) n
         (le-ltb (2 ^ 64) (loneRange f (areaOf s b) .offset + loneRange f (areaOf s b) .length) low)))
 
-    -- "A read is refused 1/33 exactly if an exclusive lock of another owner overlaps offset and max", on an open that may be read
-    pub lone-read-call : (f : ReadFields) → b .body ≡ ReadBody f → Admitted (callerOf connection s) t (f .fid) o → (o .access ≡ 1 → ⊥)
+    -- "A read is refused 1/33 exactly if an exclusive lock of another owner overlaps offset and max", on an open that may be read: where READ is the first command
+    pub first-read-call : (f : ReadFields) → b .body ≡ ReadBody f → Admitted (callerOf connection s) t (f .fid) o → (o .access ≡ 1 → ⊥)
         → FirstConflict (take-message connection s t memory room)
-        ↔ InWay t o (f .offset) (f .max) (λ l. (l .shared ≡ false) × (Owner (f .fid) (callerOf connection s .process) l → ⊥))
+        ↔ BarsRead (callerOf connection s) t f o
     unfolding perform
-    lone-read-call f body valid access =
+    first-read-call f body valid access =
         let m = admitted-may (callerOf connection s) t (f .fid) (fit .tables-sound) o valid in
         let a : eqb (getD (opensOf t) (m .0) noOpen .access) 1 ≡ false = rw (m .2) (ne-eqb (o .access) 1 access) in
         first-says (doRead (callerOf connection s) t memory f) (ap (λ (x : Body). perform (callerOf connection s) t memory x (areaOf s b) (dataOf s b)) body)
         (rw (m .2) at (read-conflict (callerOf connection s) t memory (m .0) (fit .tables-sound) f (m .1) a))
 
-    -- "A write is refused 1/33 exactly if any lock overlaps it save the writer's own exclusive ones", on an open that may be written
-    pub lone-write-call : (f : WriteFields) → b .body ≡ WriteBody f → Admitted (callerOf connection s) t (f .fid) o → (o .access ≡ 0 → ⊥)
+    -- "A write is refused 1/33 exactly if any lock overlaps it save the writer's own exclusive ones", on an open that may be written: where WRITE is the first command
+    pub first-write-call : (f : WriteFields) → b .body ≡ WriteBody f → Admitted (callerOf connection s) t (f .fid) o → (o .access ≡ 0 → ⊥)
         → FirstConflict (take-message connection s t memory room)
-        ↔ InWay t o (f .offset) (f .count) (λ l. (l .shared ≡ false) × Owner (f .fid) (callerOf connection s .process) l → ⊥)
+        ↔ BarsWrite (callerOf connection s) t f o
     unfolding perform
-    lone-write-call f body valid access =
+    first-write-call f body valid access =
         let m = admitted-may (callerOf connection s) t (f .fid) (fit .tables-sound) o valid in
         let a : eqb (getD (opensOf t) (m .0) noOpen .access) 0 ≡ false = rw (m .2) (ne-eqb (o .access) 0 access) in
         first-says (doWrite (callerOf connection s) t memory f (dataOf s b)) (ap (λ (x : Body). perform (callerOf connection s) t memory x (areaOf s b) (dataOf s b)) body)
@@ -251,9 +252,9 @@ module _ (connection : ℕ) (s : List ℕ) (b : Block) (e : blocks s ≡ some (b
 
   -- "A lock alone in its request, of a served type, on a valid open and within range, is refused for conflict exactly when a listed lock of that file
   -- overlaps it and the two aren't both shared": 1/33 in the reply
-  pub lone-lock-alone : (o : Open) (f : LockingFields) → b .body ≡ LockingBody f → Admitted (callerOf connection s) t (f .fid) o → f .unlocks ≡ 0 → f .locks ≡ 1 → servedType (f .kind) ≡ true
+  pub lone-lock-alone : (o : Open) (f : LockingFields) → b .body ≡ LockingBody f → Admitted (callerOf connection s) t (f .fid) o → f .unlocks ≡ 0 → f .locks ≡ 1 → OnlyTwoBits (f .kind)
       → WithinRange f (areaOf s b) → (statusRead (take-message connection s t memory room .room) ≡ status 1 33) ↔ LoneInWay t o f (areaOf s b)
-  lone-lock-alone o f body valid u l kind low = one-says (lone-lock-call connection s b [] e t memory room fit o f body valid u l kind low)
+  lone-lock-alone o f body valid u l bits low = one-says (lone-lock-call connection s b [] e t memory room fit o f body valid u l bits low)
 
 -- ---- the same of a message's bytes
 
@@ -280,14 +281,14 @@ first-block {s} (chained-more {command} {at} {c} {a} {rest} h l r) =
 
 -- of any reading, with the fields where the layout has them
 pub lone-lock-reading : (connection : ℕ) (s : List ℕ) {spans : List Span} → Reading s spans → (t : Tables) (memory room : List ℕ) → Fit s t memory room → (o : Open)
-    → headerCommand s ≡ LOCKING → unlockCount s FIRST ≡ 0 → lockCount s FIRST ≡ 1 → servedType (lockType s FIRST) ≡ true
+    → headerCommand s ≡ LOCKING → unlockCount s FIRST ≡ 0 → lockCount s FIRST ≡ 1 → OnlyTwoBits (lockType s FIRST)
     → Admitted (callerOf connection s) t (fidAfterAndx s FIRST) o → WithinRange (lockingFields s) (lockingArea s)
     → FirstConflict (take-message connection s t memory room) ↔ LoneInWay t o (lockingFields s) (lockingArea s)
 unfolding blocks bodyAt areaOf
-lone-lock-reading connection s r t memory room fit o command u l kind valid low =
+lone-lock-reading connection s r t memory room fit o command u l bits valid low =
     let a = reader-complete r in
     let q = first-block (read-chained s (headerCommand s) FIRST (a .0) (a .1)) in
     let body : q .block .body ≡ LockingBody (lockingFields s) = q .holds ∙ ap (λ (n : ℕ). bodyAt s n FIRST) command in
     let area : areaOf s (q .block) ≡ lockingArea s = ap (λ (n : ℕ). take (byteCount s n) (drop (byteArea s n) s)) (q .stands) in
     rw area at
-    (lone-lock-call connection s (q .block) (q .later) (a .1 ∙ ap some (q .is-first)) t memory room fit o (lockingFields s) body valid u l kind (rw area low))
+    (lone-lock-call connection s (q .block) (q .later) (a .1 ∙ ap some (q .is-first)) t memory room fit o (lockingFields s) body valid u l bits (rw area low))

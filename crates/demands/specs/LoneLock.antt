@@ -59,13 +59,17 @@ OfFile t o l = (p : Open) × In p (opensOf t) × (p .fid ≡ l .fid) × (p .file
 abbrev pub Owner : ℕ → ℕ → Lock → Type 0
 Owner fid process l = (l .fid ≡ fid) × (l .process ≡ process)
 
--- a listed lock of that file that overlaps the range and clashes with what is asked
-pub record InWay (t : Tables) (o : Open) (offset size : ℕ) (Clash : Lock → Type 0) : Type 0 where
+-- a lock of the list, of the open's file, that overlaps the range and clashes with what is asked
+pub record InWay (t : Tables) (o : Open) (list : List Lock) (offset size : ℕ) (Clash : Lock → Type 0) : Type 0 where
   pub lock : Lock
-  pub listed : In lock (locksOf t)
+  pub listed : In lock list
   pub of-file : OfFile t o lock
   pub overlap : Overlap (lock .offset) (lock .length) offset size
   pub clash : Clash lock
+
+-- one that is in the way of a lock asked for: "overlaps it and the two aren't both shared"
+abbrev pub BarsLock : Tables → Open → List Lock → Bool → LockRange → Type 0
+BarsLock t o list shared r = InWay t o list (r .offset) (r .length) (λ l. (l .shared ≡ true) × (shared ≡ true) → ⊥)
 
 -- ---- a walk that finds one
 
@@ -132,7 +136,7 @@ module _ (c : Caller) (t : Tables) (fid k : ℕ) (may : May c t fid k) where
     -- some listed lock answers the question exactly if one is in the way
     module _ (q : Ask) (of : q .fid ≡ fid) (Clash : Lock → Type 0) (exact : (l : Lock) → (bars (q .purpose) q l ≡ true) ↔ Clash l)
         (asks : (l : Lock) → answers (fileOf (opensOf t)) q l ≡ inWay (fileOf (opensOf t)) q l) where
-      hit-way : (j : ℕ) → found (answers (fileOf (opensOf t)) q) (locksOf t) ≡ At j → (d : Lock) → InWay t asked (q .offset) (q .length) Clash
+      hit-way : (j : ℕ) → found (answers (fileOf (opensOf t)) q) (locksOf t) ≡ At j → (d : Lock) → InWay t asked (locksOf t) (q .offset) (q .length) Clash
       unfolding inWay
       hit-way j e d =
           let h = found-hit (answers (fileOf (opensOf t)) q) (locksOf t) j d e in
@@ -147,7 +151,7 @@ module _ (c : Caller) (t : Tables) (fid k : ℕ) (may : May c t fid k) where
             clash = exact (getD (locksOf t) j d) .0 (v .0);
           }
 
-      way-hit : InWay t asked (q .offset) (q .length) Clash → (j : ℕ) × (found (answers (fileOf (opensOf t)) q) (locksOf t) ≡ At j)
+      way-hit : InWay t asked (locksOf t) (q .offset) (q .length) Clash → (j : ℕ) × (found (answers (fileOf (opensOf t)) q) (locksOf t) ≡ At j)
       unfolding inWay
       way-hit w =
           some-at (answers (fileOf (opensOf t)) q) (locksOf t) (found (answers (fileOf (opensOf t)) q) (locksOf t)) refl (w .listed)
@@ -174,7 +178,7 @@ module _ (c : Caller) (t : Tables) (memory : List ℕ) (k : ℕ) (ok : sound t �
   -- "A read is refused 1/33 exactly if an exclusive lock of another owner overlaps offset and max."
   pub read-conflict : (f : ReadFields) (may : May c t (f .fid) k) → eqb (asked c t (f .fid) k may .access) 1 ≡ false
       → Conflicts (doRead c t memory f)
-      ↔ InWay t (asked c t (f .fid) k may) (f .offset) (f .max) (λ l. (l .shared ≡ false) × (Owner (f .fid) (c .process) l → ⊥))
+      ↔ InWay t (asked c t (f .fid) k may) (locksOf t) (f .offset) (f .max) (λ l. (l .shared ≡ false) × (Owner (f .fid) (c .process) l → ⊥))
   unfolding doRead barring askOf answers answersFor bars
   read-conflict f may access =
       rw (with-open c t (f .fid) k may, access) (
@@ -187,7 +191,7 @@ module _ (c : Caller) (t : Tables) (memory : List ℕ) (k : ℕ) (ok : sound t �
   -- "A write is refused 1/33 exactly if any lock overlaps it save the writer's own exclusive ones."
   pub write-conflict : (f : WriteFields) (bytes : List ℕ) (may : May c t (f .fid) k) → eqb (asked c t (f .fid) k may .access) 0 ≡ false
       → Conflicts (doWrite c t memory f bytes)
-      ↔ InWay t (asked c t (f .fid) k may) (f .offset) (f .count) (λ l. (l .shared ≡ false) × Owner (f .fid) (c .process) l → ⊥)
+      ↔ InWay t (asked c t (f .fid) k may) (locksOf t) (f .offset) (f .count) (λ l. (l .shared ≡ false) × Owner (f .fid) (c .process) l → ⊥)
   unfolding doWrite barring askOf answers answersFor bars
   write-conflict f bytes may access =
       let n : Conflicts (cond (endsPast (f .offset) (f .count)) (refused NoSpace)
@@ -235,7 +239,7 @@ module _ (c : Caller) (t : Tables) (memory : List ℕ) (k : ℕ) (ok : sound t �
   -- of that file overlaps it and the two are not both shared
   pub lock-conflict : f .unlocks ≡ 0 → f .locks ≡ 1 → servedType (f .kind) ≡ true → length area ≡ 1 * rangeSize (eqb (f .kind / 16 % 2) 1) → rangePasses (loneRange f area) ≡ false
       → Conflicts (doLocking c t memory f area)
-      ↔ InWay t (asked c t (f .fid) k may) (loneRange f area .offset) (loneRange f area .length) (λ l. (l .shared ≡ true) × (loneShared f ≡ true) → ⊥)
+      ↔ BarsLock t (asked c t (f .fid) k may) (locksOf t) (loneShared f) (loneRange f area)
   unfolding askFor answers answersFor bars
   lock-conflict u l s n low =
       rw (lone-is u l s n low) (

@@ -96,7 +96,7 @@ compared place sent = record { status = sent .status; tables = sent .tables; mem
 -- ---- one step
 
 -- no refusal has status 0
-refusal-fails : (why : Refusal) → succeeded (statusOf why) ≡ false
+pub refusal-fails : (why : Refusal) → succeeded (statusOf why) ≡ false
 unfolding succeeded statusOf status
 refusal-fails NotServed = refl
 refusal-fails NotSentence = refl

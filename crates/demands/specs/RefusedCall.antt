@@ -5,11 +5,13 @@ use Prim.Native.Nat.{ℕ, _+_, _≤_}
 use native.Mathlib.Omega.{arith}
 use mathlib.Core.Bool.{true}
 use mathlib.Core.Logic.{inl, inr}
-use mathlib.Core.List.{List, [], _∷_, _++_}
+use mathlib.Core.List.{List, [], _∷_, _++_, append-assoc}
 use mathlib.Core.Option.{Option, none, some}
-use lib.ListN.{length, length-append}
-use Rattle.records.specs.declared.Tables.{Tables}
+use lib.ListN.{length, take, drop, length-append}
+use lib.Seq.{drop-append-add, drop-append-le}
+use Rattle.lists.specs.Put.{put}
 use Rattle.lists.specs.Truth.{decided}
+use Rattle.records.specs.declared.Tables.{Tables}
 use Rattle.chain.specs.Layout.{headerCommand, FIRST}
 use Rattle.chain.specs.Chain.{blocks}
 use Rattle.chain.specs.declared.block.Block.{Block}
@@ -19,10 +21,10 @@ use Rattle.message.specs.declared.caller.Caller.{Caller}
 use Rattle.message.specs.Refusal.{status, statusOf}
 use Rattle.message.specs.declared.refusal.Refusal.{Refusal}
 use Rattle.message.specs.Command.{Said, Given, refused, done, perform}
-use Rattle.message.specs.Reply.{replyBlock, refusedBlock, replySize}
-use Rattle.message.specs.Message.{areaOf, dataOf, Ran, after, linkTo, afterGiven, run, served, onlyStatus, Taken, replied, take-message}
-use Rattle.demands.specs.ReplySize.{length-block}
-use Rattle.demands.specs.Taken.{Fit, fit-answered, malformed-taken, not-served-taken}
+use Rattle.message.specs.Reply.{replyHeader, replyBlock, refusedBlock, replySize}
+use Rattle.message.specs.Message.{areaOf, dataOf, Ran, after, linkTo, afterGiven, run, served, onlyStatus, answered, replyOf, Taken, replied, take-message}
+use Rattle.demands.specs.ReplySize.{length-block, length-header}
+use Rattle.demands.specs.Taken.{Fit, fit-answered, not-short, malformed-taken, not-served-taken}
 use Rattle.demands.specs.Calls.{statusRead, status-call, sentence-answered, length-call}
 use Rattle.demands.specs.LoneCall.{given-least}
 
@@ -44,16 +46,17 @@ record Stopped (c : Caller) (s : List ℕ) (bs : List Block) (place : ℕ) (t : 
   tables-left : last .tables ≡ run c s front place t memory .tables
   memory-left : last .memory ≡ run c s front place t memory .memory
   blocks-left : length (last .blocks) ≡ length (run c s front place t memory .blocks) + 3
+  block-behind : drop (length (run c s front place t memory .blocks)) (last .blocks) ≡ refusedBlock
 
 module _ (c : Caller) (s : List ℕ) (b : Block) (bs : List Block) (place : ℕ) (t : Tables) (memory : List ℕ) where
   -- a command that is done, and those after it
-  step-done : (u : Tables) (m : List ℕ) (said : Said) → gives c s b t memory ≡ done u m said
+  pub step-done : (u : Tables) (m : List ℕ) (said : Said) → gives c s b t memory ≡ done u m said
       → run c s (b ∷ bs) place t memory ≡ after (replyBlock said place (linkTo bs (place + replySize said))) (run c s bs (place + replySize said) u m)
   unfolding run afterGiven
   step-done u m said e = rw e
 
   -- one that is refused
-  step-refused : (why : Refusal) → gives c s b t memory ≡ refused why
+  pub step-refused : (why : Refusal) → gives c s b t memory ≡ refused why
       → run c s (b ∷ bs) place t memory ≡ record { status = statusOf why; tables = t; memory = memory; blocks = refusedBlock }
   unfolding run afterGiven
   step-refused why e = rw e
@@ -66,6 +69,12 @@ step-length c s b bs place t memory u m said e =
     ap (λ (r : Ran). length (r .blocks)) (step-done c s b bs place t memory u m said e)
     ∙ length-append (replyBlock said place (linkTo bs (place + replySize said))) (run c s bs (place + replySize said) u m .blocks)
     ∙ ap (λ (n : ℕ). n + length (run c s bs (place + replySize said) u m .blocks)) (length-block said place (linkTo bs (place + replySize said)))
+
+-- what stands behind a block stands behind it with others in front
+behind-more : (block rest : List ℕ) (size k n : ℕ) → length block ≡ size → n ≡ size + k → drop n (block ++ rest) ≡ drop k rest
+behind-more block rest size k n e f =
+    let g : n ≡ length block + k = omega arith in
+    rw g (drop-append-add block rest k)
 
 -- by what the first gives: it is refused, or a later one
 stopped-by : (c : Caller) (s : List ℕ) (b : Block) (bs : List Block) (place : ℕ) (t : Tables) (memory : List ℕ) (g : Given) → gives c s b t memory ≡ g
@@ -86,6 +95,7 @@ stopped-by c s b bs place t memory (refused why) e f =
       tables-left = ap (λ (x : Ran). x .tables) r;
       memory-left = ap (λ (x : Ran). x .memory) r;
       blocks-left = ap (λ (x : Ran). length (x .blocks)) r;
+      block-behind = ap (λ (x : Ran). x .blocks) r;
     }
 stopped-by c s b bs place t memory (done u m said) e f =
     let q = f u m said refl in
@@ -105,6 +115,9 @@ stopped-by c s b bs place t memory (done u m said) e f =
       tables-left = ap (λ (x : Ran). x .tables) whole ∙ q .tables-left ∙ sym (ap (λ (x : Ran). x .tables) part);
       memory-left = ap (λ (x : Ran). x .memory) whole ∙ q .memory-left ∙ sym (ap (λ (x : Ran). x .memory) part);
       blocks-left = n ∙ more (replySize said) _ _ _ k (q .blocks-left);
+      block-behind = ap (λ (x : Ran). drop (length (run c s (b ∷ q .front) place t memory .blocks)) (x .blocks)) whole
+          ∙ behind-more (replyBlock said place (linkTo bs (place + replySize said))) _ (replySize said) _ _ (length-block said place (linkTo bs (place + replySize said))) k
+          ∙ q .block-behind;
     }
   where
     more : (a x y z : ℕ) → z ≡ a + y → x ≡ y + 3 → a + x ≡ z + 3
@@ -136,7 +149,18 @@ pub record RefusedCall (c : Caller) (s : List ℕ) (bs : List Block) (t : Tables
   pub tables-left : call .tables ≡ run c s front FIRST t memory .tables
   pub memory-left : call .memory ≡ run c s front FIRST t memory .memory
   -- "those after it aren't begun": behind the header and the blocks of those before it stands the refused block, and nothing more
+  pub block-left : take 3 (drop (32 + length (run c s front FIRST t memory .blocks)) (call .room)) ≡ refusedBlock
   pub length-left : call .length ≡ 32 + (length (run c s front FIRST t memory .blocks) + 3)
+
+-- a refused block at the end of the reply's blocks, in the room that the reply is laid over
+block-in-room : (header blocks rest : List ℕ) (k : ℕ) → length header ≡ 32 → length blocks ≡ k + 3 → drop k blocks ≡ refusedBlock
+    → take 3 (drop (32 + k) ((header ++ blocks) ++ rest)) ≡ refusedBlock
+unfolding refusedBlock
+block-in-room header blocks rest k h n e =
+    let a : drop (32 + k) ((header ++ blocks) ++ rest) ≡ drop k (blocks ++ rest) =
+    ap (drop (32 + k)) (append-assoc header blocks rest) ∙ behind-more header (blocks ++ rest) 32 k (32 + k) h refl in
+    let b : drop k (blocks ++ rest) ≡ refusedBlock ++ rest = drop-append-le k blocks rest (omega arith) ∙ ap (λ (x : List ℕ). x ++ rest) e in
+    ap (take 3) (a ∙ b)
 
 module _ (connection : ℕ) (s : List ℕ) (bs : List Block) (e : blocks s ≡ some bs) (t : Tables) (memory room : List ℕ) (fit : Fit s t memory room) where
   -- what the call leaves is what the commands leave
@@ -148,11 +172,23 @@ module _ (connection : ℕ) (s : List ℕ) (bs : List Block) (e : blocks s ≡ s
   unfolding replied
   call-memory = ap (λ (k : Taken). k .memory) (fit-answered connection s t memory room fit) ∙ ap (λ (r : Ran). r .memory) (sentence-answered connection s t memory bs e)
 
-  call-status : statusRead (take-message connection s t memory room .room) ≡ run (callerOf connection s) s bs FIRST t memory .status
+  pub call-status : statusRead (take-message connection s t memory room .room) ≡ run (callerOf connection s) s bs FIRST t memory .status
   call-status = status-call connection s t memory room fit ∙ ap (λ (r : Ran). r .status) (sentence-answered connection s t memory bs e)
 
   call-length : take-message connection s t memory room .length ≡ 32 + length (run (callerOf connection s) s bs FIRST t memory .blocks)
   call-length = length-call connection s t memory room fit ∙ ap (λ (r : Ran). 32 + length (r .blocks)) (sentence-answered connection s t memory bs e)
+
+  -- a refused block at the end of the commands' blocks is one in the reply
+  call-block : (k : ℕ) → length (run (callerOf connection s) s bs FIRST t memory .blocks) ≡ k + 3 → drop k (run (callerOf connection s) s bs FIRST t memory .blocks) ≡ refusedBlock
+      → take 3 (drop (32 + k) (take-message connection s t memory room .room)) ≡ refusedBlock
+  unfolding replied replyOf put
+  call-block k n b =
+      let long : 35 ≤ length s = not-short s (fit .not-dropped) in
+      let same : answered connection s t memory .blocks ≡ run (callerOf connection s) s bs FIRST t memory .blocks =
+      ap (λ (r : Ran). r .blocks) (sentence-answered connection s t memory bs e) in
+      ap (λ (x : Taken). take 3 (drop (32 + k) (x .room))) (fit-answered connection s t memory room fit)
+      ∙ block-in-room (replyHeader s (answered connection s t memory .status)) (answered connection s t memory .blocks) _ k
+      (length-header s (answered connection s t memory .status) (omega arith)) (ap length same ∙ n) (ap (drop k) same ∙ b)
 
   -- "A command refused changes no table and no file byte, its own unlocks included. Commands before it in the chain stand; those after it aren't begun":
   -- a sentence fit to be answered whose reply's Status is not 0/0
@@ -171,6 +207,7 @@ module _ (connection : ℕ) (s : List ℕ) (bs : List Block) (e : blocks s ≡ s
         status-given = call-status ∙ q .status-left;
         tables-left = call-tables ∙ q .tables-left;
         memory-left = call-memory ∙ q .memory-left;
+        block-left = call-block _ (q .blocks-left) (q .block-behind);
         length-left = call-length ∙ ap (λ (k : ℕ). 32 + k) (q .blocks-left);
       }
 
