@@ -141,7 +141,7 @@ pub record Exited (uid process : ℕ) (t after : Tables) : Type 0 where
   pub files : FilesStand t after
 
 -- the sessions of the connection are gone, and trees, opens and locks of sessions that are gone
-pub record Dropped (connection : ℕ) (t after : Tables) : Type 0 where
+pub record ConnectionGone (connection : ℕ) (t after : Tables) : Type 0 where
   pub sessions : sessionsOf after ≡ keep (λ u. not (eqb (u .connection) connection)) (sessionsOf t)
   pub trees : treesOf after ≡ keep (λ r. contains (r .uid) (map uidOf (sessionsOf after))) (treesOf t)
   pub opens : opensOf after ≡ keep (λ o. contains (o .uid) (map uidOf (sessionsOf after))) (opensOf t)
@@ -227,7 +227,7 @@ module _ (t : Tables) (e : sound t ≡ true) where
       }
 
   -- "drop a connection": its sessions, and the trees and opens of those
-  pub drop-plain : (connection : ℕ) → Dropped connection t (remove (Connection connection) t)
+  pub drop-plain : (connection : ℕ) → ConnectionGone connection t (remove (Connection connection) t)
   unfolding sessionNamed treeNamed openNamed sessionStays treeStays openStays
   drop-plain c =
       let s = sound-says t e in

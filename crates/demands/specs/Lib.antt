@@ -30,3 +30,6 @@ pub mod SentenceCases
 pub mod Reached
 pub mod FileCommands
 pub mod LockLeaves
+pub mod DoneCall
+pub mod ReplyBytes
+pub mod CallEffects

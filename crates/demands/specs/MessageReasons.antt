@@ -24,7 +24,8 @@ use Rattle.demands.specs.Taken.{Fit}
 abbrev pub StartsSmb : List ℕ → Type 0
 StartsSmb s = (byteAt s 0 ≡ 0xFF) × (byteAt s 1 ≡ 0x53) × (byteAt s 2 ≡ 0x4D) × (byteAt s 3 ≡ 0x42)
 
--- "message dropped: under 35 or over 8,192 bytes, not starting FF 53 4D 42, or Flags bit 0x80 set": Flags stands at 9, and 0x80 is its highest bit
+-- "message dropped: under 35 or over 8,192 bytes, not starting FF 53 4D 42, or Flags bit 0x80 set": Flags stands at 9. A byte is below 256, so that its bit
+-- 0x80 is set just if it is 128 or more.
 pub data Dropped (s : List ℕ) : Type 0 where
   too-short : length s < 35 → Dropped s
   too-long : 8192 < length s → Dropped s

@@ -1,5 +1,5 @@
 -- "Every call on sound tables leaves sound tables" (document 01, "Tables and room") over all histories: whatever calls a host makes, one after another, from the
--- tables to start from, it never comes to others. Assumes nothing.
+-- tables to start from, with whatever file memory and reply room, it never comes to others. Assumes nothing.
 use mathlib.Core.Path.{_≡_, refl, sym, ap, _∙_}
 use Prim.Native.Nat.{ℕ}
 use mathlib.Core.Bool.{not, _||_}
@@ -70,38 +70,60 @@ take-message-memory connection s t memory room g =
     As-long : Taken → Type 0
     As-long r = length (r .memory) ≡ length memory
 
+-- ---- one call
+
+-- a call on these tables, the host lending that file memory, and the tables and the file memory that it leaves, done or refused: "add a session, tree or open;
+-- load a file; drop a connection; take a message with its connection number"
+pub data HostCall (t : Tables) (memory : List ℕ) : Tables → List ℕ → Type 0 where
+  add-session : (connection : ℕ) → HostCall t memory (addSession t connection .tables) memory
+  add-tree : (uid right : ℕ) → HostCall t memory (addTree t uid right .tables) memory
+  add-open : (uid tid process file access : ℕ) → HostCall t memory (addOpen t uid tid process file access .tables) memory
+  load : (file : ℕ) (bytes : List ℕ) → HostCall t memory (loadFile t file bytes memory .tables) (loadMemory t file bytes memory)
+  drop : (connection : ℕ) → HostCall t memory (dropConnection t connection .tables) memory
+  message : (connection : ℕ) (s room : List ℕ)
+      → HostCall t memory (take-message connection s t memory room .tables) (take-message connection s t memory room .memory)
+
+-- "Every call on sound tables leaves sound tables"
+pub call-good : {t after : Tables} {memory left : List ℕ} → HostCall t memory after left → Good t → Good after
+call-good {t} (add-session c) g = addSession-good t g c
+call-good {t} (add-tree uid right) g = addTree-good t g uid right
+call-good {t} (add-open uid tid process file access) g = addOpen-good t g uid tid process file access
+call-good {t} {memory = memory} (load file bytes) g = loadFile-good t g file bytes memory
+call-good {t} (drop c) g = dropConnection-good t g c
+call-good {t} {memory = memory} (message c s room) g = take-message-good c s t memory room g
+
+-- and the file memory lent as long as it was
+pub call-memory : {t after : Tables} {memory left : List ℕ} → HostCall t memory after left → Good t → length left ≡ length memory
+call-memory (add-session c) g = refl
+call-memory (add-tree uid right) g = refl
+call-memory (add-open uid tid process file access) g = refl
+call-memory {t} {memory = memory} (load file bytes) g = loadMemory-length t file bytes memory
+call-memory (drop c) g = refl
+call-memory {t} {memory = memory} (message c s room) g = take-message-memory c s t memory room g
+
 -- ---- all histories
 
--- the tables and the file memory that a host comes to, from the tables to start from and the file memory that it lends, by calls in any order, done or
--- refused: "add a session, tree or open; load a file; drop a connection; take a message with its connection number"
-pub data Reached (lent : List ℕ) : Tables → List ℕ → Type 0 where
-  start : Reached lent noTables lent
-  then-session : {t : Tables} {memory : List ℕ} → Reached lent t memory → (connection : ℕ) → Reached lent (addSession t connection .tables) memory
-  then-tree : {t : Tables} {memory : List ℕ} → Reached lent t memory → (uid right : ℕ) → Reached lent (addTree t uid right .tables) memory
-  then-open : {t : Tables} {memory : List ℕ} → Reached lent t memory → (uid tid process file access : ℕ)
-      → Reached lent (addOpen t uid tid process file access .tables) memory
-  then-load : {t : Tables} {memory : List ℕ} → Reached lent t memory → (file : ℕ) (bytes : List ℕ)
-      → Reached lent (loadFile t file bytes memory .tables) (loadMemory t file bytes memory)
-  then-drop : {t : Tables} {memory : List ℕ} → Reached lent t memory → (connection : ℕ) → Reached lent (dropConnection t connection .tables) memory
-  then-message : {t : Tables} {memory : List ℕ} → Reached lent t memory → (connection : ℕ) (s room : List ℕ)
-      → Reached lent (take-message connection s t memory room .tables) (take-message connection s t memory room .memory)
+-- the tables that a host comes to, from the tables to start from, by calls in any order, lending to each whatever file memory it likes
+pub data Reached : Tables → Type 0 where
+  start : Reached noTables
+  then-call : {t after : Tables} {left : List ℕ} → Reached t → (memory : List ℕ) → HostCall t memory after left → Reached after
 
 -- "Every call on sound tables leaves sound tables": whatever the history, they are sound
-pub reached-good : {lent memory : List ℕ} {t : Tables} → Reached lent t memory → Good t
+pub reached-good : {t : Tables} → Reached t → Good t
 reached-good start = start-good
-reached-good (then-session {t} r c) = addSession-good t (reached-good r) c
-reached-good (then-tree {t} r uid right) = addTree-good t (reached-good r) uid right
-reached-good (then-open {t} r uid tid process file access) = addOpen-good t (reached-good r) uid tid process file access
-reached-good (then-load {t} {memory} r file bytes) = loadFile-good t (reached-good r) file bytes memory
-reached-good (then-drop {t} r c) = dropConnection-good t (reached-good r) c
-reached-good (then-message {t} {memory} r c s room) = take-message-good c s t memory room (reached-good r)
+reached-good (then-call r memory call) = call-good call (reached-good r)
 
--- and the file memory as long as the one lent
-pub reached-memory : {lent memory : List ℕ} {t : Tables} → Reached lent t memory → length memory ≡ length lent
-reached-memory start = refl
-reached-memory (then-session r c) = reached-memory r
-reached-memory (then-tree r uid right) = reached-memory r
-reached-memory (then-open r uid tid process file access) = reached-memory r
-reached-memory (then-load {t} {memory} r file bytes) = loadMemory-length t file bytes memory ∙ reached-memory r
-reached-memory (then-drop r c) = reached-memory r
-reached-memory (then-message {t} {memory} r c s room) = take-message-memory c s t memory room (reached-good r) ∙ reached-memory r
+-- the tables and the file memory of a host that lends one file memory to all its calls
+pub data ReachedLending (lent : List ℕ) : Tables → List ℕ → Type 0 where
+  lending-start : ReachedLending lent noTables lent
+  lending-call : {t after : Tables} {memory left : List ℕ} → ReachedLending lent t memory → HostCall t memory after left → ReachedLending lent after left
+
+-- its tables are among those
+pub lending-reached : {lent memory : List ℕ} {t : Tables} → ReachedLending lent t memory → Reached t
+lending-reached lending-start = start
+lending-reached (lending-call {memory = memory} r call) = then-call (lending-reached r) memory call
+
+-- and the file memory stays as long as it was lent
+pub reached-memory : {lent memory : List ℕ} {t : Tables} → ReachedLending lent t memory → length memory ≡ length lent
+reached-memory lending-start = refl
+reached-memory (lending-call r call) = call-memory call (reached-good (lending-reached r)) ∙ reached-memory r

@@ -1,13 +1,16 @@
 -- Cases 1 to 3 of document 01, said of the grammar and not of the reader: the rows of the table of cases (claims, `Cases.antt`) by the reader's laws.
 -- Assumes nothing.
-use mathlib.Core.Path.{_≡_, refl, ap, sym}
+use mathlib.Core.Path.{_≡_, refl, ap, sym, _∙_}
 use Prim.Native.Nat.{ℕ}
 use native.Mathlib.Omega.{arith}
 use mathlib.Core.List.{List, [], _∷_, map}
 use mathlib.Core.Option.{Option, none, some}
-use lib.ListN.{getD}
+use lib.ListN.{length, getD}
+use Rattle.locks.specs.Wire.{rangeSize}
+use Rattle.wire.specs.LittleEndian.{le16At}
 use Rattle.chain.specs.Grammar.{Sentence}
-use Rattle.chain.specs.Chain.{blocks}
+use Rattle.chain.specs.Parse.{shaped, bare, isLarge, lockingFits, readFits, mayFollow, linkFits, linkAt, answer, parseLocking, parseRead, parse}
+use Rattle.chain.specs.Chain.{before, afterBlock, afterParse, blocksWithin, blocksFrom, blocks}
 use Rattle.chain.specs.declared.block.Block.{Block}
 use Rattle.readings.specs.ReaderSound.{spanOf, reader-sound}
 use Rattle.readings.specs.ReaderComplete.{no-sentence}
@@ -45,7 +48,15 @@ pub message-60-none : Sentence (message 60 []) → ⊥
 unfolding table
 message-60-none = read-none (message 60 []) (blocks (message 60 [])) refl (row 1)
 
--- "3* with 62 and 85 bytes it is (one free byte)"
-pub message-62-sentence : Sentence (message 62 (0 ∷ []))
+-- "3* with 62 and 85 bytes it is (one free byte)": whatever that byte is, the reader answers as in the table's row, where it is 0
+free-byte : (x : ℕ) → reading (blocks (message 62 (x ∷ []))) ≡ reading (blocks (message 62 (0 ∷ [])))
+unfolding message reading blocks blocksFrom blocksWithin afterParse afterBlock before parse parseLocking parseRead answer lockingFits readFits linkFits linkAt mayFollow shaped bare isLarge le16At rangeSize
+free-byte x = refl
+
+pub message-62-length : (x : ℕ) → length (message 62 (x ∷ [])) ≡ 85
+unfolding message
+message-62-length x = refl
+
+pub message-62-sentence : (x : ℕ) → Sentence (message 62 (x ∷ []))
 unfolding table
-message-62-sentence = read-sentence (message 62 (0 ∷ [])) (blocks (message 62 (0 ∷ []))) refl (row 2)
+message-62-sentence x = read-sentence (message 62 (x ∷ [])) (blocks (message 62 (x ∷ []))) refl (free-byte x ∙ row 2)

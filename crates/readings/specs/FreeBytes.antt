@@ -169,6 +169,6 @@ module _ {s : List ℕ} (t : List ℕ) {spans : List Span} (e : headerCommand t 
   pub free-reading : AllStand s t spans → Reading t spans
   free-reading stands = unread-reading (all-alike stands)
 
-  -- with the same fields of every block: "number, reply, tables, files and whatever else the call gives are equal"
+  -- with the same fields of every block. (That the call then gives the same is `free-taken`, in demands, `Taken.antt`.)
   pub free-blocks : AllStand s t spans → blocks t ≡ blocks s
   free-blocks stands = unread-blocks (all-alike stands)

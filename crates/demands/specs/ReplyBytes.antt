@@ -1,0 +1,75 @@
+-- What stands in the reply room after a reply of one block (document 01, "Reply blocks"): a READ's data and the words for them, a WRITE's count.
+-- Assumes nothing.
+use mathlib.Core.Path.{_≡_, sym, ap, _∙_}
+use Prim.Native.Nat.{ℕ, _+_, _/_, _%_, _≤_, _<_}
+use native.Mathlib.Omega.{arith}
+use mathlib.Core.List.{List, _++_, append-assoc}
+use lib.ListN.{length, take, drop, getD}
+use lib.Seq.{take-append-seam, drop-append-add, getD-append-add}
+use Rattle.lists.specs.Put.{put}
+use Rattle.wire.specs.LittleEndian.{byteAt, le16At}
+use Rattle.chain.specs.Layout.{FIRST}
+use Rattle.message.specs.Refusal.{status}
+use Rattle.message.specs.declared.link.Link.the-variants.{None as noLink}
+use Rattle.message.specs.Command.{Said, read, wrote}
+use Rattle.message.specs.Reply.{two, linkWords, replyHeader, replyBlock}
+use Rattle.demands.specs.ReplySize.{length-header}
+
+module _ (s : List ℕ) (long : 32 ≤ length s) (room : List ℕ) (said : Said) where
+  -- the block, the reply laid over the front of the room, and what stands in the room behind it
+  abbrev pub block : List ℕ
+  block = replyBlock said FIRST noLink
+
+  abbrev pub answer : List ℕ
+  answer = put room 0 (replyHeader s (status 0 0) ++ block)
+
+  abbrev pub rest : List ℕ
+  rest = drop (0 + length (replyHeader s (status 0 0) ++ block)) room
+
+  answer-parts : answer ≡ replyHeader s (status 0 0) ++ (block ++ rest)
+  unfolding put
+  answer-parts = append-assoc (replyHeader s (status 0 0)) block rest
+
+  -- "Blocks stand end to end from 32": a byte of the block, and what stands behind some of its bytes
+  answer-byte : (k : ℕ) → byteAt answer (32 + k) ≡ getD (block ++ rest) k 0
+  answer-byte k =
+      ap (λ (l : List ℕ). byteAt l (32 + k)) answer-parts
+      ∙ ap (λ (n : ℕ). byteAt (replyHeader s (status 0 0) ++ (block ++ rest)) (n + k)) (sym (length-header s (status 0 0) long))
+      ∙ getD-append-add (replyHeader s (status 0 0)) (block ++ rest) k 0
+
+  answer-behind : (k : ℕ) → drop (32 + k) answer ≡ drop k (block ++ rest)
+  answer-behind k =
+      ap (drop (32 + k)) answer-parts
+      ∙ ap (λ (n : ℕ). drop (n + k) (replyHeader s (status 0 0) ++ (block ++ rest))) (sym (length-header s (status 0 0) long))
+      ∙ drop-append-add (replyHeader s (status 0 0)) (block ++ rest) k
+
+module _ (s : List ℕ) (long : 32 ≤ length s) (room : List ℕ) where
+  -- READ: "the bytes are the data", behind the first 27 of the block
+  pub read-data : (bytes : List ℕ) → take (length bytes) (drop 59 (answer s long room (read bytes))) ≡ bytes
+  unfolding replyBlock linkWords two
+  read-data bytes =
+      let d : drop 59 (answer s long room (read bytes)) ≡ bytes ++ rest s long room (read bytes) = answer-behind s long room (read bytes) 27 in
+      ap (take (length bytes)) d ∙ take-append-seam bytes (rest s long room (read bytes))
+
+  -- "length, data offset"
+  pub read-length : (bytes : List ℕ) → length bytes < 65536 → le16At (answer s long room (read bytes)) 43 ≡ length bytes
+  unfolding le16At replyBlock linkWords two
+  read-length bytes few =
+      let a : byteAt (answer s long room (read bytes)) 43 ≡ length bytes % 256 = answer-byte s long room (read bytes) 11 in
+      let b : byteAt (answer s long room (read bytes)) 44 ≡ length bytes / 256 % 256 = answer-byte s long room (read bytes) 12 in
+      omega arith
+
+  pub read-offset : (bytes : List ℕ) → le16At (answer s long room (read bytes)) 45 ≡ 59
+  unfolding le16At replyBlock linkWords two
+  read-offset bytes =
+      let a : byteAt (answer s long room (read bytes)) 45 ≡ 59 = answer-byte s long room (read bytes) 13 in
+      let b : byteAt (answer s long room (read bytes)) 46 ≡ 0 = answer-byte s long room (read bytes) 14 in
+      omega arith
+
+  -- WRITE: "6 words: AndX, count"
+  pub write-count : (count : ℕ) → count < 65536 → le16At (answer s long room (wrote count)) 37 ≡ count
+  unfolding le16At replyBlock linkWords two
+  write-count count few =
+      let a : byteAt (answer s long room (wrote count)) 37 ≡ count % 256 = answer-byte s long room (wrote count) 5 in
+      let b : byteAt (answer s long room (wrote count)) 38 ≡ count / 256 % 256 = answer-byte s long room (wrote count) 6 in
+      omega arith
