@@ -18,16 +18,10 @@ use Rattle.wire.specs.LittleEndian.{le16At}
 use Rattle.chain.specs.Parse.{shaped, bare, isLarge, lockingFits, readFits, mayFollow, linkFits, linkAt, answer, parseLocking, parseRead, parse}
 use Rattle.chain.specs.Chain.{before, afterBlock, afterParse, blocksWithin, blocksFrom, blocks}
 use Rattle.chain.specs.declared.block.Block.{Block}
-use Rattle.chain.specs.declared.block.WriteFields.{WriteFields}
-use Rattle.records.specs.declared.Session.{Session}
-use Rattle.records.specs.declared.Tree.{Tree}
-use Rattle.records.specs.declared.Open.{Open}
 use Rattle.records.specs.declared.Tables.{Tables}
 use Rattle.records.specs.Empty.{noFile}
-use Rattle.records.specs.Held.{sessionsOf, treesOf, opensOf, locksOf}
 use Rattle.soundness.specs.File.{fileOf}
 use Rattle.soundness.specs.Lookup.{isTree}
-use Rattle.message.specs.declared.caller.Caller.{Caller}
 use Rattle.message.specs.Refusal.{status, statusOf}
 use Rattle.message.specs.declared.refusal.Status.{Status}
 use Rattle.message.specs.Command.{Given, refused, done, isSession, withSession, withTree, isOpen, openAt, withOpen, lockingEnd, lockingAfter, askOf as asks, unlessBarred, barring, endsPast, doWrite}

@@ -4,15 +4,12 @@ use Prim.Native.Nat.{ℕ, min, _+_, _-_, _≤_, _<_}
 use native.Mathlib.Omega.{arith}
 use mathlib.Core.List.{List, [], _∷_, _++_}
 use mathlib.Core.Option.{some}
-use lib.ListN.{length, take, drop, getD}
-use lib.Dec.{eqb}
+use lib.ListN.{length, take, drop}
 use native.Mathlib.Decide.{ℕ-discrete}
 use Rattle.lists.specs.Put.{put}
 use Rattle.wire.specs.LittleEndian.{le16At}
 use Rattle.records.specs.declared.Open.{Open}
 use Rattle.records.specs.declared.Tables.{Tables}
-use Rattle.records.specs.Empty.{noOpen}
-use Rattle.records.specs.Held.{opensOf}
 use Rattle.removal.specs.Removal.{remove}
 use Rattle.removal.specs.declared.Gone.the-variants.{Session as UserGone, Tree as TreeGone, Open as OpenGone, Process as ProcessGone}
 use Rattle.claims.specs.RemovalPlain.{Closed, Disconnected, LoggedOff, Exited, close-plain, disconnect-plain, logoff-plain, exit-plain}
@@ -29,20 +26,17 @@ use Rattle.readings.specs.Chained.{Chained, chained-end, read-chained}
 use Rattle.message.specs.Caller.{callerOf}
 use Rattle.message.specs.declared.caller.Caller.{Caller}
 use Rattle.message.specs.Refusal.{status}
-use Rattle.message.specs.declared.refusal.Refusal.{Refusal}
-use Rattle.message.specs.declared.refusal.Refusal.the-variants.{NoAccess, NoSpace}
 use Rattle.message.specs.declared.link.Link.the-variants.{None as noLink}
 use Rattle.message.specs.Contents.{sizeOf, readBytes}
-use Rattle.message.specs.Command.{Said, read, wrote, plain, loggedOff, Given, refused, done, doRead, endsPast, doWrite, perform}
+use Rattle.message.specs.Command.{Said, read, wrote, plain, loggedOff, Given, done, doRead, doWrite, perform}
 use Rattle.message.specs.Reply.{replyHeader, replyBlock, replySize}
 use Rattle.message.specs.Message.{areaOf, dataOf, Taken, take-message}
-use Rattle.demands.specs.GivenCases.{cond-case, open-case, barred-case}
 use Rattle.demands.specs.Sound.{Good, size-most}
 use Rattle.demands.specs.Taken.{Fit, take-message-good}
 use Rattle.demands.specs.Calls.{statusRead}
 use Rattle.demands.specs.RefusedCall.{gives, Untouched}
 use Rattle.demands.specs.Admitted.{Admitted}
-use Rattle.demands.specs.FileCommands.{Yields, WroteFile, read-left, read-yields, write-leaves, write-nothing, data-counted}
+use Rattle.demands.specs.FileCommands.{Yields, WroteFile, read-left, read-yields, write-says, write-leaves, write-nothing, data-counted}
 use Rattle.demands.specs.DoneCall.{Carried, carried, long-enough, past-session, past-tree, past-open}
 use Rattle.demands.specs.ReplyBytes.{read-data, read-length, read-offset, write-count}
 
@@ -85,23 +79,6 @@ one-counted (chained-end h l) f same = data-counted h _ f same
 gives-body : (c : Caller) (s : List ℕ) (b : Block) (t : Tables) (memory : List ℕ) (body : Body) {g : Given} → b .body ≡ body → gives c s b t memory ≡ g
     → perform c t memory body (areaOf s b) (dataOf s b) ≡ g
 gives-body c s b t memory body is e = rw (← is) e
-
--- a WRITE that is done says its count
-data SaysCount (n : ℕ) : Given → Type 0 where
-  says-nothing : {why : Refusal} → SaysCount n (refused why)
-  says-count : {u : Tables} {m : List ℕ} → SaysCount n (done u m (wrote n))
-
-write-says : (c : Caller) (t : Tables) (memory : List ℕ) (f : WriteFields) (bytes : List ℕ) → SaysCount (f .count) (doWrite c t memory f bytes)
-unfolding doWrite
-write-says c t memory f bytes =
-    open-case (SaysCount (f .count)) c t (f .fid) _ says-nothing says-nothing says-nothing
-    (λ k _. cond-case (SaysCount (f .count)) (eqb (getD (opensOf t) k noOpen .access) 0) (refused NoAccess) _ (λ _. says-nothing)
-    (λ _. barred-case (SaysCount (f .count)) _ _ (λ j. says-nothing)
-    (λ _. cond-case (SaysCount (f .count)) (endsPast (f .offset) (f .count)) (refused NoSpace) _ (λ _. says-nothing) (λ _. says-count))))
-
-said-count : {n : ℕ} {g : Given} {u : Tables} {m : List ℕ} {said : Said} → SaysCount n g → g ≡ done u m said → said ≡ wrote n
-said-count says-nothing e = let z : _≡_ {A = ℕ} 0 1 = cc in absurd (omega arith)
-said-count says-count e = cc
 
 -- what is left by a removal that is done
 removed : (P : Tables → Type 0) {after u : Tables} {memory m : List ℕ} {x y : Said} → P after → done after memory x ≡ done u m y → P u × (m ≡ memory)
@@ -167,7 +144,8 @@ module _ (connection : ℕ) (s : List ℕ) (b : Block) (e : blocks s ≡ some (b
   -- "WRITE: 6 words: AndX, count": the reply says the count, none included
   pub write-count-call : (f : WriteFields) → b .body ≡ WriteBody f → le16At (call .room) 37 ≡ f .count
   write-count-call f is =
-      let w = said-count (write-says caller t memory f (dataOf s b)) (write-given f is) in
+      let o = write-open f is in
+      let w = write-says caller t memory (fit .memory-whole) g f (dataOf s b) (o .0) (o .1) (write-given f is) in
       let r : call .room ≡ put room 0 (replyHeader s (status 0 0) ++ replyBlock (wrote (f .count)) FIRST noLink) = rw w at (the-command .reply) in
       rw r (write-count s long room (f .count) (few-bytes f is))
 

@@ -1,6 +1,6 @@
 -- Demand 3 said of the call itself and of readings: malformed exactly if no sentence, seen in the reply's bytes, and the chain of any reading
 -- sent one to a message. Assumes nothing.
-use mathlib.Core.Path.{_≡_, refl, sym, ap, _∙_}
+use mathlib.Core.Path.{_≡_, sym, ap, _∙_}
 use mathlib.Core.Logic.{_↔_}
 use Prim.Native.Nat.{ℕ, _+_, _*_, _/_, _%_, _≤_, _<_}
 use native.Mathlib.Omega.{arith}
