@@ -40,7 +40,7 @@ use Rattle.message.specs.declared.refusal.Status.{Status}
 use Rattle.message.specs.declared.refusal.Refusal.the-variants.{NoAccess, LockType, NoSpace}
 use Rattle.message.specs.Contents.{readBytes, written, resized}
 use Rattle.message.specs.Command.{Given, Said, refused, done, read, wrote, withSession, withTree, withOpen, servedType, requestOf, lockingEnd, lockingAfter, doLocking, askOf, unlessBarred, barring, doRead, endsPast, doWrite, perform}
-use Rattle.demands.specs.LoneLock.{Conflicts, May, InWay, Owner, read-conflict as read-exact, write-conflict as write-exact}
+use Rattle.demands.specs.LoneLock.{Conflicts, May, InWay, Owner, read-conflict as read-exact, write-conflict as write-exact, sharedIn}
 use Rattle.demands.specs.Admitted.{SessionHere, Admitted, NoSessionFor, NoTreeFor, NoOpenFor, admitted-may, session-or, tree-or, open-or, with-session, with-tree, with-open, session-given, tree-given, open-given}
 use Rattle.demands.specs.LockWords.{Released, Unnamed, Releasing, all-released, one-unnamed, release-means, released-is, unnamed-is, released-was, PastEnd, past-means, past-is, AllGranted, OneBlocked, Opened, Granting, all-granted, one-blocked, grant-means, granted-is, blocked-is}
 
@@ -101,9 +101,6 @@ unlocksIn f area = rangesAt (eqb (f .kind / 16 % 2) 1) area 0 (f .unlocks)
 
 abbrev pub locksIn : LockingFields → List ℕ → List LockRange
 locksIn f area = rangesAt (eqb (f .kind / 16 % 2) 1) area (f .unlocks) (f .locks)
-
-abbrev pub sharedIn : LockingFields → Bool
-sharedIn f = eqb (f .kind % 2) 1
 
 -- LOCKING: "2/65535 lock type bit other than 0x01 and 0x10; 1/158 no such lock to release; 1/87 lock range passes 2^64; 1/33 lock conflict; 1/8 no lock record free"
 pub data LockingStatus (c : Caller) (t : Tables) (f : LockingFields) (area : List ℕ) : Status → Type 0 where

@@ -30,7 +30,8 @@ use Rattle.message.specs.declared.refusal.Refusal.the-variants.{LockType}
 use Rattle.message.specs.Command.{Given, Said, locked, refused, done, servedType, requestOf, withLockList, lockingEnd, lockingAfter, doLocking}
 use Rattle.demands.specs.Admitted.{Admitted, admitted-may, with-open}
 use Rattle.demands.specs.LockWords.{Released, Releasing, all-released, one-unnamed, release-means, released-was, AllGranted, Opened, Granting, all-granted, one-blocked, grant-means}
-use Rattle.demands.specs.CommandReasons.{Announced, unlocksIn, locksIn, sharedIn}
+use Rattle.demands.specs.LoneLock.{sharedIn}
+use Rattle.demands.specs.CommandReasons.{Announced, unlocksIn, locksIn}
 
 -- the tables and the file memory after a LOCKING of the open o that is done, and what it says
 pub record LocksLeft (t : Tables) (memory : List ℕ) (f : LockingFields) (area : List ℕ) (o : Open) (after : Tables) (left-memory : List ℕ) (said : Said) : Type 0 where

@@ -42,7 +42,7 @@ use Rattle.message.specs.Reply.{replyBlock, refusedBlock, replySize}
 use Rattle.message.specs.Message.{areaOf, dataOf, Ran, after, linkTo, afterGiven, run, Taken, take-message}
 use Rattle.demands.specs.Malformed.{length-area}
 use Rattle.demands.specs.ReplySize.{length-block}
-use Rattle.demands.specs.LoneLock.{Conflicts, BarsLock, read-conflict, write-conflict, loneRange, loneShared, lock-conflict}
+use Rattle.demands.specs.LoneLock.{Conflicts, BarsLock, read-conflict, write-conflict, loneRange, sharedIn, lock-conflict}
 use Rattle.demands.specs.Admitted.{Admitted, admitted-may}
 use Rattle.demands.specs.CommandReasons.{BarsRead, BarsWrite, OnlyTwoBits, served-exact}
 use Rattle.demands.specs.Taken.{Fit}
@@ -55,7 +55,7 @@ FirstConflict call = (statusRead (call .room) ≡ status 1 33) × (call .length 
 
 -- "a listed lock of that file overlaps it and the two aren't both shared"
 abbrev pub LoneInWay : Tables → Open → LockingFields → List ℕ → Type 0
-LoneInWay t o f area = BarsLock t o (locksOf t) (loneShared f) (loneRange f area)
+LoneInWay t o f area = BarsLock t o (locksOf t) (sharedIn f) (loneRange f area)
 
 -- "within range": the lone range does not pass 2^64
 abbrev pub WithinRange : LockingFields → List ℕ → Type 0

@@ -221,15 +221,15 @@ lone-exact t memory Nothing list = (
 abbrev pub loneRange : LockingFields → List ℕ → LockRange
 loneRange f area = rangeAt (eqb (f .kind / 16 % 2) 1) area 0
 
-abbrev pub loneShared : LockingFields → Bool
-loneShared f = eqb (f .kind % 2) 1
+abbrev pub sharedIn : LockingFields → Bool
+sharedIn f = eqb (f .kind % 2) 1
 
 module _ (c : Caller) (t : Tables) (memory : List ℕ) (k : ℕ) (ok : sound t ≡ true) (f : LockingFields) (area : List ℕ) (may : May c t (f .fid) k) where
   -- a request with no unlocks and one range within 2^64 is the walk of that range
   lone-is : f .unlocks ≡ 0 → f .locks ≡ 1 → servedType (f .kind) ≡ true → length area ≡ 1 * rangeSize (eqb (f .kind / 16 % 2) 1) → rangePasses (loneRange f area) ≡ false
       → doLocking c t memory f area
-      ≡ lockingAfter t memory (settle (t .locks) (t .nlocks) (afterGrants (afterWalk (found (answers (fileOf (opensOf t)) (askFor (f .fid) (Grant (loneShared f)) (loneRange f area))) (locksOf t))
-      (granted (locksOf t ++ (lockOf (f .fid) (loneShared f) (loneRange f area) ∷ []))))))
+      ≡ lockingAfter t memory (settle (t .locks) (t .nlocks) (afterGrants (afterWalk (found (answers (fileOf (opensOf t)) (askFor (f .fid) (Grant (sharedIn f)) (loneRange f area))) (locksOf t))
+      (granted (locksOf t ++ (lockOf (f .fid) (sharedIn f) (loneRange f area) ∷ []))))))
   unfolding doLocking requestOf locking request releaseAll afterReleases grantAll rangesAt any
   lone-is u l s n low =
       let e : eqb (length area) (1 * rangeSize (eqb (f .kind / 16 % 2) 1)) ≡ true = eq-eqb (length area) (1 * rangeSize (eqb (f .kind / 16 % 2) 1)) n in
@@ -239,11 +239,11 @@ module _ (c : Caller) (t : Tables) (memory : List ℕ) (k : ℕ) (ok : sound t �
   -- of that file overlaps it and the two are not both shared
   pub lock-conflict : f .unlocks ≡ 0 → f .locks ≡ 1 → servedType (f .kind) ≡ true → length area ≡ 1 * rangeSize (eqb (f .kind / 16 % 2) 1) → rangePasses (loneRange f area) ≡ false
       → Conflicts (doLocking c t memory f area)
-      ↔ BarsLock t (asked c t (f .fid) k may) (locksOf t) (loneShared f) (loneRange f area)
+      ↔ BarsLock t (asked c t (f .fid) k may) (locksOf t) (sharedIn f) (loneRange f area)
   unfolding askFor answers answersFor bars
   lock-conflict u l s n low =
       rw (lone-is u l s n low) (
         λ h. let e = lone-exact t memory _ _ .0 h in
-            hit-way c t (f .fid) k may ok (askFor (f .fid) (Grant (loneShared f)) (loneRange f area)) refl _ (grant-bars (loneShared f)) (λ m. refl) (e .0) (e .1) noLock,
-        λ w. lone-exact t memory _ _ .1 (way-hit c t (f .fid) k may ok (askFor (f .fid) (Grant (loneShared f)) (loneRange f area)) refl _ (grant-bars (loneShared f)) (λ m. refl) w),
+            hit-way c t (f .fid) k may ok (askFor (f .fid) (Grant (sharedIn f)) (loneRange f area)) refl _ (grant-bars (sharedIn f)) (λ m. refl) (e .0) (e .1) noLock,
+        λ w. lone-exact t memory _ _ .1 (way-hit c t (f .fid) k may ok (askFor (f .fid) (Grant (sharedIn f)) (loneRange f area)) refl _ (grant-bars (sharedIn f)) (λ m. refl) w),
       )
