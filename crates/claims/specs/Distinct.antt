@@ -10,7 +10,7 @@ use Rattle.lists.specs.Walk.{allTails}
 use Rattle.lists.specs.Truth.{both-hold, hold-both}
 use Rattle.lists.specs.PairLaws.{place-in, in-place}
 use Rattle.numbers.specs.Number.{numberOk, numbered}
-use Rattle.claims.specs.Numbered.{number-says, number-ok, numbered-within, not-contained, not-in}
+use Rattle.invariants.specs.Numbered.{number-says, number-ok, numbered-within, not-contained, not-in}
 
 -- numbers that lie in 1 to the limit, no two of them equal
 pub record Numbers (limit : ℕ) (xs : List ℕ) : Type 0 where

@@ -16,10 +16,10 @@ use Rattle.numbers.specs.Column.{uidOf, tidOf, fidOf}
 use Rattle.host.specs.HostCall.{refused, done, newSession, addSession, newTree, addTree, newOpen, addOpen, loadNumber, loadFile, loadMemory, dropConnection}
 use Rattle.host.specs.declared.answer.Answer.{Answer}
 use Rattle.lists.specs.Truth.{decided}
-use Rattle.claims.specs.Number.{smallest-low, smallest-high, smallest-free, smallest-least}
-use Rattle.claims.specs.Shaped.{sessions-with, trees-with, opens-with}
+use Rattle.invariants.specs.Number.{smallest-low, smallest-high, smallest-free, smallest-least}
+use Rattle.invariants.specs.Shaped.{sessions-with, trees-with, opens-with}
 use Rattle.lists.specs.RoomLaws.{held-fewer}
-use Rattle.claims.specs.HostCases.{addSession-either, addTree-either, addOpen-either, loadFile-either, dropConnection-either}
+use Rattle.invariants.specs.HostCases.{addSession-either, addTree-either, addOpen-either, loadFile-either, dropConnection-either}
 
 -- ---- "UID, TID and FID are the smallest number from 1 not in use"
 

@@ -25,11 +25,11 @@ use Rattle.soundness.specs.Sound.{sound, holdsOpen}
 use Rattle.host.specs.HostCall.{refused, done, addSession, addTree, newOpen, addOpen, isOf, loadNumber, loadFile, dropConnection}
 use Rattle.soundness.specs.Lookup.{isTree}
 use Rattle.host.specs.declared.answer.Answer.{Answer}
-use Rattle.claims.specs.Numbered.{named-one, one-named, numbered-same}
-use Rattle.claims.specs.SoundParts.{sound-says}
-use Rattle.claims.specs.RuleLaws.{holds-says}
+use Rattle.invariants.specs.Numbered.{named-one, one-named, numbered-same}
+use Rattle.invariants.specs.SoundParts.{sound-says}
+use Rattle.invariants.specs.RuleLaws.{holds-says}
 use Rattle.claims.specs.SoundPlain.{holds-ok, permits-says}
-use Rattle.claims.specs.HostCases.{by-test}
+use Rattle.invariants.specs.HostCases.{by-test}
 use Rattle.claims.specs.HostAnswer.{loadFile-number}
 
 -- ---- the reasons

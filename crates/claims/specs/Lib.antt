@@ -1,13 +1,3 @@
-pub mod Numbered
-pub mod Number
-pub mod SoundParts
-pub mod RuleLaws
-pub mod Shaped
-pub mod KeptRecords
-pub mod RemovalSound
-pub mod AddedRecords
-pub mod HostCases
-pub mod HostSound
 pub mod HostAnswer
 pub mod NothingNamed
 pub mod Distinct

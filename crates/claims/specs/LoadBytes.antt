@@ -14,8 +14,8 @@ use Rattle.records.specs.declared.File.{File}
 use Rattle.records.specs.declared.Tables.{Tables}
 use Rattle.records.specs.Held.{withFiles}
 use Rattle.host.specs.HostCall.{done, loadNumber, withSize, loadFile, loadMemory}
-use Rattle.claims.specs.Shaped.{Shaped}
-use Rattle.claims.specs.HostCases.{LoadPassed, load-passed}
+use Rattle.invariants.specs.Shaped.{Shaped}
+use Rattle.invariants.specs.HostCases.{LoadPassed, load-passed}
 use Rattle.claims.specs.HostAnswer.{loadFile-number}
 
 -- the bytes loaded, with zeros up to 4,096

@@ -26,12 +26,12 @@ use Rattle.removal.specs.declared.Gone.{Gone}
 use Rattle.removal.specs.declared.Gone.the-variants.{Connection}
 use Rattle.lists.specs.Truth.{hold-both, not-holds, fails}
 use Rattle.lists.specs.Members.{all-each, each-all, none-each, any-one, keep-all}
-use Rattle.claims.specs.Numbered.{one-named}
+use Rattle.invariants.specs.Numbered.{one-named}
 use Rattle.soundness.specs.SoundLaws.{Room}
-use Rattle.claims.specs.SoundParts.{Sound, sound-says}
-use Rattle.claims.specs.RuleLaws.{tree-says, holds-says, open-says, lock-says}
-use Rattle.claims.specs.Shaped.{Shaped}
-use Rattle.claims.specs.RemovalSound.{sessionsLeft, treesLeft, opensLeft, locksLeft, left, remove-left}
+use Rattle.invariants.specs.SoundParts.{Sound, sound-says}
+use Rattle.invariants.specs.RuleLaws.{tree-says, holds-says, open-says, lock-says}
+use Rattle.invariants.specs.Shaped.{Shaped}
+use Rattle.invariants.specs.RemovalSound.{sessionsLeft, treesLeft, opensLeft, locksLeft, left, remove-left}
 
 -- ---- tables with the list that they hold are the same
 

@@ -20,10 +20,10 @@ use Rattle.soundness.specs.Sound.{sound, holdsOpen, openOk}
 use Rattle.removal.specs.Removal.{sessionNamed, treeNamed, openNamed, sessionStays, treeStays, openStays, lockStays, sweepSessions, sweepTrees, sweepOpens, sweepLocks, remove}
 use Rattle.removal.specs.declared.Gone.{Gone}
 use Rattle.removal.specs.declared.Gone.the-variants.{Connection, Session as UserGone, Tree as TreeGone, Open as OpenGone, Process}
-use Rattle.claims.specs.Numbered.{named-one, one-named, numbered-same}
-use Rattle.claims.specs.SoundParts.{Sound, sound-says}
-use Rattle.claims.specs.RuleLaws.{holds-says, open-says}
-use Rattle.claims.specs.RemovalSound.{sessionsLeft, treesLeft, opensLeft, locksLeft, remove-left, left-sessions, left-trees, left-opens, left-locks}
+use Rattle.invariants.specs.Numbered.{named-one, one-named, numbered-same}
+use Rattle.invariants.specs.SoundParts.{Sound, sound-says}
+use Rattle.invariants.specs.RuleLaws.{holds-says, open-says}
+use Rattle.invariants.specs.RemovalSound.{sessionsLeft, treesLeft, opensLeft, locksLeft, remove-left, left-sessions, left-trees, left-opens, left-locks}
 use Rattle.claims.specs.NothingNamed.{session-exists, tree-exists, open-exists, all-sessions-left, all-trees-left, none-false}
 
 -- ---- the records that the tables hold after a removal

@@ -27,10 +27,10 @@ use Rattle.numbers.specs.Number.{contains, numbered, numberOk}
 use Rattle.numbers.specs.Column.{uidOf, tidOf, fidOf}
 use Rattle.soundness.specs.File.{fileOf}
 use Rattle.soundness.specs.Sound.{sound, fileOk, treeOk, permits, holdsOpen, openOk, lockOk, agree, agreeAll}
-use Rattle.claims.specs.Numbered.{number-says, named-one, one-named}
+use Rattle.invariants.specs.Numbered.{number-says, named-one, one-named}
 use Rattle.soundness.specs.SoundLaws.{Room}
-use Rattle.claims.specs.SoundParts.{Sound, sound-says, sound-ok}
-use Rattle.claims.specs.RuleLaws.{TreeOk, tree-says, tree-ok, holds-says, OpenOk, open-says, open-ok, LockOk, lock-says, lock-ok, fileOf-here, fileOf-other}
+use Rattle.invariants.specs.SoundParts.{Sound, sound-says, sound-ok}
+use Rattle.invariants.specs.RuleLaws.{TreeOk, tree-says, tree-ok, holds-says, OpenOk, open-says, open-ok, LockOk, lock-says, lock-ok, fileOf-here, fileOf-other}
 use Rattle.claims.specs.Distinct.{Numbers, numbered-says, numbered-ok}
 
 -- ---- the plain words

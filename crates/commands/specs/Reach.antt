@@ -13,14 +13,14 @@ use Rattle.records.specs.declared.Tables.{Tables}
 use Rattle.records.specs.Empty.{noOpen}
 use Rattle.records.specs.Held.{sessionsOf, treesOf, opensOf}
 use Rattle.soundness.specs.Lookup.{isTree}
-use Rattle.claims.specs.SoundParts.{sound-says}
+use Rattle.invariants.specs.SoundParts.{sound-says}
 use Rattle.message.specs.declared.caller.Caller.{Caller}
 use Rattle.message.specs.declared.answer.Performed.{Performed}
 use Rattle.message.specs.declared.refusal.Refusal.{Refusal}
 use Rattle.message.specs.declared.refusal.Refusal.the-variants.{NoSession, NoTree, NoOpen}
 use Rattle.message.specs.Command.{Given, refused, isSession, withSession, withTree, isOpen, openAt, withOpen}
 use Rattle.message.specs.Given.{Gives}
-use Rattle.demands.specs.Sound.{Good, open-file}
+use Rattle.invariants.specs.Sound.{Good, open-file}
 use Rattle.commands.specs.declared.who.Reached.{Reached}
 use Rattle.commands.specs.declared.who.Reached.the-variants.{Open as Named, Refused}
 use Rattle.commands.specs.Leaves.{refusal, gives-refused}

@@ -11,13 +11,13 @@ use lib.Seq.{take-all, take-take, take-nil, drop-drop}
 use lib.Dec.{leb}
 use borrow.Author.Tests.{leb-true, leb-false, le-leb}
 use Rattle.records.specs.declared.Tables.{Tables}
-use Rattle.claims.specs.SoundParts.{sound-says}
+use Rattle.invariants.specs.SoundParts.{sound-says}
 use Rattle.message.specs.declared.answer.Answer.{Answer}
 use Rattle.message.specs.declared.answer.Answer.the-variants.{Read}
 use Rattle.message.specs.Contents.{sizeOf, contents, readBytes}
 use Rattle.message.specs.Command.{done, read}
 use Rattle.message.specs.Given.{givenOf, inside}
-use Rattle.demands.specs.Sound.{Good, size-most}
+use Rattle.invariants.specs.Sound.{Good, size-most}
 
 unfoldable pub readPart : Tables → ℕ → ℕ → ℕ → Answer
 readPart t file offset most =

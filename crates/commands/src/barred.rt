@@ -11,7 +11,7 @@ ghost use mathlib.Core.Path.{_≡_};
 ghost use Prim.Native.Nat.{_≤_};
 ghost use Rattle.message.specs.Command.{askOf, barring};
 ghost use Rattle.message.specs.Contents.{sizeOf};
-ghost use Rattle.demands.specs.Sound.{Good};
+ghost use Rattle.invariants.specs.Sound.{Good};
 
 // "Locks: process from the range; reads and writes: from the header."
 pub(crate) fn ask_of(c: Caller, fid: u16, offset: u64, count: u16, purpose: Purpose) -> Ask

@@ -16,7 +16,7 @@ use records::Tables;
 use soundness::file_table::file_table;
 ghost use mathlib.Core.Path.{_≡_};
 ghost use Rattle.message.specs.Command.{servedType, requestOf, withLockList, lockingAfter, doLocking};
-ghost use Rattle.demands.specs.Sound.{Good};
+ghost use Rattle.invariants.specs.Sound.{Good};
 ghost use Rattle.commands.specs.Leaves.{Leaves};
 ghost use Rattle.commands.specs.Steps.{lockOpen};
 

@@ -28,7 +28,7 @@ ghost use Rattle.chain.specs.Parse.{parse};
 ghost use Rattle.chain.specs.declared.block.Parsed.the-variants.{Whole};
 ghost use Rattle.message.specs.Command.{doLocking, doWrite, perform};
 ghost use Rattle.message.specs.Message.{areaOf, dataOf};
-ghost use Rattle.demands.specs.Sound.{Good};
+ghost use Rattle.invariants.specs.Sound.{Good};
 ghost use Rattle.commands.specs.BlockPart.{LockingPart};
 ghost use Rattle.commands.specs.Leaves.{Leaves};
 ghost use Rattle.commands.specs.Moves.{Moves, isTransfer};

@@ -17,7 +17,7 @@ use records::Tables;
 ghost use mathlib.Core.Path.{_≡_};
 ghost use Prim.Native.Nat.{_≤_};
 ghost use Rattle.message.specs.Command.{doRead};
-ghost use Rattle.demands.specs.Sound.{Good};
+ghost use Rattle.invariants.specs.Sound.{Good};
 ghost use Rattle.commands.specs.Leaves.{Leaves, performed};
 ghost use Rattle.commands.specs.ReadPart.{readPart};
 ghost use Rattle.commands.specs.Steps.{readOpen};

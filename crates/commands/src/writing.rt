@@ -23,7 +23,7 @@ ghost use lib.ListN.{length, replicate};
 ghost use Rattle.lists.specs.Put.{put};
 ghost use Rattle.message.specs.Command.{endsPast, doWrite};
 ghost use Rattle.message.specs.Contents.{sizeOf, written};
-ghost use Rattle.demands.specs.Sound.{Good};
+ghost use Rattle.invariants.specs.Sound.{Good};
 ghost use Rattle.commands.specs.Moves.{Moves};
 ghost use Rattle.commands.specs.Steps.{writeOpen, writeFree};
 

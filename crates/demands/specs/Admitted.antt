@@ -21,8 +21,8 @@ use Rattle.records.specs.Held.{sessionsOf, treesOf, opensOf}
 use Rattle.numbers.specs.Column.{fidOf}
 use Rattle.soundness.specs.Lookup.{isTree}
 use Rattle.soundness.specs.Sound.{sound}
-use Rattle.claims.specs.Numbered.{numbered-same}
-use Rattle.claims.specs.SoundParts.{sound-says}
+use Rattle.invariants.specs.Numbered.{numbered-same}
+use Rattle.invariants.specs.SoundParts.{sound-says}
 use Rattle.claims.specs.HostReasons.{HasTree, has-tree, tree-found, tree-missing}
 use Rattle.claims.specs.Cases.{statusIn}
 use Rattle.message.specs.declared.caller.Caller.{Caller}
@@ -30,7 +30,7 @@ use Rattle.message.specs.Refusal.{status, statusOf}
 use Rattle.message.specs.declared.refusal.Status.{Status}
 use Rattle.message.specs.declared.refusal.Refusal.the-variants.{NoTree}
 use Rattle.message.specs.Command.{Given, refused, isSession, withSession, withTree, isOpen, openAt, withOpen}
-use Rattle.demands.specs.FoundFacts.{found-hit, found-miss}
+use Rattle.invariants.specs.FoundFacts.{found-hit, found-miss}
 use Rattle.demands.specs.LoneLock.{May, some-at}
 
 -- ---- the plain words

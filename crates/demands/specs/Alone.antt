@@ -13,8 +13,8 @@ use Rattle.wire.specs.LittleEndian.{byteAt, le16At}
 use Rattle.chain.specs.Layout.{LOCKING, READ, WRITE, LOGOFF, NO_COMMAND, headerCommand, FIRST, wordCount, byteArea, blockEnd, andxCommand, dataLength, dataOffset}
 use Rattle.chain.specs.Grammar.{IsBlock, locking-10, locking-20, read-10, read-12, write-12, write-14, close, logoff, tree-disconnect, process-exit, NamedAndx, locking-andx, read-andx, write-andx, logoff-andx, Plain, close-plain, tree-disconnect-plain, process-exit-plain}
 use Rattle.chain.specs.declared.block.Block.{Block}
-use Rattle.readings.specs.BlockParse.{block-inside, write-words, andx-words}
-use Rattle.readings.specs.Moved.{blockSize, Kept, kept-plain, kept-count, kept-front, kept-behind, kept-not-write, Moved}
+use Rattle.invariants.specs.BlockParse.{block-inside, write-words, andx-words, blockSize}
+use Rattle.readings.specs.Moved.{Kept, kept-plain, kept-count, kept-front, kept-behind, kept-not-write, Moved}
 
 -- the requests named ANDX
 unfoldable pub isAndx : ℕ → Bool

@@ -13,7 +13,7 @@ use Rattle.records.specs.declared.Tables.{Tables}
 use Rattle.removal.specs.Removal.{remove}
 use Rattle.removal.specs.declared.Gone.the-variants.{Session as UserGone, Tree as TreeGone, Open as OpenGone, Process as ProcessGone}
 use Rattle.claims.specs.RemovalPlain.{Closed, Disconnected, LoggedOff, Exited, close-plain, disconnect-plain, logoff-plain, exit-plain}
-use Rattle.claims.specs.SoundParts.{sound-says}
+use Rattle.invariants.specs.SoundParts.{sound-says}
 use Rattle.chain.specs.Layout.{headerCommand, FIRST}
 use Rattle.chain.specs.Chain.{blocks}
 use Rattle.chain.specs.declared.block.ReadFields.{ReadFields}
@@ -21,8 +21,8 @@ use Rattle.chain.specs.declared.block.WriteFields.{WriteFields}
 use Rattle.chain.specs.declared.block.Body.{Body}
 use Rattle.chain.specs.declared.block.Body.the-variants.{Read as ReadBody, Write as WriteBody, Close, Logoff, TreeDisconnect, ProcessExit}
 use Rattle.chain.specs.declared.block.Block.{Block}
-use Rattle.readings.specs.BlockParse.{blockAt}
-use Rattle.readings.specs.Chained.{Chained, chained-end, read-chained}
+use Rattle.invariants.specs.BlockParse.{blockAt}
+use Rattle.invariants.specs.Chained.{Chained, chained-end, read-chained}
 use Rattle.message.specs.Caller.{callerOf}
 use Rattle.message.specs.declared.caller.Caller.{Caller}
 use Rattle.message.specs.Refusal.{status}
@@ -31,8 +31,8 @@ use Rattle.message.specs.Contents.{sizeOf, readBytes}
 use Rattle.message.specs.Command.{Said, read, wrote, plain, loggedOff, Given, done, doRead, doWrite, perform}
 use Rattle.message.specs.Reply.{replyHeader, replyBlock, replySize}
 use Rattle.message.specs.Message.{areaOf, dataOf, Taken, take-message}
-use Rattle.demands.specs.Sound.{Good, size-most}
-use Rattle.demands.specs.Taken.{Fit, take-message-good}
+use Rattle.invariants.specs.Sound.{Good, size-most}
+use Rattle.invariants.specs.Fit.{Fit, take-message-good}
 use Rattle.demands.specs.Calls.{statusRead}
 use Rattle.demands.specs.RefusedCall.{gives, Untouched}
 use Rattle.demands.specs.Admitted.{Admitted}

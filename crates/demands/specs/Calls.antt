@@ -16,18 +16,19 @@ use Rattle.chain.specs.Grammar.{Span, Reading, Sentence}
 use Rattle.chain.specs.Chain.{blocks}
 use Rattle.chain.specs.declared.block.Block.{Block}
 use Rattle.readings.specs.ReaderComplete.{reader-complete}
-use Rattle.readings.specs.ReaderSound.{spanOf}
-use Rattle.readings.specs.Chained.{read-chained}
+use Rattle.invariants.specs.ReaderSound.{spanOf}
+use Rattle.invariants.specs.Chained.{read-chained}
 use Rattle.message.specs.Caller.{callerOf}
 use Rattle.message.specs.Refusal.{status}
 use Rattle.message.specs.declared.refusal.Status.{Status}
 use Rattle.message.specs.Reply.{two, replyHeader}
 use Rattle.message.specs.Message.{Ran, run, runChain, served, answered, replyOf, Taken, replied, take-message}
 use Rattle.demands.specs.Malformed.{malformed}
-use Rattle.demands.specs.ReplySize.{length-header}
+use Rattle.invariants.specs.ReplySize.{length-header}
 use Rattle.demands.specs.OneByOne.{chained-served}
-use Rattle.demands.specs.Sound.{Good}
-use Rattle.demands.specs.Taken.{Fit, fit-answered, not-short}
+use Rattle.invariants.specs.Sound.{Good}
+use Rattle.invariants.specs.Fit.{Fit, fit-answered}
+use Rattle.demands.specs.Taken.{not-short}
 use Rattle.demands.specs.CallsOneByOne.{answered-small, callAll, comparedCall, calls-one-by-one}
 
 -- the SMBSTATUS that stands in a reply's header: class at 5, code at 7

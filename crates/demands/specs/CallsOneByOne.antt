@@ -26,12 +26,13 @@ use Rattle.message.specs.Reply.{two, replyHeader}
 use Rattle.message.specs.Message.{areaOf, dataOf, Ran, after, afterGiven, run, served, onlyStatus, runChain, answered, replyOf, Taken, replied, take-message}
 use Rattle.message.specs.declared.refusal.Refusal.{Refusal}
 use Rattle.message.specs.declared.refusal.Refusal.the-variants.{NotServed, NotSentence, NoSession, NoTree, NoOpen, NoAccess, LockType, NoSuchLock, PassesEnd, Conflict, NoRecord, NoSpace}
-use Rattle.demands.specs.GivenCases.{cond-case}
+use Rattle.invariants.specs.GivenCases.{cond-case}
 use Rattle.demands.specs.Alone.{alone}
 use Rattle.demands.specs.OneByOne.{Sent, succeeded, replyThen, sendOn, sendAll, joined, compared, one-by-one}
 use Rattle.demands.specs.OneByOneReply.{lastReply, comparedReply, one-by-one-reply}
-use Rattle.demands.specs.Sound.{Good}
-use Rattle.demands.specs.Taken.{Fit, fit-answered, not-long, AllFit, none-left, next-fits, all-fit}
+use Rattle.invariants.specs.Sound.{Good}
+use Rattle.invariants.specs.Fit.{Fit, fit-answered}
+use Rattle.demands.specs.Taken.{not-long, AllFit, none-left, next-fits, all-fit}
 
 -- what the calls give: the last one's number, tables and file memory, and the replies in turn
 pub record Calls : Type 0 where

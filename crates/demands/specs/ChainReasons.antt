@@ -12,10 +12,10 @@ use Rattle.chain.specs.Layout.{headerCommand, FIRST}
 use Rattle.chain.specs.Grammar.{Span, Reading}
 use Rattle.chain.specs.Chain.{blocks}
 use Rattle.chain.specs.declared.block.Block.{Block}
-use Rattle.readings.specs.BlockParse.{blockAt}
+use Rattle.invariants.specs.BlockParse.{blockAt}
 use Rattle.readings.specs.ReaderComplete.{reader-complete}
-use Rattle.readings.specs.ReaderSound.{spanOf}
-use Rattle.readings.specs.Chained.{Chained, chained-end, chained-more, read-chained}
+use Rattle.invariants.specs.ReaderSound.{spanOf}
+use Rattle.invariants.specs.Chained.{Chained, chained-end, chained-more, read-chained}
 use Rattle.message.specs.Caller.{callerOf}
 use Rattle.message.specs.declared.caller.Caller.{Caller}
 use Rattle.message.specs.Refusal.{status, statusOf}
@@ -26,8 +26,8 @@ use Rattle.message.specs.Reply.{replySize}
 use Rattle.message.specs.Message.{areaOf, dataOf, Ran, after, run, take-message}
 use Rattle.demands.specs.Malformed.{length-area}
 use Rattle.demands.specs.OneByOne.{succeeded, refusal-fails}
-use Rattle.demands.specs.Sound.{Good, keeps-good, perform-keeps}
-use Rattle.demands.specs.Taken.{Fit}
+use Rattle.invariants.specs.Sound.{Good, keeps-good, perform-keeps}
+use Rattle.invariants.specs.Fit.{Fit}
 use Rattle.demands.specs.Calls.{statusRead}
 use Rattle.demands.specs.CommandReasons.{Reason, Announced, perform-reason, perform-given}
 use Rattle.demands.specs.ReasonCalls.{block-announced}

@@ -28,8 +28,9 @@ use Rattle.message.specs.declared.link.Link.the-variants.{None as noLink}
 use Rattle.message.specs.Command.{Said, Given, refused, done, withSession, withTree, withOpen}
 use Rattle.message.specs.Reply.{replyHeader, replyBlock, replySize}
 use Rattle.message.specs.Message.{after, linkTo, afterGiven, run, Taken, replyOf, replied, take-message}
-use Rattle.demands.specs.ReplySize.{length-header, length-block}
-use Rattle.demands.specs.Taken.{Fit, fit-answered, not-short}
+use Rattle.invariants.specs.ReplySize.{length-header, length-block}
+use Rattle.invariants.specs.Fit.{Fit, fit-answered}
+use Rattle.demands.specs.Taken.{not-short}
 use Rattle.demands.specs.Calls.{statusRead, sentence-answered}
 use Rattle.demands.specs.RefusedCall.{gives, first-refused}
 use Rattle.demands.specs.Admitted.{Admitted, NoSessionFor, no-session, NoTreeFor, before-tree, no-tree, NoOpenFor, before-open, no-open, session-or, tree-or, open-or, with-session, with-tree, with-open, session-given, tree-given, open-given}

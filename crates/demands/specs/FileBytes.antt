@@ -18,10 +18,10 @@ use Rattle.records.specs.declared.File.{File}
 use Rattle.records.specs.declared.Tables.{Tables}
 use Rattle.records.specs.Held.{withFiles}
 use Rattle.soundness.specs.Sound.{sound}
-use Rattle.claims.specs.SoundParts.{sound-says}
-use Rattle.claims.specs.Shaped.{Shaped}
+use Rattle.invariants.specs.SoundParts.{sound-says}
+use Rattle.invariants.specs.Shaped.{Shaped}
 use Rattle.message.specs.Contents.{sizeOf, contents, readBytes, written, resized}
-use Rattle.demands.specs.Sound.{size-most}
+use Rattle.invariants.specs.Sound.{size-most}
 
 -- a byte of a read is the memory's
 byte-of : (t : Tables) (memory : List ℕ) (file offset most i : ℕ) → i < most → offset + i < sizeOf t file

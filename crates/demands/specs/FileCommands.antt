@@ -21,14 +21,14 @@ use Rattle.chain.specs.declared.block.Body.the-variants.{Write as WriteBody}
 use Rattle.chain.specs.declared.block.Next.{Next}
 use Rattle.chain.specs.declared.block.ReadFields.{ReadFields}
 use Rattle.chain.specs.declared.block.WriteFields.{WriteFields}
-use Rattle.readings.specs.BlockParse.{bodyAt, blockAt}
+use Rattle.invariants.specs.BlockParse.{bodyAt, blockAt}
 use Rattle.message.specs.declared.caller.Caller.{Caller}
 use Rattle.message.specs.declared.refusal.Refusal.{Refusal}
 use Rattle.message.specs.declared.refusal.Refusal.the-variants.{NoAccess, NoSpace}
 use Rattle.message.specs.Contents.{sizeOf, readBytes, written, resized}
 use Rattle.message.specs.Command.{Given, Said, refused, done, read, wrote, unlessBarred, doRead, endsPast, doWrite}
 use Rattle.message.specs.Message.{dataOf}
-use Rattle.demands.specs.Sound.{Good}
+use Rattle.invariants.specs.Sound.{Good}
 use Rattle.demands.specs.MemorySize.{write-ends}
 use Rattle.demands.specs.Admitted.{Admitted, admitted-may, with-open}
 use Rattle.demands.specs.FileBytes.{Wrote, written-bytes, read-length, read-byte, resized-size, resized-others, resized-records, written-nothing, resized-nothing}

@@ -16,12 +16,12 @@ use Rattle.chain.specs.Grammar.{IsBlock, Span, spanAt, Reading}
 use Rattle.chain.specs.Chain.{blocks}
 use Rattle.chain.specs.declared.block.Block.{Block}
 use Rattle.chain.specs.declared.block.Next.{Next}
-use Rattle.readings.specs.BlockParse.{bodyAt, blockAt}
-use Rattle.readings.specs.ReaderSound.{spanOf}
+use Rattle.invariants.specs.BlockParse.{bodyAt, blockAt}
+use Rattle.invariants.specs.ReaderSound.{spanOf}
 use Rattle.readings.specs.ReaderComplete.{reader-complete-from}
 use Rattle.readings.specs.FreeBytes.{Alike, unmoved, AllStand, AllAlike, all-alike, unread-blocks}
 use Rattle.readings.specs.SameNumbers.{same-16}
-use Rattle.readings.specs.Chained.{Chained, chained-end, chained-more, read-chained}
+use Rattle.invariants.specs.Chained.{Chained, chained-end, chained-more, read-chained}
 use Rattle.message.specs.Caller.{callerOf}
 use Rattle.message.specs.declared.caller.Caller.{Caller}
 use Rattle.message.specs.Command.{Given, refused, done, perform}

@@ -1,15 +1,9 @@
-pub mod GivenCases
 pub mod Malformed
 pub mod PerformMoved
 pub mod FreeBytesMessage
-pub mod ReplySize
 pub mod Alone
 pub mod OneByOne
 pub mod OneByOneReply
-pub mod FoundFacts
-pub mod LockingSound
-pub mod Sound
-pub mod ReplyRoom
 pub mod LoneLock
 pub mod MemorySize
 pub mod Taken
@@ -33,3 +27,4 @@ pub mod LockLeaves
 pub mod DoneCall
 pub mod ReplyBytes
 pub mod CallEffects
+pub mod Ready

@@ -20,7 +20,7 @@ use Rattle.locks.specs.Wire.{rangeSize}
 use Rattle.locks.specs.Request.{releaseAll, Grants, granted, blocked, grantAll, Result, afterGrants, rangePasses, afterReleases, request, settle, locking}
 use Rattle.soundness.specs.File.{fileOf}
 use Rattle.soundness.specs.Sound.{sound}
-use Rattle.claims.specs.Shaped.{locks-with}
+use Rattle.invariants.specs.Shaped.{locks-with}
 use Rattle.claims.specs.SoundPlain.{sound-plain}
 use Rattle.chain.specs.declared.block.LockingFields.{LockingFields}
 use Rattle.chain.specs.declared.block.Body.the-variants.{Locking as LockingBody}

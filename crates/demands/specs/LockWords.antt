@@ -27,9 +27,9 @@ use Rattle.locks.specs.declared.types.LockRange.{LockRange}
 use Rattle.locks.specs.declared.types.Purpose.the-variants.{Grant, Release}
 use Rattle.soundness.specs.File.{fileOf}
 use Rattle.soundness.specs.Sound.{sound}
-use Rattle.claims.specs.SoundParts.{sound-says}
+use Rattle.invariants.specs.SoundParts.{sound-says}
 use Rattle.claims.specs.SoundPlain.{fileOf-one}
-use Rattle.demands.specs.FoundFacts.{found-hit, found-miss}
+use Rattle.invariants.specs.FoundFacts.{found-hit, found-miss}
 use Rattle.demands.specs.LoneLock.{BarsLock}
 
 -- ---- unlocks

@@ -28,9 +28,9 @@ use Rattle.chain.specs.declared.block.Body.the-variants.{Locking as LockingBody
 use Rattle.chain.specs.declared.block.Block.{Block}
 use Rattle.chain.specs.declared.block.Next.{Next}
 use Rattle.chain.specs.declared.block.Next.the-variants.{End, Follow}
-use Rattle.readings.specs.BlockParse.{bodyAt, blockAt}
+use Rattle.invariants.specs.BlockParse.{bodyAt, blockAt}
 use Rattle.readings.specs.ReaderComplete.{reader-complete}
-use Rattle.readings.specs.Chained.{Chained, chained-end, chained-more, read-chained}
+use Rattle.invariants.specs.Chained.{Chained, chained-end, chained-more, read-chained}
 use Rattle.message.specs.Caller.{callerOf}
 use Rattle.message.specs.Refusal.{status, statusOf}
 use Rattle.message.specs.declared.refusal.Status.{Status}
@@ -41,11 +41,11 @@ use Rattle.message.specs.Command.{Said, locked, loggedOff, read, wrote, plain, 
 use Rattle.message.specs.Reply.{replyBlock, refusedBlock, replySize}
 use Rattle.message.specs.Message.{areaOf, dataOf, Ran, after, linkTo, afterGiven, run, Taken, take-message}
 use Rattle.demands.specs.Malformed.{length-area}
-use Rattle.demands.specs.ReplySize.{length-block}
+use Rattle.invariants.specs.ReplySize.{length-block}
 use Rattle.demands.specs.LoneLock.{Conflicts, BarsLock, read-conflict, write-conflict, loneRange, sharedIn, lock-conflict}
 use Rattle.demands.specs.Admitted.{Admitted, admitted-may}
 use Rattle.demands.specs.CommandReasons.{BarsRead, BarsWrite, OnlyTwoBits, served-exact}
-use Rattle.demands.specs.Taken.{Fit}
+use Rattle.invariants.specs.Fit.{Fit}
 use Rattle.demands.specs.Calls.{statusRead, status-call, sentence-answered, length-call}
 
 -- the call's reply says that the first command is refused for conflict: Status 1/33 in a reply of 35 bytes, the header and one refused block. (Where a later

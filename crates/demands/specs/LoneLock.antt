@@ -28,7 +28,7 @@ use Rattle.locks.specs.declared.types.Purpose.the-variants.{Grant, Read as Read
 use Rattle.soundness.specs.File.{fileOf}
 use Rattle.soundness.specs.Sound.{sound}
 use Rattle.soundness.specs.Lookup.{isTree}
-use Rattle.claims.specs.SoundParts.{sound-says}
+use Rattle.invariants.specs.SoundParts.{sound-says}
 use Rattle.claims.specs.SoundPlain.{fileOf-one, sound-plain}
 use Rattle.chain.specs.declared.block.LockingFields.{LockingFields}
 use Rattle.chain.specs.declared.block.ReadFields.{ReadFields}
@@ -37,9 +37,9 @@ use Rattle.message.specs.declared.caller.Caller.{Caller}
 use Rattle.message.specs.Contents.{resized, written}
 use Rattle.message.specs.Command.{Given, Said, wrote, refused, done, isSession, withSession, withTree, isOpen, openAt, withOpen, servedType, requestOf, lockingEnd, lockingAfter, doLocking, askOf, unlessBarred, barring, doRead, endsPast, doWrite}
 use Rattle.message.specs.declared.refusal.Refusal.the-variants.{Conflict, NoSpace}
-use Rattle.demands.specs.GivenCases.{cond-case}
-use Rattle.demands.specs.FoundFacts.{found-hit, found-miss}
-use Rattle.demands.specs.Sound.{open-hit, open-fid}
+use Rattle.invariants.specs.GivenCases.{cond-case}
+use Rattle.invariants.specs.FoundFacts.{found-hit, found-miss}
+use Rattle.invariants.specs.Sound.{open-hit, open-fid}
 
 -- the command's refusal is 1/33
 abbrev pub Conflicts : Given → Type 0

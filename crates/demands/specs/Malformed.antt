@@ -26,8 +26,8 @@ use Rattle.chain.specs.declared.block.ReadFields.{ReadFields}
 use Rattle.chain.specs.declared.block.WriteFields.{WriteFields}
 use Rattle.chain.specs.declared.block.Block.{Block}
 use Rattle.chain.specs.declared.block.Next.{Next}
-use Rattle.readings.specs.BlockParse.{bodyAt, blockAt, block-inside}
-use Rattle.readings.specs.Chained.{Chained, chained-end, chained-more, read-chained}
+use Rattle.invariants.specs.BlockParse.{bodyAt, blockAt, block-inside}
+use Rattle.invariants.specs.Chained.{Chained, chained-end, chained-more, read-chained}
 use Rattle.readings.specs.ReaderComplete.{no-sentence}
 use Rattle.message.specs.Caller.{callerOf}
 use Rattle.message.specs.declared.caller.Caller.{Caller}
@@ -37,7 +37,7 @@ use Rattle.message.specs.Command.{Given, Said, refused, done, servedType, reque
 use Rattle.message.specs.Message.{areaOf, Ran, after, afterGiven, run, served, onlyStatus, runChain, answered}
 use Rattle.message.specs.declared.refusal.Refusal.{Refusal}
 use Rattle.message.specs.declared.refusal.Refusal.the-variants.{NoSession, NoTree, NoOpen, NoAccess, LockType, NoSuchLock, PassesEnd, Conflict, NoRecord, NoSpace}
-use Rattle.demands.specs.GivenCases.{cond-case, request-case, session-case, tree-case, open-case, barred-case}
+use Rattle.invariants.specs.GivenCases.{cond-case, request-case, session-case, tree-case, open-case, barred-case}
 
 -- a command is done, or refused with another status than 2/1
 pub data Other : Given → Type 0 where

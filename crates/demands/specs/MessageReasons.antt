@@ -15,8 +15,8 @@ use Rattle.records.specs.declared.Tables.{Tables}
 use Rattle.soundness.specs.Sound.{sound}
 use Rattle.chain.specs.Header.{startsSmb, isReply, dropped}
 use Rattle.message.specs.Message.{answered, Taken, notTaken, replied, take-message}
-use Rattle.demands.specs.GivenCases.{cond-case}
-use Rattle.demands.specs.Taken.{Fit}
+use Rattle.invariants.specs.GivenCases.{cond-case}
+use Rattle.invariants.specs.Fit.{Fit}
 
 -- ---- the reasons
 

@@ -34,9 +34,9 @@ use Rattle.message.specs.declared.refusal.Status.{Status}
 use Rattle.message.specs.declared.refusal.Refusal.the-variants.{NoAccess, LockType, NoSpace}
 use Rattle.message.specs.Command.{Given, refused, done, servedType, requestOf, lockingEnd, lockingAfter, doLocking, doRead, endsPast, doWrite, perform}
 use Rattle.message.specs.Message.{areaOf, dataOf, Ran, after, afterGiven, run, served, onlyStatus, runChain, answered, take-message}
-use Rattle.demands.specs.GivenCases.{cond-case, request-case, session-case, tree-case, open-case, barred-case}
+use Rattle.invariants.specs.GivenCases.{cond-case, request-case, session-case, tree-case, open-case, barred-case}
 use Rattle.demands.specs.Malformed.{not-served}
-use Rattle.demands.specs.Taken.{Fit}
+use Rattle.invariants.specs.Fit.{Fit}
 use Rattle.demands.specs.Calls.{statusRead, status-call}
 
 -- "Known: a request served": "CLOSE 0x04, PROCESS_EXIT 0x11, LOCKING_ANDX 0x24, READ_ANDX 0x2E, WRITE_ANDX 0x2F, TREE_DISCONNECT 0x71, LOGOFF_ANDX 0x74"

@@ -18,13 +18,13 @@ use Rattle.chain.specs.Chain.{blocks}
 use Rattle.chain.specs.declared.block.Block.{Block}
 use Rattle.chain.specs.declared.block.Next.{Next}
 use Rattle.chain.specs.declared.block.Next.the-variants.{End, Follow}
-use Rattle.readings.specs.BlockTests.{Served, plain as plainServed, andx as andxServed}
-use Rattle.readings.specs.BlockParse.{bodyAt, blockAt, block-inside, block-served, Link as Linked, link-plain, link-end, link-next}
+use Rattle.invariants.specs.BlockTests.{Served, plain as plainServed, andx as andxServed}
+use Rattle.invariants.specs.BlockParse.{bodyAt, blockAt, block-inside, block-served, Link as Linked, link-plain, link-end, link-next, behind}
 use Rattle.readings.specs.Moved.{Moved}
 use Rattle.readings.specs.Alone.{movedAlone, alone-blocks}
-use Rattle.readings.specs.ReaderSound.{spanOf}
+use Rattle.invariants.specs.ReaderSound.{spanOf}
 use Rattle.readings.specs.ReaderComplete.{reader-complete}
-use Rattle.readings.specs.Chained.{Chained, chained-end, chained-more, read-chained}
+use Rattle.invariants.specs.Chained.{Chained, chained-end, chained-more, read-chained}
 use Rattle.message.specs.Caller.{callerOf}
 use Rattle.message.specs.declared.caller.Caller.{Caller}
 use Rattle.message.specs.Refusal.{status, statusOf}
@@ -37,7 +37,7 @@ use Rattle.message.specs.Message.{areaOf, dataOf, Ran, after, linkTo, afterGive
 use Rattle.message.specs.declared.refusal.Refusal.{Refusal}
 use Rattle.message.specs.declared.refusal.Refusal.the-variants.{NotServed, NotSentence, NoSession, NoTree, NoOpen, NoAccess, LockType, NoSuchLock, PassesEnd, Conflict, NoRecord, NoSpace}
 use Rattle.demands.specs.PerformMoved.{perform-body, perform-bytes}
-use Rattle.demands.specs.ReplySize.{length-block, length-header}
+use Rattle.invariants.specs.ReplySize.{length-block, length-header}
 use Rattle.demands.specs.Alone.{alone, alone-command, alone-header, length-alone, alone-moved, alone-ends}
 
 -- ---- sending
@@ -230,12 +230,6 @@ links-same connection s long [] p t memory = refl
 links-same connection s long (b ∷ bs) p t memory =
     send-head (succeeded (answered connection (alone s b) t memory .status)) (replyOf (alone s b) (answered connection (alone s b) t memory)) _ _ _ _ p
     ∙ ap (λ (c : ℕ). next c p) (reply-command (alone s b) (answered connection (alone s b) t memory) ∙ alone-command s b long)
-
--- a follower stands behind
-pub behind : {s : List ℕ} {command at : ℕ} {nx : Next} (c a : ℕ) → Linked s command at nx → nx ≡ Follow c a → blockEnd s at ≤ a
-behind c a (link-plain p) e = let z : _≡_ {A = ℕ} 0 1 = cc in absurd (omega arith)
-behind c a (link-end n f) e = let z : _≡_ {A = ℕ} 0 1 = cc in absurd (omega arith)
-behind {s} {command} {at} c a (link-next f g) e = let z : andxOffset s at ≡ a = cc in omega arith
 
 -- the message of a block of the table has a header
 alone-long : {s : List ℕ} {command at : ℕ} (nx : Next) → IsBlock s at command → 32 ≤ at → 32 ≤ length (alone s (blockAt s command at nx))

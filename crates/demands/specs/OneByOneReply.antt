@@ -17,12 +17,12 @@ use Rattle.message.specs.declared.refusal.Status.{Status}
 use Rattle.chain.specs.Layout.{headerCommand, FIRST, blockEnd}
 use Rattle.chain.specs.Chain.{blocks}
 use Rattle.chain.specs.declared.block.Block.{Block}
-use Rattle.readings.specs.BlockParse.{block-inside}
+use Rattle.invariants.specs.BlockParse.{block-inside}
 use Rattle.readings.specs.MovedBytes.{part-same}
-use Rattle.readings.specs.Chained.{Chained, chained-end, chained-more, read-chained}
+use Rattle.invariants.specs.Chained.{Chained, chained-end, chained-more, read-chained}
 use Rattle.message.specs.Reply.{two, replyHeader}
 use Rattle.message.specs.Message.{Ran, answered, replyOf}
-use Rattle.demands.specs.ReplySize.{length-header}
+use Rattle.invariants.specs.ReplySize.{length-header}
 use Rattle.demands.specs.Alone.{alone, alone-header, length-alone-more}
 use Rattle.demands.specs.OneByOne.{Sent, succeeded, replyThen, sendOn, sendAll, joined, compared, one-by-one}
 

@@ -20,7 +20,7 @@ use Rattle.chain.specs.Parse.{isLarge}
 use Rattle.chain.specs.declared.block.LockingFields.{LockingFields}
 use Rattle.chain.specs.declared.block.Body.{Body}
 use Rattle.chain.specs.declared.block.Body.the-variants.{Locking, Read, Write, Close, Logoff, TreeDisconnect, ProcessExit}
-use Rattle.readings.specs.BlockParse.{bodyAt}
+use Rattle.invariants.specs.BlockParse.{bodyAt}
 use Rattle.readings.specs.Moved.{Moved, movedBody}
 use Rattle.readings.specs.MovedBytes.{part, areaAt, moved-area-length, moved-range-list, moved-data-part}
 use Rattle.message.specs.declared.caller.Caller.{Caller}

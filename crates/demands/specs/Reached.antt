@@ -12,15 +12,15 @@ use Rattle.lists.specs.Truth.{neither-holds}
 use Rattle.records.specs.declared.Tables.{Tables}
 use Rattle.soundness.specs.Sound.{sound}
 use Rattle.host.specs.HostCall.{noTables, addSession, addTree, addOpen, loadFile, loadMemory, dropConnection}
-use Rattle.claims.specs.HostSound.{start-sound, addSession-sound, addTree-sound, addOpen-sound, loadFile-sound, dropConnection-sound, addSession-shaped, addTree-shaped, addOpen-shaped, loadFile-shaped, dropConnection-shaped}
+use Rattle.invariants.specs.HostSound.{start-sound, addSession-sound, addTree-sound, addOpen-sound, loadFile-sound, dropConnection-sound, addSession-shaped, addTree-shaped, addOpen-shaped, loadFile-shaped, dropConnection-shaped}
 use Rattle.claims.specs.HostAnswer.{loadMemory-refused}
 use Rattle.claims.specs.LoadBytes.{loadMemory-done}
 use Rattle.chain.specs.Header.{dropped}
 use Rattle.message.specs.Message.{answered, Taken, notTaken, replied, take-message}
-use Rattle.demands.specs.GivenCases.{cond-case}
-use Rattle.demands.specs.Sound.{Good}
+use Rattle.invariants.specs.GivenCases.{cond-case}
+use Rattle.invariants.specs.Sound.{Good}
 use Rattle.demands.specs.MemorySize.{answered-memory}
-use Rattle.demands.specs.Taken.{take-message-good}
+use Rattle.invariants.specs.Fit.{take-message-good}
 
 -- the tables to start from
 pub start-good : Good noTables

@@ -16,8 +16,8 @@ use Rattle.chain.specs.Chain.{blocks}
 use Rattle.chain.specs.declared.block.LockingFields.{LockingFields}
 use Rattle.chain.specs.declared.block.Body.the-variants.{Locking as LockingBody}
 use Rattle.chain.specs.declared.block.Block.{Block}
-use Rattle.readings.specs.BlockParse.{bodyAt, blockAt}
-use Rattle.readings.specs.Chained.{Chained, chained-end, read-chained}
+use Rattle.invariants.specs.BlockParse.{bodyAt, blockAt}
+use Rattle.invariants.specs.Chained.{Chained, chained-end, read-chained}
 use Rattle.message.specs.Caller.{callerOf}
 use Rattle.message.specs.Refusal.{status}
 use Rattle.message.specs.declared.refusal.Status.{Status}
@@ -25,7 +25,7 @@ use Rattle.message.specs.Command.{Given, refused, done, perform}
 use Rattle.message.specs.Message.{areaOf, dataOf, Ran, after, afterGiven, run, runChain, answered, take-message}
 use Rattle.demands.specs.Malformed.{length-area}
 use Rattle.demands.specs.OneByOne.{chained-served}
-use Rattle.demands.specs.Taken.{Fit}
+use Rattle.invariants.specs.Fit.{Fit}
 use Rattle.demands.specs.Calls.{statusRead, status-call}
 use Rattle.demands.specs.CommandReasons.{Reason, Announced, perform-exact}
 

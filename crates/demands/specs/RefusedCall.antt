@@ -23,8 +23,9 @@ use Rattle.message.specs.declared.refusal.Refusal.{Refusal}
 use Rattle.message.specs.Command.{Said, Given, refused, done, perform}
 use Rattle.message.specs.Reply.{replyHeader, replyBlock, refusedBlock, replySize}
 use Rattle.message.specs.Message.{areaOf, dataOf, Ran, after, linkTo, afterGiven, run, served, onlyStatus, answered, replyOf, Taken, replied, take-message}
-use Rattle.demands.specs.ReplySize.{length-block, length-header}
-use Rattle.demands.specs.Taken.{Fit, fit-answered, not-short, malformed-taken, not-served-taken}
+use Rattle.invariants.specs.ReplySize.{length-block, length-header}
+use Rattle.invariants.specs.Fit.{Fit, fit-answered}
+use Rattle.demands.specs.Taken.{not-short, malformed-taken, not-served-taken}
 use Rattle.demands.specs.Calls.{statusRead, status-call, sentence-answered, length-call}
 use Rattle.demands.specs.LoneCall.{given-least}
 

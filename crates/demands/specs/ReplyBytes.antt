@@ -13,7 +13,7 @@ use Rattle.message.specs.Refusal.{status}
 use Rattle.message.specs.declared.link.Link.the-variants.{None as noLink}
 use Rattle.message.specs.Command.{Said, read, wrote}
 use Rattle.message.specs.Reply.{two, linkWords, replyHeader, replyBlock}
-use Rattle.demands.specs.ReplySize.{length-header}
+use Rattle.invariants.specs.ReplySize.{length-header}
 
 module _ (s : List ℕ) (long : 32 ≤ length s) (room : List ℕ) (said : Said) where
   -- the block, the reply laid over the front of the room, and what stands in the room behind it

@@ -16,12 +16,12 @@ use Rattle.lists.specs.Truth.{neither-holds}
 use Rattle.wire.specs.LittleEndian.{byteAt}
 use Rattle.records.specs.declared.Tables.{Tables}
 use Rattle.soundness.specs.Sound.{sound}
-use Rattle.claims.specs.Shaped.{Shaped}
+use Rattle.invariants.specs.Shaped.{Shaped}
 use Rattle.chain.specs.Header.{dropped}
 use Rattle.message.specs.Message.{answered, replyOf, Taken, notTaken, replied, take-message}
-use Rattle.demands.specs.GivenCases.{cond-case}
+use Rattle.invariants.specs.GivenCases.{cond-case}
 use Rattle.demands.specs.Taken.{not-short, not-long}
-use Rattle.demands.specs.ReplyRoom.{reply-room}
+use Rattle.invariants.specs.ReplyRoom.{reply-room}
 
 -- ---- a refusal
 

@@ -12,7 +12,7 @@ use Rattle.chain.specs.Grammar.{Sentence}
 use Rattle.chain.specs.Parse.{shaped, bare, isLarge, lockingFits, readFits, mayFollow, linkFits, linkAt, answer, parseLocking, parseRead, parse}
 use Rattle.chain.specs.Chain.{before, afterBlock, afterParse, blocksWithin, blocksFrom, blocks}
 use Rattle.chain.specs.declared.block.Block.{Block}
-use Rattle.readings.specs.ReaderSound.{spanOf, reader-sound}
+use Rattle.invariants.specs.ReaderSound.{spanOf, reader-sound}
 use Rattle.readings.specs.ReaderComplete.{no-sentence}
 use Rattle.message.specs.Refusal.{status}
 use Rattle.message.specs.declared.refusal.Status.{Status}

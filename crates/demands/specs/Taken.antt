@@ -1,4 +1,4 @@
--- The call itself, `take-message`: demand 1, free bytes, malformed messages and the messages sent one by one, of what the call gives. Assumes nothing.
+-- The call itself, `take-message`: free bytes, malformed messages and the messages sent one by one, of what the call gives. Assumes nothing.
 use mathlib.Core.Path.{_≡_, refl, sym, ap, _∙_}
 use Prim.Native.Nat.{ℕ, _+_, _≤_, _<_}
 use native.Mathlib.Omega.{arith}
@@ -6,13 +6,12 @@ use mathlib.Core.Bool.{true, false, not, _||_}
 use mathlib.Core.List.{List, [], _∷_}
 use mathlib.Core.Option.{some}
 use lib.ListN.{length, take}
-use lib.Dec.{eqb, ltb}
-use borrow.Author.Tests.{ltb-false, le-ltb, eq-eqb}
+use lib.Dec.{ltb}
+use borrow.Author.Tests.{ltb-false, le-ltb}
 use Rattle.lists.specs.Truth.{neither-holds}
 use Rattle.wire.specs.LittleEndian.{byteAt}
 use Rattle.records.specs.declared.Tables.{Tables}
 use Rattle.message.specs.Refusal.{status}
-use Rattle.soundness.specs.Sound.{sound}
 use Rattle.chain.specs.Layout.{headerCommand, FIRST, blockEnd}
 use Rattle.chain.specs.Grammar.{IsBlock, Span, Reading, Sentence}
 use Rattle.chain.specs.Header.{startsSmb, isReply, dropped}
@@ -20,41 +19,16 @@ use Rattle.chain.specs.Chain.{blocks}
 use Rattle.chain.specs.declared.block.Block.{Block}
 use Rattle.chain.specs.declared.block.Next.{Next}
 use Rattle.chain.specs.declared.block.Next.the-variants.{End, Follow}
-use Rattle.readings.specs.BlockParse.{blockAt, block-inside}
-use Rattle.readings.specs.Moved.{blockSize}
+use Rattle.invariants.specs.BlockParse.{blockAt, block-inside, blockSize, behind}
 use Rattle.readings.specs.FreeBytes.{AllStand, AllAlike, all-alike}
-use Rattle.readings.specs.Chained.{Chained, chained-end, chained-more, read-chained}
-use Rattle.message.specs.Message.{served, onlyStatus, answered, Taken, notTaken, replied, take-message}
-use Rattle.demands.specs.GivenCases.{cond-case}
+use Rattle.invariants.specs.Chained.{Chained, chained-end, chained-more, read-chained}
+use Rattle.message.specs.Message.{served, onlyStatus, answered, replied, take-message}
+use Rattle.invariants.specs.Fit.{Fit, fit-answered}
 use Rattle.demands.specs.Malformed.{malformed-nothing, not-served}
 use Rattle.demands.specs.FreeBytesMessage.{unread-answered, unread-reply}
 use Rattle.demands.specs.Alone.{alone, alone-header, length-alone}
-use Rattle.demands.specs.OneByOne.{behind}
-use Rattle.demands.specs.Sound.{Good, answered-good}
+use Rattle.invariants.specs.Sound.{Good, answered-good}
 use Rattle.demands.specs.MemorySize.{answered-memory}
-
--- "Every call on sound tables leaves sound tables": the call that takes a message, whatever it is given
-pub take-message-good : (connection : ℕ) (s : List ℕ) (t : Tables) (memory room : List ℕ) → Good t → Good (take-message connection s t memory room .tables)
-unfolding take-message notTaken replied
-take-message-good connection s t memory room g =
-    cond-case (λ (r : Taken). Good (r .tables)) (ltb (length room) 12292 || not (eqb (length memory) 65536)) (notTaken 2 t memory room) _ (λ _. g)
-    (λ _. cond-case (λ (r : Taken). Good (r .tables)) (not (sound t)) (notTaken 4 t memory room) _ (λ _. g)
-    (λ _. cond-case (λ (r : Taken). Good (r .tables)) (dropped s) (notTaken 1 t memory room) (replied s room (answered connection s t memory)) (λ _. g)
-    (λ _. answered-good connection s t memory g)))
-
--- "Fit to be answered: rows 1, 2 and 4 don't apply"
-pub record Fit (s : List ℕ) (t : Tables) (memory room : List ℕ) : Type 0 where
-  pub room-enough : 12292 ≤ length room
-  pub memory-whole : length memory ≡ 65536
-  pub tables-sound : sound t ≡ true
-  pub not-dropped : dropped s ≡ false
-
--- such a message is answered
-pub fit-answered : (connection : ℕ) (s : List ℕ) (t : Tables) (memory room : List ℕ) → Fit s t memory room
-    → take-message connection s t memory room ≡ replied s room (answered connection s t memory)
-unfolding take-message
-fit-answered connection s t memory room f =
-    rw (le-ltb (length room) 12292 (f .room-enough), eq-eqb (length memory) 65536 (f .memory-whole), f .tables-sound, f .not-dropped)
 
 -- "Timeout fields are not looked at", "0xFF ends the chain and the offset is ignored": of two messages fit to be answered, let header, connection, tables and
 -- files be equal. If the blocks of a reading of one stand at the same places in the other, but for bytes that are not looked at (`Unread`), number, reply,

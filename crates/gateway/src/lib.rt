@@ -17,7 +17,7 @@ ghost use mathlib.Core.Path.{_≡_};
 ghost use mathlib.Core.Bool.{true};
 ghost use Rattle.host.specs.HostCall.{noTables};
 ghost use Rattle.words.specs.Words.{packed, unpacked};
-ghost use Rattle.gateway.specs.Boundary.{numberOf, wordsAfter, idAfter, sessionAdded, treeAdded, openAdded, connectionDropped, fileLoaded, loadNumberOf, memoryAfter, messageTaken, messageLeft, ready, ForNext};
+ghost use Rattle.boundary.specs.Boundary.{numberOf, wordsAfter, idAfter, sessionAdded, treeAdded, openAdded, connectionDropped, fileLoaded, loadNumberOf, memoryAfter, messageTaken, messageLeft, ready, ForNext};
 
 // Tables to start from.
 #[no_mangle]

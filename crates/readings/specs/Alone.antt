@@ -9,10 +9,10 @@ use Rattle.chain.specs.Grammar.{IsBlock, NamedAndx}
 use Rattle.chain.specs.Chain.{blocks, blocksFrom}
 use Rattle.chain.specs.declared.block.Next.the-variants.{End}
 use Rattle.chain.specs.declared.block.Block.{Block}
-use Rattle.readings.specs.BlockTests.{Served, plain, andx}
-use Rattle.readings.specs.BlockParse.{bodyAt, blockAt, block-served, Link, link-plain, link-end, parse-complete}
+use Rattle.invariants.specs.BlockTests.{Served, plain, andx}
+use Rattle.invariants.specs.BlockParse.{bodyAt, blockAt, block-served, Link, link-plain, link-end, parse-complete, blockSize}
 use Rattle.chain.specs.ChainLaws.{chain-end}
-use Rattle.readings.specs.Moved.{Moved, blockSize, movedBody, moved-block, moved-body, moved-size}
+use Rattle.readings.specs.Moved.{Moved, movedBody, moved-block, moved-body, moved-size}
 
 -- "with AndXCommand 0xFF where it has one": nothing follows
 alone-link : (t : List ℕ) (at : ℕ) {command : ℕ} → Served command → (NamedAndx command → andxCommand t at ≡ NO_COMMAND) → Link t command at End

@@ -15,14 +15,14 @@ use Rattle.chain.specs.declared.block.Body.the-variants.{Locking, Read, Write, 
 use Rattle.chain.specs.declared.block.Next.{Next}
 use Rattle.chain.specs.declared.block.Next.the-variants.{End, Follow}
 use Rattle.chain.specs.declared.block.Block.{Block}
-use Rattle.readings.specs.BlockParse.{bodyAt, blockAt, Link, link-plain, link-end, link-next, parse-complete, follow-andx, follow-not-end, write-words, andx-words}
+use Rattle.invariants.specs.BlockParse.{bodyAt, blockAt, Link, link-plain, link-end, link-next, parse-complete, follow-andx, follow-not-end, write-words, andx-words, blockSize}
 use Rattle.readings.specs.SameNumbers.{same-16}
 use Rattle.readings.specs.Unread.{Unread}
 use Rattle.readings.specs.UnreadLaws.{in-words, unread-write, unread-front, offset-looked}
 use Rattle.chain.specs.ChainLaws.{chain-end, chain-more}
-use Rattle.readings.specs.ReaderSound.{reader-sound-from}
+use Rattle.invariants.specs.ReaderSound.{reader-sound-from}
 use Rattle.readings.specs.ReaderComplete.{reader-complete-from}
-use Rattle.readings.specs.Moved.{blockSize, movedBody, Moved, moved-block, moved-body, moved-size}
+use Rattle.readings.specs.Moved.{movedBody, Moved, moved-block, moved-body, moved-size}
 
 -- a block of s stands unchanged at the same place in t
 pub record Stands (s t : List ℕ) (x : Span) : Type 0 where

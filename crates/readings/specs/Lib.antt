@@ -1,16 +1,11 @@
-pub mod Follows
-pub mod BlockTests
-pub mod BlockParse
 pub mod Unread
 pub mod UnreadLaws
 pub mod SameNumbers
 pub mod RangeBytes
-pub mod ReaderSound
 pub mod ReaderComplete
 pub mod OneReading
 pub mod Moved
 pub mod FreeBytes
 pub mod MovedBytes
 pub mod Alone
-pub mod Chained
 pub mod ListingFits

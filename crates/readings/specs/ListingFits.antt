@@ -23,8 +23,8 @@ use Rattle.chain.specs.declared.block.Parsed.the-variants.{Whole}
 use Rattle.text.specs.Digits.{decimal, hexByte}
 use Rattle.listing.specs.Text.{line, endLine, linesFrom, notChain, droppedLine, listed, listing}
 use Rattle.text.specs.DigitLaws.{decimal-small, decimal-more}
-use Rattle.readings.specs.BlockParse.{blockAt, parse-complete}
-use Rattle.readings.specs.Chained.{Chained, chained-end, chained-more, read-chained}
+use Rattle.invariants.specs.BlockParse.{blockAt, parse-complete}
+use Rattle.invariants.specs.Chained.{Chained, chained-end, chained-more, read-chained}
 
 -- a number below ten has one digit
 one-digit : (n : ℕ) → n < 10 → length (decimal n) ≤ 1

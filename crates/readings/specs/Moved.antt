@@ -16,14 +16,10 @@ use Rattle.chain.specs.Grammar.{Shape, Bare, Ranges, Data, IsBlock, locking-10,
 use Rattle.chain.specs.Parse.{wideOffset}
 use Rattle.chain.specs.declared.block.Body.{Body}
 use Rattle.chain.specs.declared.block.Body.the-variants.{Locking, Read, Write, Close, Logoff, TreeDisconnect, ProcessExit}
-use Rattle.readings.specs.BlockParse.{bodyAt, plain-not-andx, andx-words}
+use Rattle.invariants.specs.BlockParse.{bodyAt, plain-not-andx, andx-words, blockSize}
 use Rattle.readings.specs.SameNumbers.{SameBytes, same-16, same-32}
 use Rattle.readings.specs.Unread.{UnreadWord, Unread}
 use Rattle.readings.specs.UnreadLaws.{in-words, unread-locking, unread-read, unread-write, unread-front, unread-andx, unread-before-count}
-
--- the length of the block at a place
-abbrev pub blockSize : List ℕ → ℕ → ℕ
-blockSize s at = blockEnd s at - at
 
 -- The bytes of a block that stay as they are, counted from its start: all of a request not named ANDX; of the others all but
 -- the four AndX words' bytes, 1 to 4, and of a WRITE block all but these and its DataOffset's bytes, 23 and 24.

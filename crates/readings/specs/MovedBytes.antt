@@ -12,11 +12,11 @@ use Rattle.locks.specs.Wire.{rangeSize, rangesAt}
 use Rattle.chain.specs.Layout.{LOCKING, WRITE, wordCount, byteArea, byteCount, blockEnd, lockType, unlockCount, lockCount, dataLength, dataOffset}
 use Rattle.chain.specs.Grammar.{IsBlock, Ranges, Data}
 use Rattle.chain.specs.Parse.{isLarge}
-use Rattle.readings.specs.BlockParse.{block-inside, write-words}
+use Rattle.invariants.specs.BlockParse.{block-inside, write-words, blockSize}
 use Rattle.readings.specs.Unread.{Unread}
 use Rattle.readings.specs.UnreadLaws.{range-looked, data-looked}
 use Rattle.readings.specs.RangeBytes.{ranges-same}
-use Rattle.readings.specs.Moved.{Moved, blockSize, moved-bytes, moved-count, moved-end, moved-area, moved-length}
+use Rattle.readings.specs.Moved.{Moved, moved-bytes, moved-count, moved-end, moved-area, moved-length}
 
 -- a part of that many bytes from a place on
 abbrev pub part : List ℕ → ℕ → ℕ → List ℕ

@@ -7,7 +7,7 @@ use mathlib.Core.Option.{some}
 use Rattle.chain.specs.Layout.{headerCommand, FIRST}
 use Rattle.chain.specs.Grammar.{Span, ReadingFrom, Reading}
 use Rattle.chain.specs.Chain.{blocksFrom}
-use Rattle.readings.specs.ReaderSound.{spanOf}
+use Rattle.invariants.specs.ReaderSound.{spanOf}
 use Rattle.readings.specs.ReaderComplete.{Answered, reader-complete-from}
 
 -- two answers of the reader have the same blocks

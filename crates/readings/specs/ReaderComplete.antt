@@ -11,9 +11,9 @@ use Rattle.chain.specs.Grammar.{IsBlock, Span, spanAt, ReadingFrom, plain-end, 
 use Rattle.chain.specs.Chain.{before, blocksFrom, blocks}
 use Rattle.chain.specs.declared.block.Next.the-variants.{End, Follow}
 use Rattle.chain.specs.declared.block.Block.{Block}
-use Rattle.readings.specs.BlockParse.{blockAt, Link, link-plain, link-end, link-next, parse-complete}
+use Rattle.invariants.specs.BlockParse.{blockAt, Link, link-plain, link-end, link-next, parse-complete}
 use Rattle.chain.specs.ChainLaws.{chain-end, chain-more}
-use Rattle.readings.specs.ReaderSound.{spanOf, span-of-block, reader-sound-from}
+use Rattle.invariants.specs.ReaderSound.{spanOf, span-of-block, reader-sound-from}
 
 -- the reader's answer with those blocks
 pub record Answered (s : List ℕ) (command at : ℕ) (spans : List Span) : Type 0 where

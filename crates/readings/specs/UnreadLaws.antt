@@ -10,7 +10,7 @@ use Rattle.locks.specs.Wire.{rangeSize}
 use Rattle.chain.specs.Layout.{CLOSE, PROCESS_EXIT, LOCKING, READ, WRITE, NO_COMMAND, wordCount, byteArea, andxCommand, lockType, dataLength, dataOffset}
 use Rattle.chain.specs.Grammar.{IsBlock, locking-10, locking-20, read-10, read-12, write-12, write-14, close, logoff, tree-disconnect, process-exit, NamedAndx, close-plain}
 use Rattle.chain.specs.Parse.{isLarge}
-use Rattle.readings.specs.BlockParse.{plain-not-andx}
+use Rattle.invariants.specs.BlockParse.{plain-not-andx}
 use Rattle.readings.specs.Unread.{UnreadWord, locking-word, read-word, write-word, close-word, Unread, unread-word, unread-reserved, unread-offset, unread-pad, unread-before, unread-behind}
 
 -- before the bytes, and but for the AndX words, only the words of the table are not looked at

@@ -12,7 +12,7 @@ use Rattle.message.specs.Given.{inside, blockOf, answerSize}
 use Rattle.message.specs.declared.link.Link.{Link}
 use Rattle.message.specs.declared.answer.Answer.{Answer}
 use Rattle.message.specs.declared.answer.Answer.the-variants.{Refused, Locked, LoggedOff, Read, Wrote, Plain}
-use Rattle.demands.specs.ReplySize.{length-block}
+use Rattle.invariants.specs.ReplySize.{length-block}
 
 -- the bytes that a READ yields are as many as it says
 pub length-yielded : (memory : List ℕ) (at count : ℕ) → at + count ≤ length memory → length (take count (drop at memory)) ≡ count

@@ -13,8 +13,8 @@ use Rattle.chain.specs.declared.block.Next.{Next}
 use Rattle.chain.specs.declared.block.Next.the-variants.{End, Follow}
 use Rattle.chain.specs.declared.block.Block.{Block}
 use Rattle.chain.specs.declared.block.Parsed.the-variants.{Whole}
-use Rattle.readings.specs.BlockParse.{blockAt, parse-complete}
-use Rattle.readings.specs.Chained.{Chained, chained-end, chained-more}
+use Rattle.invariants.specs.BlockParse.{blockAt, parse-complete}
+use Rattle.invariants.specs.Chained.{Chained, chained-end, chained-more}
 use Rattle.message.specs.declared.caller.Caller.{Caller}
 use Rattle.message.specs.declared.refusal.Status.{Status}
 use Rattle.message.specs.Refusal.{status, statusOf}
@@ -27,8 +27,8 @@ use Rattle.message.specs.Message.{areaOf, dataOf, Ran, after, linkTo, afterGive
 use Rattle.message.specs.Given.{givenOf, inside, tablesAfter, memoryAfter, blockOf, answerSize}
 use Rattle.message.specs.declared.answer.Answer.{Answer}
 use Rattle.message.specs.declared.answer.Answer.the-variants.{Refused, Locked, LoggedOff, Read, Wrote, Plain}
-use Rattle.demands.specs.Sound.{Good, keeps-good, perform-keeps}
-use Rattle.demands.specs.ReplySize.{length-block}
+use Rattle.invariants.specs.Sound.{Good, keeps-good, perform-keeps}
+use Rattle.invariants.specs.ReplySize.{length-block}
 use Rattle.reply.specs.Links.{linkFor}
 use Rattle.reply.specs.BlockLaws.{length-yielded, read-inside}
 use Rattle.server.specs.Step.{statusAfter, goesOn}

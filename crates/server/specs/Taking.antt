@@ -20,8 +20,8 @@ use Rattle.chain.specs.declared.block.Block.{Block}
 use Rattle.chain.specs.declared.block.Parsed.the-variants.{Whole, Malformed}
 use Rattle.chain.specs.declared.reader.Chain.{Chain}
 use Rattle.chain.specs.declared.reader.Chain.the-variants.{Sentence, NoSentence}
-use Rattle.readings.specs.BlockParse.{parse-complete}
-use Rattle.readings.specs.Chained.{Chained, chained-end, chained-more, read-chained}
+use Rattle.invariants.specs.BlockParse.{parse-complete}
+use Rattle.invariants.specs.Chained.{Chained, chained-end, chained-more, read-chained}
 use Rattle.message.specs.declared.caller.Caller.{Caller}
 use Rattle.message.specs.Caller.{callerOf}
 use Rattle.message.specs.Refusal.{statusOf}
@@ -34,9 +34,9 @@ use Rattle.message.specs.declared.answer.Answer.the-variants.{Refused, Locked, 
 use Rattle.message.specs.declared.answer.Performed.{Performed}
 use Rattle.message.specs.Given.{Gives, inside, blockOf, answerSize}
 use Rattle.message.specs.Message.{areaOf, dataOf, Ran, onlyStatus, runChain, served, answered, replyOf, Taken, replied}
-use Rattle.demands.specs.Sound.{Good}
-use Rattle.demands.specs.ReplySize.{length-header}
-use Rattle.demands.specs.ReplyRoom.{chain-room}
+use Rattle.invariants.specs.Sound.{Good}
+use Rattle.invariants.specs.ReplySize.{length-header}
+use Rattle.invariants.specs.ReplyRoom.{chain-room}
 use Rattle.message.specs.declared.link.Link.{Link}
 use Rattle.reply.specs.Links.{linkFor}
 use Rattle.reply.specs.BlockLaws.{length-of-block}

@@ -30,7 +30,7 @@ ghost use Prim.Native.Nat.{_≤_};
 ghost use lib.ListN.{length};
 ghost use Rattle.message.specs.Refusal.{statusOf};
 ghost use Rattle.message.specs.Message.{served, onlyStatus, answered, replied, take-message};
-ghost use Rattle.demands.specs.Sound.{Good};
+ghost use Rattle.invariants.specs.Sound.{Good};
 ghost use Rattle.server.specs.TakenOf.{takenOf, refusal};
 
 // Row 1 of document 01's table "What a call returns"; `host::answer` has the others.

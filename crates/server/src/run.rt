@@ -25,7 +25,7 @@ ghost use Rattle.lists.specs.Put.{put};
 ghost use Rattle.chain.specs.Chain.{blocks};
 ghost use Rattle.message.specs.Message.{runChain};
 ghost use Rattle.message.specs.Given.{inside, blockOf, answerSize};
-ghost use Rattle.demands.specs.Sound.{Good};
+ghost use Rattle.invariants.specs.Sound.{Good};
 ghost use Rattle.reply.specs.Links.{linkFor};
 ghost use Rattle.server.specs.Going.{Finished};
 ghost use Rattle.server.specs.Taking.{readable};

@@ -6,10 +6,10 @@ use mathlib.Core.Path.{sym, ap, _∙_}
 use borrow.Author.Tests.{not-true, not-false}
 use Rattle.records.specs.declared.Tables.{Tables}
 use Rattle.host.specs.HostCall.{addOpen}
-use Rattle.claims.specs.HostSound.{addOpen-sound}
+use Rattle.invariants.specs.HostSound.{addOpen-sound}
 use Rattle.words.specs.Words.{unpacked}
-use Rattle.gateway.specs.Boundary.{openAdded}
-use Rattle.gateway.specs.BoundaryLaws.{unfit, refused-leaves, done-leaves}
+use Rattle.boundary.specs.Boundary.{openAdded}
+use Rattle.boundary.specs.BoundaryLaws.{unfit, refused-leaves, done-leaves}
 
 words-fit-requires : tie.Need-words-fit-requires
 words-fit-requires c κs = search needs

@@ -4,9 +4,9 @@ use Rattle.gateway.proofs.gateway_empty.Statement.{statement}
 use Rattle.gateway.proofs.gateway_empty.Tie as tie
 use mathlib.Core.Path.{ap, _∙_}
 use Rattle.host.specs.HostCall.{noTables}
-use Rattle.claims.specs.HostSound.{start-sound}
+use Rattle.invariants.specs.HostSound.{start-sound}
 use Rattle.words.specs.Words.{packed}
-use Rattle.gateway.specs.BoundaryLaws.{ready-of}
+use Rattle.boundary.specs.BoundaryLaws.{ready-of}
 
 empty-tables-requires : tie.Need-empty-tables-requires
 empty-tables-requires c κs = search needs

@@ -7,10 +7,10 @@ use mathlib.Core.Path.{sym, ap, _∙_}
 use borrow.Author.Tests.{not-true, not-false}
 use Rattle.records.specs.declared.Tables.{Tables}
 use Rattle.host.specs.HostCall.{loadFile, loadMemory}
-use Rattle.claims.specs.HostSound.{loadFile-sound}
+use Rattle.invariants.specs.HostSound.{loadFile-sound}
 use Rattle.words.specs.Words.{unpacked}
-use Rattle.gateway.specs.Boundary.{fileLoaded}
-use Rattle.gateway.specs.BoundaryLaws.{undone-next, unfit, refused-leaves, done-leaves, wrong-number, wrong-words, wrong-memory, right-number, unfit-memory, fit-memory}
+use Rattle.boundary.specs.Boundary.{fileLoaded}
+use Rattle.boundary.specs.BoundaryLaws.{undone-next, unfit, refused-leaves, done-leaves, wrong-number, wrong-words, wrong-memory, right-number, unfit-memory, fit-memory}
 
 returns : tie.Need-returns
 returns c =

@@ -8,9 +8,9 @@ use borrow.Author.Tests.{not-true, not-false}
 use Rattle.records.specs.declared.Tables.{Tables}
 use Rattle.message.specs.Message.{take-message}
 use Rattle.server.specs.TakenOf.{takenOf}
-use Rattle.gateway.specs.Boundary.{messageLeft}
-use Rattle.gateway.specs.BoundaryLaws.{undone-next}
-use Rattle.gateway.specs.MessageLaws.{left-is, room-short, memory-wrong, room-right, wrong-left, unfit-left, refused-left, done-left, done-message}
+use Rattle.boundary.specs.Boundary.{messageLeft}
+use Rattle.boundary.specs.BoundaryLaws.{undone-next}
+use Rattle.boundary.specs.MessageLaws.{left-is, room-short, memory-wrong, room-right, wrong-left, unfit-left, refused-left, done-left, done-message}
 
 returns : tie.Need-returns
 returns c =

@@ -4,7 +4,7 @@ use borrow.Author.Needs.{needs}
 use Rattle.commands.proofs.locking.lock_open.Statement.{statement}
 use Rattle.commands.proofs.locking.lock_open.Tie as tie
 use Rattle.records.specs.Held.{opensOf}
-use Rattle.claims.specs.SoundParts.{sound-says}
+use Rattle.invariants.specs.SoundParts.{sound-says}
 use Rattle.soundness.specs.SoundLaws.{table-serves}
 use Rattle.commands.specs.Leaves.{gives-refused}
 use Rattle.commands.specs.Steps.{lockOpen}

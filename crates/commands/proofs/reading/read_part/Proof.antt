@@ -6,9 +6,9 @@ use Rattle.commands.proofs.reading.read_part.Tie as tie
 use Prim.Native.Nat.{_≤_, _<_}
 use native.Mathlib.Omega.{arith}
 use borrow.Author.Tests.{le-leb, lt-leb}
-use Rattle.claims.specs.SoundParts.{sound-says}
+use Rattle.invariants.specs.SoundParts.{sound-says}
 use Rattle.message.specs.Contents.{sizeOf}
-use Rattle.demands.specs.Sound.{size-most}
+use Rattle.invariants.specs.Sound.{size-most}
 use Rattle.commands.specs.ReadPart.{readPart}
 
 file-size-requires : tie.Need-file-size-requires

@@ -8,9 +8,9 @@ use Prim.Native.Nat.{_+_, _*_, _≤_}
 use native.Mathlib.Omega.{arith}
 use lib.ListN.{length}
 use Rattle.lists.specs.PutLaws.{put-part}
-use Rattle.claims.specs.SoundParts.{sound-says}
+use Rattle.invariants.specs.SoundParts.{sound-says}
 use Rattle.message.specs.Contents.{sizeOf}
-use Rattle.demands.specs.Sound.{size-most}
+use Rattle.invariants.specs.Sound.{size-most}
 use Rattle.commands.specs.WritePart.{put-written}
 
 mul-start : tie.Need-mul-start

@@ -7,7 +7,7 @@ use mathlib.Core.Path.{sym, _∙_}
 use native.Mathlib.Omega.{arith}
 use borrow.Author.Tests.{not-true, not-false}
 use Rattle.lists.specs.Mapped.{length-mapped}
-use Rattle.demands.specs.Taken.{fit-answered}
+use Rattle.invariants.specs.Fit.{fit-answered}
 use Rattle.server.specs.Rows.{refusal-taken, row-room, row-memory, row-sound, row-dropped, kept-length}
 
 refuse-call-requires : tie.Need-refuse-call-requires

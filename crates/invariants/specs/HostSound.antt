@@ -17,12 +17,12 @@ use Rattle.host.specs.declared.answer.Answer.{Answer}
 use Rattle.removal.specs.declared.Gone.the-variants.{Connection}
 use Rattle.lists.specs.Members.{all-set}
 use Rattle.lists.specs.RoomLaws.{held-fewer, held-more}
-use Rattle.claims.specs.SoundParts.{Sound, sound-says, sound-lists}
-use Rattle.claims.specs.RuleLaws.{tree-ok, open-ok}
-use Rattle.claims.specs.Shaped.{Shaped, sessions-with, trees-with, opens-with, shaped-sessions, shaped-trees, shaped-opens, shaped-files}
-use Rattle.claims.specs.AddedRecords.{records-session, records-tree, records-open, locks-open}
-use Rattle.claims.specs.RemovalSound.{remove-sound, remove-shaped}
-use Rattle.claims.specs.HostCases.{OpenPassed, addSession-either, addTree-either, addOpen-either, loadFile-either, dropConnection-either}
+use Rattle.invariants.specs.SoundParts.{Sound, sound-says, sound-lists}
+use Rattle.invariants.specs.RuleLaws.{tree-ok, open-ok}
+use Rattle.invariants.specs.Shaped.{Shaped, sessions-with, trees-with, opens-with, shaped-sessions, shaped-trees, shaped-opens, shaped-files}
+use Rattle.invariants.specs.AddedRecords.{records-session, records-tree, records-open, locks-open}
+use Rattle.invariants.specs.RemovalSound.{remove-sound, remove-shaped}
+use Rattle.invariants.specs.HostCases.{OpenPassed, addSession-either, addTree-either, addOpen-either, loadFile-either, dropConnection-either}
 
 -- ---- the tables of a call that is done
 

@@ -19,8 +19,8 @@ use Rattle.chain.specs.declared.block.Next.{Next}
 use Rattle.chain.specs.declared.block.Next.the-variants.{End, Follow}
 use Rattle.chain.specs.declared.block.Block.{Block}
 use Rattle.chain.specs.declared.block.Parsed.the-variants.{Whole}
-use Rattle.readings.specs.Follows.{follow-sound, follow-complete}
-use Rattle.readings.specs.BlockTests.{Served, plain, andx, fits, fits-sound, fits-complete}
+use Rattle.invariants.specs.Follows.{follow-sound, follow-complete}
+use Rattle.invariants.specs.BlockTests.{Served, plain, andx, fits, fits-sound, fits-complete}
 
 -- a block's fields by its command
 unfoldable pub bodyAt : List ℕ → ℕ → ℕ → Body
@@ -35,6 +35,10 @@ bodyAt s command at =
     (cond (eqb command LOGOFF) Logoff
     (cond (eqb command TREE_DISCONNECT) TreeDisconnect ProcessExit)))))
 
+-- the length of the block at a place
+abbrev pub blockSize : List ℕ → ℕ → ℕ
+blockSize s at = blockEnd s at - at
+
 -- the block at a place, with what follows it
 unfoldable pub blockAt : List ℕ → ℕ → ℕ → Next → Block
 blockAt s command at next = record { command = command; at = at; length = blockEnd s at - at; body = bodyAt s command at; next = next }
@@ -45,6 +49,12 @@ pub data Link (s : List ℕ) (command at : ℕ) : Next → Type 0 where
   link-end : NamedAndx command → andxCommand s at ≡ NO_COMMAND → Link s command at End
   link-next : MayFollow command (andxCommand s at) → blockEnd s at ≤ andxOffset s at
       → Link s command at (Follow (andxCommand s at) (andxOffset s at))
+
+-- a follower stands behind
+pub behind : {s : List ℕ} {command at : ℕ} {nx : Next} (c a : ℕ) → Link s command at nx → nx ≡ Follow c a → blockEnd s at ≤ a
+behind c a (link-plain p) e = let z : _≡_ {A = ℕ} 0 1 = cc in absurd (omega arith)
+behind c a (link-end n f) e = let z : _≡_ {A = ℕ} 0 1 = cc in absurd (omega arith)
+behind {s} {command} {at} c a (link-next f g) e = let z : andxOffset s at ≡ a = cc in omega arith
 
 -- a block of the table is of a request served
 pub block-served : {s : List ℕ} {at command : ℕ} → IsBlock s at command → Served command

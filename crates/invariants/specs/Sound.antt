@@ -27,10 +27,10 @@ use Rattle.soundness.specs.Sound.{sound, fileOk}
 use Rattle.removal.specs.Removal.{remove}
 use Rattle.removal.specs.declared.Gone.{Gone}
 use Rattle.removal.specs.declared.Gone.the-variants.{Session as UserGone, Tree as TreeGone, Open as OpenGone, Process as ProcessGone}
-use Rattle.claims.specs.SoundParts.{Sound, LocksOk, sound-says, sound-lists}
-use Rattle.claims.specs.RuleLaws.{open-says}
-use Rattle.claims.specs.Shaped.{Shaped, shaped-locks, shaped-files, locks-with}
-use Rattle.claims.specs.RemovalSound.{remove-sound, remove-shaped}
+use Rattle.invariants.specs.SoundParts.{Sound, LocksOk, sound-says, sound-lists}
+use Rattle.invariants.specs.RuleLaws.{open-says}
+use Rattle.invariants.specs.Shaped.{Shaped, shaped-locks, shaped-files, locks-with}
+use Rattle.invariants.specs.RemovalSound.{remove-sound, remove-shaped}
 use Rattle.chain.specs.Layout.{headerCommand, FIRST}
 use Rattle.chain.specs.Chain.{blocks}
 use Rattle.chain.specs.declared.block.LockingFields.{LockingFields}
@@ -47,9 +47,9 @@ use Rattle.message.specs.Command.{Given, Said, refused, done, isOpen, servedTyp
 use Rattle.message.specs.Message.{areaOf, dataOf, Ran, after, afterGiven, run, served, onlyStatus, runChain, answered}
 use Rattle.message.specs.declared.refusal.Refusal.{Refusal}
 use Rattle.message.specs.declared.refusal.Refusal.the-variants.{NoAccess, LockType, NoSpace}
-use Rattle.demands.specs.GivenCases.{cond-case, request-case, session-case, tree-case, open-case, barred-case}
-use Rattle.demands.specs.FoundFacts.{Hit, found-hit, all-getD}
-use Rattle.demands.specs.LockingSound.{release-ok, grant-ok}
+use Rattle.invariants.specs.GivenCases.{cond-case, request-case, session-case, tree-case, open-case, barred-case}
+use Rattle.invariants.specs.FoundFacts.{Hit, found-hit, all-getD}
+use Rattle.invariants.specs.LockingSound.{release-ok, grant-ok}
 
 -- tables that a call may be given: sound, with arrays of their room
 pub record Good (t : Tables) : Type 0 where

@@ -1,4 +1,3 @@
 pub mod Boundary
 pub mod BoundaryLaws
 pub mod MessageLaws
-pub mod Ready

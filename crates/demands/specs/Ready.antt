@@ -15,9 +15,9 @@ use Rattle.host.specs.declared.answer.Answer.{Answer}
 use Rattle.chain.specs.Header.{dropped}
 use Rattle.message.specs.Message.{Taken, notTaken, replied, answered, take-message}
 use Rattle.claims.specs.HostReasons.{SessionReason, session-unsound, session-full, session-done, TreeReason, tree-unsound, tree-range, tree-nobody, tree-full, tree-done, OpenReason, open-unsound, open-range, open-nowhere, open-exceeds, open-full, open-done, LoadReason, load-memory, load-unsound, load-range, load-opened, load-done, DropReason, drop-unsound, drop-done, addSession-reason, addTree-reason, addOpen-reason, loadFile-reason, dropConnection-reason}
-use Rattle.demands.specs.GivenCases.{cond-case}
+use Rattle.invariants.specs.GivenCases.{cond-case}
 use Rattle.words.specs.Words.{fits, unpacked}
-use Rattle.gateway.specs.Boundary.{ready, numberOf, sessionAdded, treeAdded, openAdded, connectionDropped, fileLoaded, loadNumberOf, messageTaken, wrongRoom, Left, left, leftBy, messageLeft}
+use Rattle.boundary.specs.Boundary.{ready, numberOf, sessionAdded, treeAdded, openAdded, connectionDropped, fileLoaded, loadNumberOf, messageTaken, wrongRoom, Left, left, leftBy, messageLeft}
 
 -- a call answers another number than 4
 abbrev Takes : ℕ → Type 0

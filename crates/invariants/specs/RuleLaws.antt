@@ -18,7 +18,7 @@ use Rattle.soundness.specs.File.{fileOf}
 use Rattle.soundness.specs.Sound.{treeOk, permits, holdsOpen, openOk, lockOk, agree, agreeAll}
 use Rattle.lists.specs.Truth.{both-hold, hold-both, decided, not-decided-twice}
 use Rattle.lists.specs.Members.{all-each, each-all, all-keep, tails-keep}
-use Rattle.claims.specs.Numbered.{number-says, named-was}
+use Rattle.invariants.specs.Numbered.{number-says, named-was}
 
 -- ---- a tree
 

@@ -16,7 +16,7 @@ use Rattle.locks.specs.Request.{Result, refused as refusedBy, settle, request, 
 use Rattle.locks.specs.declared.types.Request.{Request}
 use Rattle.locks.specs.declared.types.Outcome.the-variants.{Malformed}
 use Rattle.soundness.specs.File.{fileOf}
-use Rattle.claims.specs.SoundParts.{sound-says}
+use Rattle.invariants.specs.SoundParts.{sound-says}
 use Rattle.chain.specs.Layout.{CLOSE, READ, headerCommand, FIRST, blockEnd, andxCommand}
 use Rattle.chain.specs.Grammar.{IsBlock, locking-10, locking-20, read-10, read-12, write-12, write-14, close, logoff, tree-disconnect, process-exit, MayFollow, locking-read, locking-write, read-close, write-write, write-read, write-close}
 use Rattle.chain.specs.Chain.{blocks}
@@ -26,9 +26,8 @@ use Rattle.chain.specs.declared.block.WriteFields.{WriteFields}
 use Rattle.chain.specs.declared.block.Block.{Block}
 use Rattle.chain.specs.declared.block.Next.{Next}
 use Rattle.chain.specs.declared.block.Next.the-variants.{End, Follow}
-use Rattle.readings.specs.BlockParse.{bodyAt, blockAt, block-inside, Link as Linked, link-plain, link-end, link-next}
-use Rattle.readings.specs.Moved.{blockSize}
-use Rattle.readings.specs.Chained.{Chained, chained-end, chained-more, read-chained}
+use Rattle.invariants.specs.BlockParse.{bodyAt, blockAt, blockSize, behind, block-inside, Link as Linked, link-plain, link-end, link-next}
+use Rattle.invariants.specs.Chained.{Chained, chained-end, chained-more, read-chained}
 use Rattle.message.specs.Caller.{callerOf}
 use Rattle.message.specs.declared.caller.Caller.{Caller}
 use Rattle.message.specs.Refusal.{statusOf}
@@ -38,10 +37,9 @@ use Rattle.message.specs.Reply.{replyHeader, replyBlock, refusedBlock, replySiz
 use Rattle.message.specs.Message.{Ran, after, linkTo, afterGiven, run, served, onlyStatus, runChain, answered, replyOf}
 use Rattle.message.specs.declared.refusal.Refusal.{Refusal}
 use Rattle.message.specs.declared.refusal.Refusal.the-variants.{NotServed, NoAccess, LockType, NoSpace}
-use Rattle.demands.specs.GivenCases.{cond-case, request-case, session-case, tree-case, open-case, barred-case}
-use Rattle.demands.specs.ReplySize.{length-block, length-header}
-use Rattle.demands.specs.Sound.{Good, Keeps, keeps-good, perform-keeps, size-most}
-use Rattle.demands.specs.OneByOne.{behind}
+use Rattle.invariants.specs.GivenCases.{cond-case, request-case, session-case, tree-case, open-case, barred-case}
+use Rattle.invariants.specs.ReplySize.{length-block, length-header}
+use Rattle.invariants.specs.Sound.{Good, Keeps, keeps-good, perform-keeps, size-most}
 
 -- a command refused, or done with a reply block of at most that many bytes
 data Says (n : ℕ) : Given → Type 0 where

@@ -10,9 +10,9 @@ use Rattle.chain.specs.Grammar.{IsBlock, Span, ReadingFrom, plain-end, andx-end
 use Rattle.chain.specs.Chain.{before, blocksFrom}
 use Rattle.chain.specs.declared.block.Next.the-variants.{End, Follow}
 use Rattle.chain.specs.declared.block.Block.{Block}
-use Rattle.readings.specs.BlockParse.{blockAt, Link, link-plain, link-end, link-next, parse-complete}
+use Rattle.invariants.specs.BlockParse.{blockAt, Link, link-plain, link-end, link-next, parse-complete}
 use Rattle.chain.specs.ChainLaws.{chain-end, chain-more}
-use Rattle.readings.specs.ReaderSound.{reader-sound-from}
+use Rattle.invariants.specs.ReaderSound.{reader-sound-from}
 
 -- a reading with the fields of its blocks: each is one of the table, linked to the next by the rules
 pub data Chained (s : List ℕ) : ℕ → ℕ → List Block → Type 0 where

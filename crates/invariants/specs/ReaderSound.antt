@@ -14,7 +14,7 @@ use Rattle.chain.specs.declared.block.Next.{Next}
 use Rattle.chain.specs.declared.block.Block.{Block}
 use Rattle.chain.specs.declared.block.Parsed.{Parsed}
 use Rattle.chain.specs.declared.block.Parsed.the-variants.{Whole, Malformed}
-use Rattle.readings.specs.BlockParse.{blockAt, Link, link-plain, link-end, link-next, parse-sound}
+use Rattle.invariants.specs.BlockParse.{blockAt, Link, link-plain, link-end, link-next, parse-sound}
 
 -- a block of the reader's answer as one of a reading
 unfoldable pub spanOf : Block → Span

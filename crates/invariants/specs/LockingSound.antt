@@ -23,9 +23,9 @@ use Rattle.locks.specs.declared.types.LockRange.{LockRange}
 use Rattle.locks.specs.declared.types.Purpose.the-variants.{Grant, Release}
 use Rattle.soundness.specs.File.{fileOf}
 use Rattle.soundness.specs.Sound.{lockOk, agree, agreeAll}
-use Rattle.claims.specs.SoundParts.{LocksOk}
-use Rattle.claims.specs.RuleLaws.{lock-ok}
-use Rattle.demands.specs.FoundFacts.{found-miss}
+use Rattle.invariants.specs.SoundParts.{LocksOk}
+use Rattle.invariants.specs.RuleLaws.{lock-ok}
+use Rattle.invariants.specs.FoundFacts.{found-miss}
 
 -- ---- a lock removed
 

@@ -19,10 +19,10 @@ use Rattle.soundness.specs.File.{fileOf}
 use Rattle.soundness.specs.Sound.{treeOk, holdsOpen, openOk, lockOk}
 use Rattle.lists.specs.Truth.{decided}
 use Rattle.lists.specs.Members.{all-each, each-all, any-more, all-snoc}
-use Rattle.claims.specs.Numbered.{contains-in, in-contains, numbered-snoc}
-use Rattle.claims.specs.Number.{smallest-low, smallest-high, smallest-free}
-use Rattle.claims.specs.SoundParts.{RecordsOk, LocksOk}
-use Rattle.claims.specs.RuleLaws.{tree-says, tree-ok, open-says, open-ok, LockOk, lock-says, lock-ok, fileOf-other, fileOf-here, contains-later, agreeAll-same}
+use Rattle.invariants.specs.Numbered.{contains-in, in-contains, numbered-snoc}
+use Rattle.invariants.specs.Number.{smallest-low, smallest-high, smallest-free}
+use Rattle.invariants.specs.SoundParts.{RecordsOk, LocksOk}
+use Rattle.invariants.specs.RuleLaws.{tree-says, tree-ok, open-says, open-ok, LockOk, lock-says, lock-ok, fileOf-other, fileOf-here, contains-later, agreeAll-same}
 
 -- ---- one more behind
 

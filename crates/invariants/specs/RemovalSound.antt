@@ -19,9 +19,9 @@ use Rattle.removal.specs.Removal.{sessionStays, treeStays, treeNamed, openStays
 use Rattle.removal.specs.declared.Gone.{Gone}
 use Rattle.lists.specs.Truth.{both-hold}
 use Rattle.soundness.specs.SoundLaws.{Room}
-use Rattle.claims.specs.SoundParts.{Sound, sound-says, sound-lists}
-use Rattle.claims.specs.KeptRecords.{Filters, records-keep, locks-keep}
-use Rattle.claims.specs.Shaped.{Shaped, sessions-with, trees-with, opens-with, locks-with, shaped-sessions, shaped-trees, shaped-opens, shaped-locks}
+use Rattle.invariants.specs.SoundParts.{Sound, sound-says, sound-lists}
+use Rattle.invariants.specs.KeptRecords.{Filters, records-keep, locks-keep}
+use Rattle.invariants.specs.Shaped.{Shaped, sessions-with, trees-with, opens-with, locks-with, shaped-sessions, shaped-trees, shaped-opens, shaped-locks}
 
 -- ---- one sweep: the tables with the records that stay
 

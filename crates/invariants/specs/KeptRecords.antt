@@ -13,9 +13,9 @@ use Rattle.numbers.specs.Column.{uidOf, tidOf, fidOf}
 use Rattle.soundness.specs.File.{fileOf}
 use Rattle.soundness.specs.Sound.{treeOk, holdsOpen, openOk, lockOk}
 use Rattle.lists.specs.Members.{all-each, each-all, any-one, one-any, kept-was}
-use Rattle.claims.specs.Numbered.{named-one, numbered-keep, numbered-same}
-use Rattle.claims.specs.SoundParts.{RecordsOk, LocksOk}
-use Rattle.claims.specs.RuleLaws.{tree-says, tree-ok, holds-says, open-says, open-ok, lock-says, lock-ok, fileOf-keep, agreeAll-same, agreeAll-keep}
+use Rattle.invariants.specs.Numbered.{named-one, numbered-keep, numbered-same}
+use Rattle.invariants.specs.SoundParts.{RecordsOk, LocksOk}
+use Rattle.invariants.specs.RuleLaws.{tree-says, tree-ok, holds-says, open-says, open-ok, lock-says, lock-ok, fileOf-keep, agreeAll-same, agreeAll-keep}
 
 -- the four filters, and what they promise: a tree's session stays with it, an open's tree, a lock's open
 pub record Filters (ss : List Session) (ts : List Tree) (os : List Open) (a : Session → Bool) (b : Tree → Bool) (c : Open → Bool) (d : Lock → Bool) : Type 0 where

@@ -14,7 +14,7 @@ use Rattle.lists.specs.Walk.{keep}
 use Rattle.numbers.specs.Number.{contains, freeFrom, smallestFree}
 use Rattle.lists.specs.Truth.{decided, not-decided-twice, not-holds}
 use Rattle.lists.specs.Members.{was-kept, keep-less}
-use Rattle.claims.specs.Numbered.{contains-in, in-contains}
+use Rattle.invariants.specs.Numbered.{contains-in, in-contains}
 
 -- ---- as many numbers as are all contained, at least so many elements
 

@@ -15,7 +15,7 @@ use Rattle.lists.specs.Truth.{decided, both-hold, hold-both}
 use Rattle.records.specs.declared.Tables.{Tables}
 use Rattle.soundness.specs.Sound.{sound}
 use Rattle.words.specs.Words.{fits, packed, unpacked, table, laid}
-use Rattle.gateway.specs.Boundary.{ready, ForNext, numberOf, isDone, wordsAfter, idAfter, fileLoaded, loadNumberOf, memoryAfter}
+use Rattle.boundary.specs.Boundary.{ready, ForNext, numberOf, isDone, wordsAfter, idAfter, fileLoaded, loadNumberOf, memoryAfter}
 
 -- ---- for the next call
 

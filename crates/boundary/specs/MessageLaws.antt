@@ -12,12 +12,12 @@ use Rattle.records.specs.declared.Tables.{Tables}
 use Rattle.soundness.specs.Sound.{sound}
 use Rattle.chain.specs.Header.{dropped}
 use Rattle.message.specs.Message.{Taken, notTaken, replied, answered, take-message}
-use Rattle.claims.specs.Shaped.{Shaped}
-use Rattle.demands.specs.Taken.{take-message-good}
+use Rattle.invariants.specs.Shaped.{Shaped}
+use Rattle.invariants.specs.Fit.{take-message-good}
 use Rattle.words.specs.Words.{fits, packed, unpacked, sessionIn, treeIn, openIn, lockIn, fileIn}
 use Rattle.words.specs.Turns.{length-upTo}
-use Rattle.gateway.specs.BoundaryLaws.{done-next}
-use Rattle.gateway.specs.Boundary.{ForNext, Left, left, leftBy, wrongRoom, messageTaken, messageLeft}
+use Rattle.boundary.specs.BoundaryLaws.{done-next}
+use Rattle.boundary.specs.Boundary.{ForNext, Left, left, leftBy, wrongRoom, messageTaken, messageLeft}
 
 -- the five parts of what is left, and what it is for the next call
 pub left-is : (number : ℕ) (words memory room : List ℕ) (n : ℕ) (l : Left) {w : List ℕ} {t : Tables} → left number words memory room n ≡ l → ForNext w words number t
