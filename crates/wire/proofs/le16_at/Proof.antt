@@ -1,6 +1,7 @@
 -- `wire::le16_at` meets its contract: the two bytes are those of the definition, and past the end both are 0.
 -- Assumes nothing.
-use mathlib.Core.Path.{sym}
+use mathlib.Core.Path.{sym, _∙_}
+use Prim.Native.Nat.{_+_, _*_}
 use Rattle.wire.specs.LittleEndian.{le16At, le16-past}
 use borrow.Author.Needs.{needs}
 use Rattle.wire.proofs.le16_at.Statement.{statement}
@@ -29,7 +30,10 @@ add-result c = search needs
 
 returns : tie.Need-returns
 unfolding le16At
-returns c = cc
+returns c =
+    λ i.
+    (c .before .before .wide16 .ensures ∙ c .before .before .before .byte-at .ensures) i
+    + 256 * (c .wide162 .ensures ∙ c .before .byte-at2 .ensures) i
 
 returns-2 : tie.Need-returns-2
 returns-2 c = sym (le16-past (c .before .before .args .s .now) (c .before .before .args .at) (c .if1 .left))

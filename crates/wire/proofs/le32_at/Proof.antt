@@ -1,6 +1,7 @@
 -- `wire::le32_at` meets its contract: the two halves are those of the definition, and past the end both are 0.
 -- Assumes nothing.
-use mathlib.Core.Path.{sym}
+use mathlib.Core.Path.{sym, _∙_}
+use Prim.Native.Nat.{_+_, _*_}
 use Rattle.wire.specs.LittleEndian.{le32At, le32-past}
 use borrow.Author.Needs.{needs}
 use Rattle.wire.proofs.le32_at.Statement.{statement}
@@ -29,7 +30,10 @@ add-result c = search needs
 
 returns : tie.Need-returns
 unfolding le32At
-returns c = cc
+returns c =
+    λ i.
+    (c .before .before .wide32 .ensures ∙ c .before .before .before .le16-at .ensures) i
+    + 65536 * (c .wide322 .ensures ∙ c .before .le16-at2 .ensures) i
 
 returns-2 : tie.Need-returns-2
 returns-2 c = sym (le32-past (c .before .before .args .s .now) (c .before .before .args .at) (c .if1 .left))

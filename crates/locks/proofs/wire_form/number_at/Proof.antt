@@ -1,5 +1,7 @@
 -- `locks::wire_form::number_at` meets its contract: the form settles which numbers are read.
 -- Assumes nothing.
+use mathlib.Core.Path.{_∙_}
+use Prim.Native.Nat.{_+_, _*_}
 use borrow.Author.Needs.{needs}
 use Rattle.locks.specs.Wire.{numberAt}
 use Rattle.locks.proofs.wire_form.number_at.Statement.{statement}
@@ -28,11 +30,15 @@ add-result c = search needs
 
 returns : tie.Need-returns
 unfolding numberAt
-returns c = rw (c .before .before .if1 .taken) (cc)
+returns c =
+    rw (c .before .before .if1 .taken)
+    λ i.
+    4294967296 * (c .before .before .before .wide64 .ensures ∙ c .before .before .before .before .le32-at .ensures) i
+    + (c .wide642 .ensures ∙ c .before .le32-at2 .ensures) i
 
 returns-2 : tie.Need-returns-2
 unfolding numberAt
-returns-2 c = rw (c .if1 .left) (cc)
+returns-2 c = rw (c .if1 .left) (c .before .wide64 .ensures ∙ c .before .before .le32-at .ensures)
 
 pub number-at-spec : {M : Type 1} → statement M
 number-at-spec =

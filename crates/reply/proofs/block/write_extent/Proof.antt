@@ -3,8 +3,11 @@
 use borrow.Author.Needs.{needs}
 use Rattle.reply.proofs.block.write_extent.Statement.{statement}
 use Rattle.reply.proofs.block.write_extent.Tie as tie
-use Rattle.message.specs.Reply.{two}
 use Rattle.reply.specs.Fronts.{readExtent}
+use Prim.Native.Nat.{_+_}
+use mathlib.Core.List.{_++_}
+use lib.ListN.{replicate}
+use Rattle.reply.proofs.Bytes.{laid-as, two-bytes}
 
 low-requires : tie.Need-low-requires
 low-requires c κs = search needs
@@ -31,8 +34,13 @@ same-length : tie.Need-same-length
 same-length c = search needs
 
 returns : tie.Need-returns
-unfolding two readExtent
-returns c = cc
+unfolding readExtent
+returns c =
+    let made = c .before .before .before .before .before in
+    let args = made .before .before .before .before .before .args in
+    let count = two-bytes (args .count) (made .before .before .before .low .ensures) (made .before .before .high .ensures) in
+    let from = two-bytes (args .place + 27) (made .before .low2 .ensures) (made .high2 .ensures) in
+    laid-as (args .room .now) (c .before .before .lay .ensures) (λ i. count i ++ (from i ++ (replicate 10 0 ++ count i)))
 
 pub write-extent-spec : {M : Type 1} → statement M
 write-extent-spec =

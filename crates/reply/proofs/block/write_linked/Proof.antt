@@ -3,8 +3,8 @@
 use borrow.Author.Needs.{needs}
 use Rattle.reply.proofs.block.write_linked.Statement.{statement}
 use Rattle.reply.proofs.block.write_linked.Tie as tie
-use Rattle.reply.specs.Links.{link-parts}
-use Rattle.message.specs.Reply.{two}
+use mathlib.Core.List.{[], _∷_, _++_}
+use Rattle.reply.proofs.Bytes.{laid-as, link-bytes}
 
 link-command-requires : tie.Need-link-command-requires
 link-command-requires c κs = search needs
@@ -28,10 +28,11 @@ same-length : tie.Need-same-length
 same-length c = search needs
 
 returns : tie.Need-returns
-unfolding two
 returns c =
-    let args = c .before .before .before .before .before .before .before .before .before .before .args in
-    rw (link-parts (args .link)) (cc)
+    let made = c .before .before .before .before .before in
+    let args = made .before .before .before .before .before .args in
+    let andx = link-bytes (args .link) (made .before .before .before .link-command .ensures) (made .before .before .link-place .ensures) (made .before .low .ensures) (made .high .ensures) in
+    laid-as (args .room .now) (c .before .before .lay .ensures) (λ i. 2 ∷ (andx i ++ (0 ∷ 0 ∷ [])))
 
 pub write-linked-spec : {M : Type 1} → statement M
 write-linked-spec =

@@ -3,9 +3,9 @@
 use borrow.Author.Needs.{needs}
 use Rattle.reply.proofs.block.write_read_start.Statement.{statement}
 use Rattle.reply.proofs.block.write_read_start.Tie as tie
-use Rattle.reply.specs.Links.{link-parts}
-use Rattle.message.specs.Reply.{two}
 use Rattle.reply.specs.Fronts.{readStart}
+use mathlib.Core.List.{[], _∷_, _++_}
+use Rattle.reply.proofs.Bytes.{laid-as, link-bytes}
 
 link-command-requires : tie.Need-link-command-requires
 link-command-requires c κs = search needs
@@ -29,10 +29,12 @@ same-length : tie.Need-same-length
 same-length c = search needs
 
 returns : tie.Need-returns
-unfolding two readStart
+unfolding readStart
 returns c =
-    let args = c .before .before .before .before .before .before .before .before .before .before .args in
-    rw (link-parts (args .link)) (cc)
+    let made = c .before .before .before .before .before in
+    let args = made .before .before .before .before .before .args in
+    let andx = link-bytes (args .link) (made .before .before .before .link-command .ensures) (made .before .before .link-place .ensures) (made .before .low .ensures) (made .high .ensures) in
+    laid-as (args .room .now) (c .before .before .lay .ensures) (λ i. 12 ∷ (andx i ++ (0xff ∷ 0xff ∷ 0 ∷ 0 ∷ 0 ∷ 0 ∷ [])))
 
 pub write-read-start-spec : {M : Type 1} → statement M
 write-read-start-spec =

@@ -3,8 +3,10 @@
 use borrow.Author.Needs.{needs}
 use Rattle.reply.proofs.block.write_wrote.Statement.{statement}
 use Rattle.reply.proofs.block.write_wrote.Tie as tie
-use Rattle.reply.specs.Links.{link-parts}
 use Rattle.message.specs.Reply.{two}
+use mathlib.Core.List.{[], _∷_, _++_}
+use lib.ListN.{replicate}
+use Rattle.reply.proofs.Bytes.{laid-as, two-bytes, link-bytes}
 
 link-command-requires : tie.Need-link-command-requires
 link-command-requires c κs = search needs
@@ -36,8 +38,11 @@ same-length c = search needs
 returns : tie.Need-returns
 unfolding two
 returns c =
-    let args = c .before .before .before .before .before .before .before .before .before .before .before .before .args in
-    rw (link-parts (args .link)) (cc)
+    let made = c .before .before .before .before .before in
+    let args = made .before .before .before .before .before .before .before .args in
+    let andx = link-bytes (args .link) (made .before .before .before .before .before .link-command .ensures) (made .before .before .before .before .link-place .ensures) (made .before .before .before .low .ensures) (made .before .before .high .ensures) in
+    let count = two-bytes (args .count) (made .before .low2 .ensures) (made .high2 .ensures) in
+    laid-as (args .room .now) (c .before .before .lay .ensures) (λ i. 6 ∷ (andx i ++ (count i ++ (two 0xFFFF ++ (replicate 4 0 ++ (0 ∷ 0 ∷ []))))))
 
 pub write-wrote-spec : {M : Type 1} → statement M
 write-wrote-spec =

@@ -4,6 +4,11 @@ use borrow.Author.Needs.{needs}
 use Rattle.reply.proofs.header.write_flags.Statement.{statement}
 use Rattle.reply.proofs.header.write_flags.Tie as tie
 use Rattle.reply.specs.Fronts.{headerFlags}
+use mathlib.Core.Path.{_∙_}
+use Prim.Native.Nat.{_+_, _*_, _/_, _%_}
+use mathlib.Core.List.{_∷_}
+use lib.ListN.{replicate}
+use Rattle.reply.proofs.Bytes.{laid-as}
 
 byte-at-requires : tie.Need-byte-at-requires
 byte-at-requires c κs = search needs
@@ -31,7 +36,14 @@ same-length c = search needs
 
 returns : tie.Need-returns
 unfolding headerFlags
-returns c = cc
+returns c =
+    let made = c .before .before .before .before .before in
+    let args = made .before .before .before .before .before .before .before .args in
+    let flags = made .before .before .before .reply-flags .ensures ∙ (λ i. 128 + made .before .before .before .before .byte-at .ensures i / 8 % 2 * 8) in
+    let flags2 = made .before .before .byte-at2 .ensures in
+    let h0 = made .before .byte-at3 .ensures in
+    let h1 = made .byte-at4 .ensures in
+    laid-as (args .room .now) (c .before .before .lay .ensures) (λ i. flags i ∷ flags2 i % 2 ∷ 0 ∷ h0 i ∷ h1 i ∷ replicate 10 0)
 
 pub write-flags-spec : {M : Type 1} → statement M
 write-flags-spec =

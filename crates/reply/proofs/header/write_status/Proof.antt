@@ -3,8 +3,9 @@
 use borrow.Author.Needs.{needs}
 use Rattle.reply.proofs.header.write_status.Statement.{statement}
 use Rattle.reply.proofs.header.write_status.Tie as tie
-use Rattle.message.specs.Reply.{two}
 use Rattle.reply.specs.Fronts.{headerStart}
+use mathlib.Core.List.{_∷_}
+use Rattle.reply.proofs.Bytes.{laid-as, two-bytes}
 
 byte-at-requires : tie.Need-byte-at-requires
 byte-at-requires c κs = search needs
@@ -28,8 +29,13 @@ same-length : tie.Need-same-length
 same-length c = search needs
 
 returns : tie.Need-returns
-unfolding two headerStart
-returns c = cc
+unfolding headerStart
+returns c =
+    let made = c .before .before .before .before .before in
+    let args = made .before .before .before .before .before .before .args in
+    let code = two-bytes (args .status .code) (made .before .low .ensures) (made .high .ensures) in
+    laid-as (args .room .now) (c .before .before .lay .ensures)
+    (λ i. 0xff ∷ 0x53 ∷ 0x4d ∷ 0x42 ∷ (made .before .before .before .byte-at .ensures i) ∷ args .status .class ∷ 0 ∷ code i)
 
 pub write-status-spec : {M : Type 1} → statement M
 write-status-spec =
