@@ -2,7 +2,7 @@
 -- Assumes nothing.
 use mathlib.Core.Path.{_≡_, sym, ap, _∙_}
 use Prim.Native.Nat.{ℕ, _+_, _-_, _*_, _≤_, _<_}
-use mathlib.Core.Bool.{true, false}
+use mathlib.Core.Bool.{Bool, true, false}
 use mathlib.Core.List.{List, _++_, map}
 use mathlib.Core.Option.{none, some}
 use lib.ListN.{length, take, drop, length-append, length-map, length-take, take-append-drop}
@@ -11,6 +11,7 @@ use borrow.Author.Tests.{eq-eqb, ne-eqb, le-leb, lt-leb}
 use native.Mathlib.Omega.{arith}
 use Rattle.lists.specs.Walk.{any}
 use Rattle.lists.specs.Stored.{stored}
+use Rattle.lists.specs.declared.Found.{Found}
 use Rattle.lists.specs.declared.Found.the-variants.{At, Nothing}
 use Rattle.records.specs.Empty.{noLock}
 use Rattle.records.specs.declared.Lock.{Lock}
@@ -99,17 +100,22 @@ module _ {file : ℕ → ℕ} {locks : List Lock} {count : ℕ} {q : Request} {a
     unfolding request afterReleases
     settled-passes g = settled (refused PassesEnd) (rw (unlocked .list, ← g))
 
-    module _ (within : false ≡ any rangePasses (toLock q area)) where
+    module _ {t : Bool} (none-passes : t ≡ false) (passes : t ≡ any rangePasses (toLock q area)) where
+      -- no lock passes 2^64
+      within : false ≡ any rangePasses (toLock q area)
+      within = sym none-passes ∙ passes
+
       -- what comes of the locks
       abbrev grants : Grants
       grants = grantAll file (q .fid) (q .shared) (toLock q area) after
 
       -- a lock in the way
-      pub settled-conflict : {place : ℕ} → At place ≡ blockedAt grants → settle locks count (refused (Conflict place)) ≡ locking file locks count q area
+      pub settled-conflict : {first : Found} {place : ℕ} → first ≡ At place → first ≡ blockedAt grants
+          → settle locks count (refused (Conflict place)) ≡ locking file locks count q area
       unfolding request afterReleases afterGrants
-      settled-conflict {place} g = settled (refused (Conflict place)) (rw (unlocked .list, ← within, blocked-at grants place g))
+      settled-conflict {place = place} e g = settled (refused (Conflict place)) (rw (unlocked .list, ← within, blocked-at grants place (sym e ∙ g)))
 
-      module _ (free : Nothing ≡ blockedAt grants) where
+      module _ {first : Found} (nothing : first ≡ Nothing) (free : first ≡ blockedAt grants) where
         -- the list with all locks granted
         abbrev whole : List Lock
         whole = after ++ map (lockOf (q .fid) (q .shared)) (toLock q area)
@@ -122,7 +128,7 @@ module _ {file : ℕ → ℕ} {locks : List Lock} {count : ℕ} {q : Request} {a
 
         -- nothing stood in the way
         all-granted : grants ≡ granted whole
-        all-granted = granted-all file (q .fid) (q .shared) (toLock q area) after free
+        all-granted = granted-all file (q .fid) (q .shared) (toLock q area) after (sym nothing ∙ free)
 
         -- more locks than there are records
         pub settled-full : 128 < r .count + q .locks → settle locks count (refused NoRecord) ≡ locking file locks count q area

@@ -17,6 +17,7 @@ use Rattle.records.specs.Empty.{noLock}
 use Rattle.records.specs.declared.Lock.{Lock}
 use Rattle.locks.specs.Answer.{answers}
 use Rattle.locks.specs.Request.{askOf, removeAt, afterFind, releaseAll}
+use Rattle.locks.specs.declared.types.Ask.{Ask}
 use Rattle.locks.specs.declared.types.LockRange.{LockRange}
 use Rattle.locks.specs.declared.types.Purpose.the-variants.{Release}
 use Rattle.locks.specs.Released.{released}
@@ -24,17 +25,21 @@ use Rattle.locks.specs.declared.release.Released.{Released}
 use Rattle.locks.proofs.Removed.{length-removeAt, removeAt-shorter}
 
 module _ (file : ℕ → ℕ) (fid : ℕ) where
-  module _ (r : LockRange) (rs : List LockRange) (list : List Lock) where
+  -- `f` is what the walk for the lock of range r yields, by the range that was read and by what was asked
+  module _ (r : LockRange) (list : List Lock) {range : LockRange} {ask : Ask} {f : Found} (read : range ≡ r) (asked : ask ≡ askOf fid Release range)
+      (walked : f ≡ found (answers file ask) list) where
+    sought : found (answers file (askOf fid Release r)) list ≡ f
+    sought = sym (walked ∙ (λ i. found (answers file (asked i)) list) ∙ (λ i. found (answers file (askOf fid Release (read i))) list))
+
     -- a range that names a lock takes it out of the list
-    pub release-more : (place : ℕ) → At place ≡ found (answers file (askOf fid Release r)) list
-        → releaseAll file fid (r ∷ rs) list ≡ releaseAll file fid rs (removeAt place list)
+    pub release-more : (rs : List LockRange) {place : ℕ} → f ≡ At place → releaseAll file fid (r ∷ rs) list ≡ releaseAll file fid rs (removeAt place list)
     unfolding releaseAll afterFind
-    release-more place e = rw (← e)
+    release-more rs e = rw (sought, e)
 
     -- one that names none ends the unlocks
-    pub release-stop : Nothing ≡ found (answers file (askOf fid Release r)) list → releaseAll file fid (r ∷ rs) list ≡ none
+    pub release-stop : (rs : List LockRange) → f ≡ Nothing → releaseAll file fid (r ∷ rs) list ≡ none
     unfolding releaseAll afterFind
-    release-stop e = rw (← e)
+    release-stop rs e = rw (sought, e)
 
   -- one unlock and what comes after it make no list longer
   after-shorter : (f : Found) (list left : List Lock) (next : List Lock → Option (List Lock))
@@ -77,7 +82,7 @@ module _ {locks : List Lock} {count : ℕ} {left : List Lock} {held : ℕ} (l : 
   -- in the end it holds the list that is left
   pub left-end : _≡_ {A = Released} (record { found = true; locks = left; count = held }) (released locks count (some (take held left)))
   unfolding released
-  left-end = cc (l .holds, l .long)
+  left-end = λ i. record { found = true; locks = l .holds i; count = sym (l .long) i }
 
   module _ {place : ℕ} (below : place < held) {next : List Lock} (e : next ≡ stored noLock left held (removeAt place (take held left))) where
     -- one record less

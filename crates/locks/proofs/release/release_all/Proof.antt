@@ -55,7 +55,7 @@ enum-told c = search needs
 
 returns : tie.Need-returns Inv-loop μ-loop
 unfolding released
-returns c = rw (ahead-here (c .before .before .before .before .before .before .loop .inv .1) (omega arith) (λ rs. release-stop _ _ _ rs _ (rw (← (c .before .before .before .before .range-at .ensures), ← (c .before .before .before .ask-of .ensures)) (sym (c .enum-told .given .1) ∙ c .before .before .first-answer .ensures))))
+returns c = rw (ahead-here (c .before .before .before .before .before .before .loop .inv .1) (omega arith) (λ rs. release-stop _ _ _ _ (c .before .before .before .before .range-at .ensures) (c .before .before .before .ask-of .ensures) (c .before .before .first-answer .ensures) rs (c .enum-told .given .1)))
 
 remove-at-requires : tie.Need-remove-at-requires Inv-loop μ-loop
 remove-at-requires c κs =
@@ -81,7 +81,7 @@ loop-again c =
           (
           λ rs.
           rw (left-list left here (c .remove-at .ensures))
-          (release-more _ _ _ rs _ (c .before .before .place .given .0 .0) (rw (← (c .before .before .before .before .before .before .range-at .ensures), ← (c .before .before .before .before .before .ask-of .ensures)) (sym (c .before .before .place .given .1) ∙ c .before .before .before .before .first-answer .ensures)))
+          (release-more _ _ _ _ (c .before .before .before .before .before .before .range-at .ensures) (c .before .before .before .before .before .ask-of .ensures) (c .before .before .before .before .first-answer .ensures) rs (c .before .before .place .given .1))
           ),
     )
 

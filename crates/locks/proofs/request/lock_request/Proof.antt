@@ -95,8 +95,8 @@ returns-4 c =
     let before′ = c .before .before .before .before .before .before .before .before in
     let some-passes = c .before .before .before .before .before .before .before .some-passes in
     c .refuse4 .ensures
-    ∙ settled-conflict (unlocking (before)) (found (before′)) (sym (c .before .before .before .before .before .before .if4 .left) ∙ some-passes .ensures)
-    (sym (c .before .before .first .given .1) ∙ c .before .before .before .before .first-conflict .ensures)
+    ∙ settled-conflict (unlocking (before)) (found (before′)) (c .before .before .before .before .before .before .if4 .left) (some-passes .ensures)
+    (c .before .before .first .given .1) (c .before .before .before .before .first-conflict .ensures)
 
 enum-told : tie.Need-enum-told
 enum-told c = search needs
@@ -114,8 +114,8 @@ returns-5 c =
     let some-passes = c .before .before .before .before .before .before .before .some-passes in
     let small = left-small (before′) in
     c .refuse5 .ensures
-    ∙ settled-full (unlocking (before)) (found (before′)) (sym (c .before .before .before .before .before .before .if4 .left) ∙ some-passes .ensures)
-    (sym (c .before .before .enum-told .given .1) ∙ c .before .before .before .before .first-conflict .ensures) (omega arith)
+    ∙ settled-full (unlocking (before)) (found (before′)) (c .before .before .before .before .before .before .if4 .left) (some-passes .ensures)
+    (c .before .before .enum-told .given .1) (c .before .before .before .before .first-conflict .ensures) (omega arith)
 
 append-locks-requires : tie.Need-append-locks-requires
 append-locks-requires c κs = let small = left-small (c .before .before .before .before .before .before .before) in (omega arith, (omega arith, omega arith))
@@ -131,8 +131,8 @@ returns-6 c =
     let before′ = c .before .before .before .before .before .before .before .before in
     let some-passes = c .before .before .before .before .before .before .before .some-passes in
     let small = left-small (before′) in
-    settled-done (unlocking (before)) (found (before′)) (sym (c .before .before .before .before .before .before .if4 .left) ∙ some-passes .ensures)
-    (sym (c .before .before .enum-told .given .1) ∙ c .before .before .before .before .first-conflict .ensures) (omega arith) (c .append-locks .ensures)
+    settled-done (unlocking (before)) (found (before′)) (c .before .before .before .before .before .before .if4 .left) (some-passes .ensures)
+    (c .before .before .enum-told .given .1) (c .before .before .before .before .first-conflict .ensures) (omega arith) (c .append-locks .ensures)
 
 pub lock-request-spec : {M : Type 1} → statement M
 lock-request-spec =
