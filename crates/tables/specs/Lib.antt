@@ -1,0 +1,5 @@
+pub mod Words
+pub mod Written
+pub mod PartLaws
+pub mod ArrayLaws
+pub mod RecordLaws

@@ -1,0 +1,110 @@
+-- A record and its words: a record whose fields are narrow is read back from its words, and words that are narrow are the words
+-- of the record that they hold.
+-- Assumes nothing.
+use mathlib.Core.Path.{_≡_, refl, ap, _∙_}
+use Prim.Native.Nat.{ℕ, zero, suc, _%_, _≤_, _<_}
+use native.Mathlib.Nat.{mod-eq-of-lt}
+use native.Mathlib.Omega.{arith}
+use mathlib.Core.Bool.{Bool, true, false, cond}
+use mathlib.Core.List.{List, [], _∷_}
+use lib.Dec.{eqb}
+use Rattle.records.specs.declared.Session.{Session}
+use Rattle.records.specs.declared.Tree.{Tree}
+use Rattle.records.specs.declared.Open.{Open}
+use Rattle.records.specs.declared.Lock.{Lock}
+use Rattle.tables.specs.Words.{word, sessionOf, treeOf, openOf, lockOf, sessionLimits, treeLimits, openLimits, lockLimits}
+use Rattle.tables.specs.Written.{sessionWords, treeWords, openWords, lockWords}
+
+-- each limited word is at most its limit
+abbrev pub Narrow : List (ℕ × ℕ) → List ℕ → Type 0
+Narrow [] r = Unit {0}
+Narrow (l ∷ ls) r = (word r (l .0) ≤ l .1) × Narrow ls r
+
+-- a word within its field is not changed by the cut
+uncut : (x limit : ℕ) → x ≤ limit → x % suc limit ≡ x
+uncut x limit h = mod-eq-of-lt (let q : x < suc limit = omega arith in q)
+
+-- a flag crosses as a word and comes back
+flag-back : (b : Bool) → eqb (cond b 1 0 % 2) 1 ≡ b
+flag-back true = refl
+flag-back false = refl
+
+pub flag-narrow : (b : Bool) → cond b 1 0 ≤ 1
+flag-narrow true = omega arith
+flag-narrow false = omega arith
+
+flag-exact : (x : ℕ) → x ≤ 1 → cond (eqb (x % 2) 1) 1 0 ≡ x
+flag-exact zero h = refl
+flag-exact (suc zero) h = refl
+flag-exact (suc (suc x)) h = absurd (let z : ⊥ = omega arith in z)
+
+-- ---- read back
+
+pub session-back : (s : Session) → Narrow sessionLimits (sessionWords s) → sessionOf (sessionWords s) ≡ s
+unfolding sessionOf
+session-back s h =
+    λ i. record {
+      uid = uncut (s .uid) 65535 (h .0) i;
+      connection = uncut (s .connection) 4294967295 (h .1 .0) i;
+    }
+
+pub tree-back : (t : Tree) → Narrow treeLimits (treeWords t) → treeOf (treeWords t) ≡ t
+unfolding treeOf
+tree-back t h =
+    λ i. record {
+      tid = uncut (t .tid) 65535 (h .0) i;
+      uid = uncut (t .uid) 65535 (h .1 .0) i;
+      right = uncut (t .right) 255 (h .1 .1 .0) i;
+    }
+
+pub open-back : (o : Open) → Narrow openLimits (openWords o) → openOf (openWords o) ≡ o
+unfolding openOf
+open-back o h =
+    λ i. record {
+      fid = uncut (o .fid) 65535 (h .0) i;
+      uid = uncut (o .uid) 65535 (h .1 .0) i;
+      tid = uncut (o .tid) 65535 (h .1 .1 .0) i;
+      process = uncut (o .process) 4294967295 (h .1 .1 .1 .0) i;
+      file = uncut (o .file) 255 (h .1 .1 .1 .1 .0) i;
+      access = uncut (o .access) 255 (h .1 .1 .1 .1 .1 .0) i;
+    }
+
+pub lock-back : (l : Lock) → Narrow lockLimits (lockWords l) → lockOf (lockWords l) ≡ l
+unfolding lockOf
+lock-back l h =
+    λ i. record {
+      fid = uncut (l .fid) 65535 (h .0) i;
+      process = uncut (l .process) 4294967295 (h .1 .0) i;
+      offset = l .offset;
+      length = l .length;
+      shared = flag-back (l .shared) i;
+    }
+
+-- ---- the words of the record that they hold
+
+pub session-exact : (a b : ℕ) → Narrow sessionLimits (a ∷ b ∷ []) → sessionWords (sessionOf (a ∷ b ∷ [])) ≡ a ∷ b ∷ []
+unfolding sessionOf
+session-exact a b h = rw (uncut a 65535 (h .0), uncut b 4294967295 (h .1 .0))
+
+pub tree-exact : (a b c : ℕ) → Narrow treeLimits (a ∷ b ∷ c ∷ []) → treeWords (treeOf (a ∷ b ∷ c ∷ [])) ≡ a ∷ b ∷ c ∷ []
+unfolding treeOf
+tree-exact a b c h = λ i. uncut a 65535 (h .0) i ∷ uncut b 65535 (h .1 .0) i ∷ uncut c 255 (h .1 .1 .0) i ∷ []
+
+pub open-exact : (a b c d e f : ℕ) → Narrow openLimits (a ∷ b ∷ c ∷ d ∷ e ∷ f ∷ [])
+    → openWords (openOf (a ∷ b ∷ c ∷ d ∷ e ∷ f ∷ [])) ≡ a ∷ b ∷ c ∷ d ∷ e ∷ f ∷ []
+unfolding openOf
+open-exact a b c d e f h =
+    λ i.
+    uncut a 65535 (h .0) i
+    ∷ uncut b 65535 (h .1 .0) i
+    ∷ uncut c 65535 (h .1 .1 .0) i
+    ∷ uncut d 4294967295 (h .1 .1 .1 .0) i
+    ∷ uncut e 255 (h .1 .1 .1 .1 .0) i
+    ∷ uncut f 255 (h .1 .1 .1 .1 .1 .0) i
+    ∷ []
+
+pub lock-exact : (a b c d e : ℕ) → Narrow lockLimits (a ∷ b ∷ c ∷ d ∷ e ∷ [])
+    → lockWords (lockOf (a ∷ b ∷ c ∷ d ∷ e ∷ [])) ≡ a ∷ b ∷ c ∷ d ∷ e ∷ []
+unfolding lockOf
+lock-exact a b c d e h =
+    λ i. uncut a 65535 (h .0) i ∷ uncut b 4294967295 (h .1 .0) i ∷ c ∷ d ∷ flag-exact e (h .1 .1 .0) i ∷ []

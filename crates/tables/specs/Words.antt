@@ -1,0 +1,142 @@
+-- What the words say that the host lends: 1172 words of 64 bits, in the order in which a C struct has them.
+--
+--   0     how many sessions;  1     16 x (UID, connection)
+--   33    how many trees;     34    32 x (TID, UID, right)
+--   130   how many opens;     131   64 x (FID, UID, TID, process, file, access)
+--   515   how many locks;     516   128 x (FID, process, offset, length, shared)
+--   1156  16 x (size)
+--
+-- Assumes nothing.
+use Prim.Native.Nat.{ℕ, zero, suc, min, _+_, _*_, _%_}
+use mathlib.Core.Bool.{Bool, cond, _&&_}
+use mathlib.Core.List.{List, [], _∷_, _++_}
+use lib.ListN.{take, drop, getD}
+use lib.Dec.{leb, eqb}
+use Rattle.lists.specs.Walk.{all}
+use Rattle.records.specs.declared.Session.{Session}
+use Rattle.records.specs.declared.Tree.{Tree}
+use Rattle.records.specs.declared.Open.{Open}
+use Rattle.records.specs.declared.Lock.{Lock}
+use Rattle.records.specs.declared.File.{File}
+use Rattle.records.specs.declared.Tables.{Tables}
+
+-- the word at a place
+abbrev pub word : List ℕ → ℕ → ℕ
+word w at = getD w at 0
+
+-- n words from a place on
+abbrev pub part : List ℕ → ℕ → ℕ → List ℕ
+part w from n = take n (drop from w)
+
+module _ {A : Type 0} where
+  -- the values of f at 0, 1, 2 and so on, n of them
+  unfoldable pub upTo : (ℕ → A) → ℕ → List A
+  upTo f zero = []
+  upTo f (suc n) = upTo f n ++ (f n ∷ [])
+
+-- ---- a record, from its words: each field is its word, cut to the field's width
+
+unfoldable pub sessionOf : List ℕ → Session
+sessionOf r = record { uid = word r 0 % 65536; connection = word r 1 % 4294967296 }
+
+unfoldable pub treeOf : List ℕ → Tree
+treeOf r = record { tid = word r 0 % 65536; uid = word r 1 % 65536; right = word r 2 % 256 }
+
+unfoldable pub openOf : List ℕ → Open
+openOf r =
+    record {
+      fid = word r 0 % 65536;
+      uid = word r 1 % 65536;
+      tid = word r 2 % 65536;
+      process = word r 3 % 4294967296;
+      file = word r 4 % 256;
+      access = word r 5 % 256;
+    }
+
+unfoldable pub lockOf : List ℕ → Lock
+lockOf r =
+    record {
+      fid = word r 0 % 65536;
+      process = word r 1 % 4294967296;
+      offset = word r 2;
+      length = word r 3;
+      shared = eqb (word r 4 % 2) 1;
+    }
+
+abbrev pub fileOf : ℕ → File
+fileOf size = record { size = size }
+
+-- ---- a table, from its own words: its count, then its records, k words each
+
+-- the words of record i
+abbrev pub recordAt : ℕ → List ℕ → ℕ → List ℕ
+recordAt k w i = part w (1 + k * i) k
+
+-- all n records, in use or not
+unfoldable pub arrayOf : {A : Type 0} → (List ℕ → A) → ℕ → ℕ → List ℕ → List A
+arrayOf f k n w = upTo (λ i. f (recordAt k w i)) n
+
+unfoldable pub sessionArray : List ℕ → List Session
+sessionArray w = arrayOf sessionOf 2 16 w
+
+unfoldable pub treeArray : List ℕ → List Tree
+treeArray w = arrayOf treeOf 3 32 w
+
+unfoldable pub openArray : List ℕ → List Open
+openArray w = arrayOf openOf 6 64 w
+
+unfoldable pub lockArray : List ℕ → List Lock
+lockArray w = arrayOf lockOf 5 128 w
+
+-- the files have no count
+unfoldable pub fileArray : List ℕ → List File
+fileArray w = upTo (λ i. fileOf (word w i)) 16
+
+-- ---- all tables
+
+unfoldable pub tablesOf : List ℕ → Tables
+tablesOf w =
+    record {
+      sessions = sessionArray (part w 0 33);
+      nsessions = word (part w 0 33) 0;
+      trees = treeArray (part w 33 97);
+      ntrees = word (part w 33 97) 0;
+      opens = openArray (part w 130 385);
+      nopens = word (part w 130 385) 0;
+      locks = lockArray (part w 515 641);
+      nlocks = word (part w 515 641) 0;
+      files = fileArray (part w 1156 16);
+    }
+
+-- ---- whether the words in use fit: each word of a record in use is a value of its field
+
+-- the fields that are narrower than a word: which of the record's words, and its largest value
+abbrev pub sessionLimits : List (ℕ × ℕ)
+sessionLimits = (0, 65535) ∷ (1, 4294967295) ∷ []
+
+abbrev pub treeLimits : List (ℕ × ℕ)
+treeLimits = (0, 65535) ∷ (1, 65535) ∷ (2, 255) ∷ []
+
+abbrev pub openLimits : List (ℕ × ℕ)
+openLimits = (0, 65535) ∷ (1, 65535) ∷ (2, 65535) ∷ (3, 4294967295) ∷ (4, 255) ∷ (5, 255) ∷ []
+
+abbrev pub lockLimits : List (ℕ × ℕ)
+lockLimits = (0, 65535) ∷ (1, 4294967295) ∷ (4, 1) ∷ []
+
+-- a word of the record r is at most its limit
+abbrev pub atMost : List ℕ → ℕ × ℕ → Bool
+atMost r limit = leb (word r (limit .0)) (limit .1)
+
+-- how many records of a table are in use; a count past its room counts the whole table
+abbrev pub inUse : List ℕ → ℕ → ℕ
+inUse w n = min (word w 0) n
+
+unfoldable pub recordsFit : List (ℕ × ℕ) → ℕ → ℕ → List ℕ → Bool
+recordsFit limits k n w = all (λ r. all (atMost r) limits) (upTo (recordAt k w) (inUse w n))
+
+unfoldable pub inUseFit : List ℕ → Bool
+inUseFit w =
+    recordsFit sessionLimits 2 16 (part w 0 33)
+    && (recordsFit treeLimits 3 32 (part w 33 97)
+    && (recordsFit openLimits 6 64 (part w 130 385)
+    && recordsFit lockLimits 5 128 (part w 515 641)))
