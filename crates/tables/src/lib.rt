@@ -2,3 +2,4 @@
 // words at a time, and whether the words in use fit.
 
 pub mod cut;
+pub mod session;
