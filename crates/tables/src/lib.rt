@@ -2,5 +2,6 @@
 // words at a time, and whether the words in use fit.
 
 pub mod cut;
+pub mod open;
 pub mod session;
 pub mod tree;
