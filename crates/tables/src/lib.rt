@@ -2,6 +2,7 @@
 // words at a time, and whether the words in use fit.
 
 pub mod cut;
+pub mod file;
 pub mod lock;
 pub mod open;
 pub mod session;

@@ -1,0 +1,22 @@
+-- `tables::file::size_at` meets its contract: a file's record is its size. Assumes nothing.
+use borrow.Author.Needs.{needs}
+use mathlib.Core.Path.{sym, ap}
+use Rattle.records.specs.Empty.{noFile}
+use Rattle.records.specs.declared.File.{File}
+use Rattle.tables.specs.ArrayLaws.{file-at}
+use Rattle.tables.proofs.file.size_at.Statement.{statement}
+use Rattle.tables.proofs.file.size_at.Tie as tie
+
+mul-result : tie.Need-mul-result
+mul-result c = search needs
+
+shared-slice-read-result : tie.Need-shared-slice-read-result
+shared-slice-read-result c = search needs
+
+returns : tie.Need-returns
+returns c =
+    let args = c .before .args in
+    sym (ap (λ (f : File). f .size) (file-at (args .words .now) (args .i) noFile (c .before .pre .1)))
+
+pub size-at-spec : {M : Type 1} → statement M
+size-at-spec = tie.close (tie.spec mul-result shared-slice-read-result returns)
