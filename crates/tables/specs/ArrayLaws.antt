@@ -13,9 +13,10 @@ use lib.Seq.{ext-getD, getD-at, getD-set-same, getD-set-other}
 use Rattle.lists.specs.Put.{put}
 use Rattle.lists.specs.PutLaws.{put-front}
 use Rattle.records.specs.declared.File.{File}
-use Rattle.tables.specs.Words.{word, part, upTo, recordAt, arrayOf, fileOf, fileArray}
+use Rattle.tables.specs.Words.{word, part, upTo, recordAt, within, arrayOf, fileOf, fileArray}
 use Rattle.tables.specs.Written.{Wrote}
 use Rattle.tables.specs.PartLaws.{part-here, part-before, part-behind, row, part-row, stores, stores-put}
+use Rattle.tables.specs.RecordLaws.{Within, within-holds}
 
 module _ {A : Type 0} (f : ℕ → A) where
   pub length-upTo : (n : ℕ) → length (upTo f n) ≡ n
@@ -116,15 +117,6 @@ module _ {A : Type 0} (f : List ℕ → A) (k n : ℕ) where
     pub count-put : word (put w (1 + k * i) x) 0 ≡ word w 0
     count-put = put-front w x (1 + k * i) inside 0 0 (omega arith)
 
-    -- both, of words stored one by one
-    pub wrote : (y : A) → f x ≡ y → Wrote (arrayOf f k n) w (stores w (1 + k * i) x) i y
-    wrote y e =
-        rw (stores-put w x (1 + k * i) inside)
-        (record {
-          array = array-put ∙ ap (set (arrayOf f k n w) i) e;
-          count = count-put;
-        })
-
   -- the count written: no record changes
   pub array-count : (w : List ℕ) (c : ℕ) → 0 < length w → arrayOf f k n (set w 0 c) ≡ arrayOf f k n w
   unfolding arrayOf
@@ -132,6 +124,21 @@ module _ {A : Type 0} (f : List ℕ → A) (k n : ℕ) where
       let e : set w 0 c ≡ put w 0 (c ∷ []) = stores-put w (c ∷ []) 0 (omega arith) in
       upTo-same (λ j. f (recordAt k w j)) (λ j. f (recordAt k (set w 0 c) j))
       (λ j. rw e (ap f (part-behind w (c ∷ []) 0 (omega arith) (1 + k * j) k (omega arith)))) n
+
+-- the words of a record stored one by one, as code does it
+pub wrote : {A : Type 0} (f : List ℕ → A) (limits : List ℕ) (n : ℕ) (w x : List ℕ) (i : ℕ) (y : A) → i < n → length w ≡ 1 + length limits * n
+    → length x ≡ length limits → Within limits x → f x ≡ y
+    → Wrote (arrayOf f (length limits) n) limits w (stores w (1 + length limits * i) x) i y
+wrote f limits n w x i y h long words narrow e =
+    let k = length limits in
+    let r = inside f k n w x i h long words in
+    rw (stores-put w x (1 + k * i) r)
+    (record {
+      array = array-put f k n w x i h long words ∙ ap (set (arrayOf f k n w) i) e;
+      count = count-put f k n w x i h long words;
+      fit = ap (within limits) (part-here w x (1 + k * i) r k words) ∙ within-holds limits x narrow;
+      stand = other f k n w x i h long words;
+    })
 
 -- ---- the files, whose record is one word
 

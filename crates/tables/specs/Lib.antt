@@ -1,5 +1,6 @@
 pub mod Words
 pub mod Written
+pub mod RecordLaws
 pub mod PartLaws
 pub mod ArrayLaws
-pub mod RecordLaws
+pub mod WholeLaws

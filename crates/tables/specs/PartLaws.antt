@@ -60,6 +60,19 @@ pub lent-put : (w e : List ℕ) (from n : ℕ) → length e ≡ n → lent w fro
 unfolding put
 lent-put w e from n long = ap (λ (l : List ℕ). take from w ++ (e ++ l)) (drop-drop n from w ∙ ap (λ (k : ℕ). drop (from + k) w) (sym long))
 
+module _ (w e : List ℕ) (from n : ℕ) (long : length e ≡ n) (room : from + n ≤ length w) where
+  fits : from + length e ≤ length w
+  fits = omega arith
+
+  pub lent-here : part (lent w from n e) from n ≡ e
+  lent-here = ap (λ (l : List ℕ). part l from n) (lent-put w e from n long) ∙ part-here w e from fits n long
+
+  pub lent-before : (a m : ℕ) → a + m ≤ from → part (lent w from n e) a m ≡ part w a m
+  lent-before a m h = ap (λ (l : List ℕ). part l a m) (lent-put w e from n long) ∙ part-before w e from fits a m h
+
+  pub lent-behind : (a m : ℕ) → from + n ≤ a → part (lent w from n e) a m ≡ part w a m
+  lent-behind a m h = ap (λ (l : List ℕ). part l a m) (lent-put w e from n long) ∙ part-behind w e from fits a m (omega arith)
+
 -- ---- words read one by one
 
 -- the words at `at`, `at + 1`, `at + 2` and so on: the first, and then those from `at + m` on

@@ -1,5 +1,5 @@
--- A record and its words: a record whose fields are narrow is read back from its words, and words that are narrow are the words
--- of the record that they hold.
+-- A record and its words: a record whose fields are within their limits is read back from its words, and words within
+-- their limits are the words of the record that they hold.
 -- Assumes nothing.
 use mathlib.Core.Path.{_≡_, refl, ap, _∙_}
 use Prim.Native.Nat.{ℕ, zero, suc, _%_, _≤_, _<_}
@@ -7,18 +7,50 @@ use native.Mathlib.Nat.{mod-eq-of-lt}
 use native.Mathlib.Omega.{arith}
 use mathlib.Core.Bool.{Bool, true, false, cond}
 use mathlib.Core.List.{List, [], _∷_}
-use lib.Dec.{eqb}
+use lib.ListN.{length}
+use lib.Dec.{leb, eqb}
+use borrow.Author.Tests.{le-leb, leb-true}
+use Rattle.lists.specs.Truth.{both-hold}
 use Rattle.records.specs.declared.Session.{Session}
 use Rattle.records.specs.declared.Tree.{Tree}
 use Rattle.records.specs.declared.Open.{Open}
 use Rattle.records.specs.declared.Lock.{Lock}
-use Rattle.tables.specs.Words.{word, sessionOf, treeOf, openOf, lockOf, sessionLimits, treeLimits, openLimits, lockLimits}
+use Rattle.tables.specs.Words.{word, within, sessionOf, treeOf, openOf, lockOf, sessionLimits, treeLimits, openLimits, lockLimits}
 use Rattle.tables.specs.Written.{sessionWords, treeWords, openWords, lockWords}
 
--- each limited word is at most its limit
-abbrev pub Narrow : List (ℕ × ℕ) → List ℕ → Type 0
-Narrow [] r = Unit {0}
-Narrow (l ∷ ls) r = (word r (l .0) ≤ l .1) × Narrow ls r
+-- each word is at most its limit
+abbrev pub Within : List ℕ → List ℕ → Type 0
+Within [] r = Unit {0}
+Within (l ∷ ls) [] = Unit {0}
+Within (l ∷ ls) (x ∷ xs) = (x ≤ l) × Within ls xs
+
+-- which is what the test says
+pub within-holds : (ls r : List ℕ) → Within ls r → within ls r ≡ true
+unfolding within
+within-holds [] r h = refl
+within-holds (l ∷ ls) [] h = refl
+within-holds (l ∷ ls) (x ∷ xs) h = rw (le-leb x l (h .0)) (within-holds ls xs (h .1))
+
+pub within-told : (ls r : List ℕ) → within ls r ≡ true → Within ls r
+unfolding within
+within-told [] r e = tt
+within-told (l ∷ ls) [] e = tt
+within-told (l ∷ ls) (x ∷ xs) e =
+    let b = both-hold (leb x l) (within ls xs) e in
+    (leb-true x l (b .0), within-told ls xs (b .1))
+
+-- word by word
+pub within-each : (ls r : List ℕ) → ((j : ℕ) → j < length ls → word r j ≤ word ls j) → Within ls r
+within-each [] r h = tt
+within-each (l ∷ ls) [] h = tt
+within-each (l ∷ ls) (x ∷ xs) h = (h 0 (omega arith), within-each ls xs (λ j k. h (suc j) (omega arith)))
+
+pub each-within : (ls r : List ℕ) → Within ls r → (j : ℕ) → j < length ls → word r j ≤ word ls j
+each-within [] r h j k = absurd (let q : ⊥ = omega arith in q)
+each-within (l ∷ ls) [] h zero k = omega arith
+each-within (l ∷ ls) [] h (suc j) k = omega arith
+each-within (l ∷ ls) (x ∷ xs) h zero k = h .0
+each-within (l ∷ ls) (x ∷ xs) h (suc j) k = each-within ls xs (h .1) j (let q : j < length ls = omega arith in q)
 
 -- a word within its field is not changed by the cut
 uncut : (x limit : ℕ) → x ≤ limit → x % suc limit ≡ x
@@ -40,7 +72,7 @@ flag-exact (suc (suc x)) h = absurd (let z : ⊥ = omega arith in z)
 
 -- ---- read back
 
-pub session-back : (s : Session) → Narrow sessionLimits (sessionWords s) → sessionOf (sessionWords s) ≡ s
+pub session-back : (s : Session) → Within sessionLimits (sessionWords s) → sessionOf (sessionWords s) ≡ s
 unfolding sessionOf
 session-back s h =
     λ i. record {
@@ -48,7 +80,7 @@ session-back s h =
       connection = uncut (s .connection) 4294967295 (h .1 .0) i;
     }
 
-pub tree-back : (t : Tree) → Narrow treeLimits (treeWords t) → treeOf (treeWords t) ≡ t
+pub tree-back : (t : Tree) → Within treeLimits (treeWords t) → treeOf (treeWords t) ≡ t
 unfolding treeOf
 tree-back t h =
     λ i. record {
@@ -57,7 +89,7 @@ tree-back t h =
       right = uncut (t .right) 255 (h .1 .1 .0) i;
     }
 
-pub open-back : (o : Open) → Narrow openLimits (openWords o) → openOf (openWords o) ≡ o
+pub open-back : (o : Open) → Within openLimits (openWords o) → openOf (openWords o) ≡ o
 unfolding openOf
 open-back o h =
     λ i. record {
@@ -69,7 +101,7 @@ open-back o h =
       access = uncut (o .access) 255 (h .1 .1 .1 .1 .1 .0) i;
     }
 
-pub lock-back : (l : Lock) → Narrow lockLimits (lockWords l) → lockOf (lockWords l) ≡ l
+pub lock-back : (l : Lock) → Within lockLimits (lockWords l) → lockOf (lockWords l) ≡ l
 unfolding lockOf
 lock-back l h =
     λ i. record {
@@ -82,15 +114,15 @@ lock-back l h =
 
 -- ---- the words of the record that they hold
 
-pub session-exact : (a b : ℕ) → Narrow sessionLimits (a ∷ b ∷ []) → sessionWords (sessionOf (a ∷ b ∷ [])) ≡ a ∷ b ∷ []
+pub session-exact : (a b : ℕ) → Within sessionLimits (a ∷ b ∷ []) → sessionWords (sessionOf (a ∷ b ∷ [])) ≡ a ∷ b ∷ []
 unfolding sessionOf
 session-exact a b h = rw (uncut a 65535 (h .0), uncut b 4294967295 (h .1 .0))
 
-pub tree-exact : (a b c : ℕ) → Narrow treeLimits (a ∷ b ∷ c ∷ []) → treeWords (treeOf (a ∷ b ∷ c ∷ [])) ≡ a ∷ b ∷ c ∷ []
+pub tree-exact : (a b c : ℕ) → Within treeLimits (a ∷ b ∷ c ∷ []) → treeWords (treeOf (a ∷ b ∷ c ∷ [])) ≡ a ∷ b ∷ c ∷ []
 unfolding treeOf
 tree-exact a b c h = λ i. uncut a 65535 (h .0) i ∷ uncut b 65535 (h .1 .0) i ∷ uncut c 255 (h .1 .1 .0) i ∷ []
 
-pub open-exact : (a b c d e f : ℕ) → Narrow openLimits (a ∷ b ∷ c ∷ d ∷ e ∷ f ∷ [])
+pub open-exact : (a b c d e f : ℕ) → Within openLimits (a ∷ b ∷ c ∷ d ∷ e ∷ f ∷ [])
     → openWords (openOf (a ∷ b ∷ c ∷ d ∷ e ∷ f ∷ [])) ≡ a ∷ b ∷ c ∷ d ∷ e ∷ f ∷ []
 unfolding openOf
 open-exact a b c d e f h =
@@ -103,8 +135,8 @@ open-exact a b c d e f h =
     ∷ uncut f 255 (h .1 .1 .1 .1 .1 .0) i
     ∷ []
 
-pub lock-exact : (a b c d e : ℕ) → Narrow lockLimits (a ∷ b ∷ c ∷ d ∷ e ∷ [])
+pub lock-exact : (a b c d e : ℕ) → Within lockLimits (a ∷ b ∷ c ∷ d ∷ e ∷ [])
     → lockWords (lockOf (a ∷ b ∷ c ∷ d ∷ e ∷ [])) ≡ a ∷ b ∷ c ∷ d ∷ e ∷ []
 unfolding lockOf
 lock-exact a b c d e h =
-    λ i. uncut a 65535 (h .0) i ∷ uncut b 4294967295 (h .1 .0) i ∷ c ∷ d ∷ flag-exact e (h .1 .1 .0) i ∷ []
+    λ i. uncut a 65535 (h .0) i ∷ uncut b 4294967295 (h .1 .0) i ∷ c ∷ d ∷ flag-exact e (h .1 .1 .1 .1 .0) i ∷ []

@@ -8,9 +8,9 @@
 --
 -- Assumes nothing.
 use Prim.Native.Nat.{ℕ, zero, suc, min, _+_, _*_, _%_}
-use mathlib.Core.Bool.{Bool, cond, _&&_}
+use mathlib.Core.Bool.{Bool, true, _&&_}
 use mathlib.Core.List.{List, [], _∷_, _++_}
-use lib.ListN.{take, drop, getD}
+use lib.ListN.{length, take, drop, getD}
 use lib.Dec.{leb, eqb}
 use Rattle.lists.specs.Walk.{all}
 use Rattle.records.specs.declared.Session.{Session}
@@ -110,33 +110,39 @@ tablesOf w =
 
 -- ---- whether the words in use fit: each word of a record in use is a value of its field
 
--- the fields that are narrower than a word: which of the record's words, and its largest value
-abbrev pub sessionLimits : List (ℕ × ℕ)
-sessionLimits = (0, 65535) ∷ (1, 4294967295) ∷ []
+-- the largest value of each field, in the order of a record's words; an offset and a length are any word
+abbrev pub sessionLimits : List ℕ
+sessionLimits = 65535 ∷ 4294967295 ∷ []
 
-abbrev pub treeLimits : List (ℕ × ℕ)
-treeLimits = (0, 65535) ∷ (1, 65535) ∷ (2, 255) ∷ []
+abbrev pub treeLimits : List ℕ
+treeLimits = 65535 ∷ 65535 ∷ 255 ∷ []
 
-abbrev pub openLimits : List (ℕ × ℕ)
-openLimits = (0, 65535) ∷ (1, 65535) ∷ (2, 65535) ∷ (3, 4294967295) ∷ (4, 255) ∷ (5, 255) ∷ []
+abbrev pub openLimits : List ℕ
+openLimits = 65535 ∷ 65535 ∷ 65535 ∷ 4294967295 ∷ 255 ∷ 255 ∷ []
 
-abbrev pub lockLimits : List (ℕ × ℕ)
-lockLimits = (0, 65535) ∷ (1, 4294967295) ∷ (4, 1) ∷ []
+abbrev pub lockLimits : List ℕ
+lockLimits = 65535 ∷ 4294967295 ∷ 18446744073709551615 ∷ 18446744073709551615 ∷ 1 ∷ []
 
--- a word of the record r is at most its limit
-abbrev pub atMost : List ℕ → ℕ × ℕ → Bool
-atMost r limit = leb (word r (limit .0)) (limit .1)
+-- each word of a record is at most its limit
+unfoldable pub within : List ℕ → List ℕ → Bool
+within [] r = true
+within (l ∷ ls) [] = true
+within (l ∷ ls) (x ∷ xs) = leb x l && within ls xs
 
--- how many records of a table are in use; a count past its room counts the whole table
+-- so are those of the first m records of a table
+unfoldable pub recordsFit : List ℕ → ℕ → List ℕ → Bool
+recordsFit limits m w = all (within limits) (upTo (recordAt (length limits) w) m)
+
+-- how many records of a table are in use; a count past the table's room counts the whole table
 abbrev pub inUse : List ℕ → ℕ → ℕ
-inUse w n = min (word w 0) n
+inUse w room = min (word w 0) room
 
-unfoldable pub recordsFit : List (ℕ × ℕ) → ℕ → ℕ → List ℕ → Bool
-recordsFit limits k n w = all (λ r. all (atMost r) limits) (upTo (recordAt k w) (inUse w n))
+abbrev pub tableFits : List ℕ → ℕ → List ℕ → Bool
+tableFits limits room w = recordsFit limits (inUse w room) w
 
 unfoldable pub inUseFit : List ℕ → Bool
 inUseFit w =
-    recordsFit sessionLimits 2 16 (part w 0 33)
-    && (recordsFit treeLimits 3 32 (part w 33 97)
-    && (recordsFit openLimits 6 64 (part w 130 385)
-    && recordsFit lockLimits 5 128 (part w 515 641)))
+    tableFits sessionLimits 16 (part w 0 33)
+    && (tableFits treeLimits 32 (part w 33 97)
+    && (tableFits openLimits 64 (part w 130 385)
+    && tableFits lockLimits 128 (part w 515 641)))

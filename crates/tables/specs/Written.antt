@@ -1,20 +1,28 @@
--- What a function that writes a record says, and the words of a record.
+-- What a function that writes a record or changes a table says, the words of a record, and the records in use.
 -- Assumes nothing.
 use Prim.Native.Nat.{ℕ}
 use mathlib.Core.Path.{_≡_}
-use mathlib.Core.Bool.{cond}
+use mathlib.Core.Bool.{true, cond}
 use mathlib.Core.List.{List, [], _∷_}
-use lib.ListN.{take, set}
+use lib.ListN.{length, take, set}
+use Rattle.lists.specs.Stored.{stored}
 use Rattle.records.specs.declared.Session.{Session}
 use Rattle.records.specs.declared.Tree.{Tree}
 use Rattle.records.specs.declared.Open.{Open}
 use Rattle.records.specs.declared.Lock.{Lock}
-use Rattle.tables.specs.Words.{word, sessionArray, treeArray, openArray, lockArray}
+use Rattle.tables.specs.Words.{word, recordAt, within, sessionArray, treeArray, openArray, lockArray}
 
--- record i of a table is now x: no other record changed, nor the count
-pub record Wrote {A : Type 0} (arrayIn : List ℕ → List A) (before after : List ℕ) (i : ℕ) (x : A) : Type 0 where
+-- record i of a table is now x, and its words fit; the words of every other record stand, and so does the count
+pub record Wrote {A : Type 0} (arrayIn : List ℕ → List A) (limits before after : List ℕ) (i : ℕ) (x : A) : Type 0 where
   pub array : arrayIn after ≡ set (arrayIn before) i x
   pub count : word after 0 ≡ word before 0
+  pub fit : within limits (recordAt (length limits) after i) ≡ true
+  pub stand : (j : ℕ) → (j ≡ i → ⊥) → recordAt (length limits) after j ≡ recordAt (length limits) before j
+
+-- a table now holds just the records of a list: those given up are empty, those behind the counts as they were
+pub record Holds {A : Type 0} (arrayIn : List ℕ → List A) (z : A) (before after : List ℕ) (list : List A) : Type 0 where
+  pub array : arrayIn after ≡ stored z (arrayIn before) (length (take (word before 0) (arrayIn before))) list
+  pub count : word after 0 ≡ length list
 
 -- the words of a record
 abbrev pub sessionWords : Session → List ℕ

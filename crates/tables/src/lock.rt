@@ -8,7 +8,7 @@ ghost use mathlib.Core.Path.{_≡_};
 ghost use Prim.Native.Nat.{_<_};
 ghost use lib.ListN.{length, getD};
 ghost use Rattle.records.specs.Empty.{noLock};
-ghost use Rattle.tables.specs.Words.{lockArray};
+ghost use Rattle.tables.specs.Words.{lockArray, lockLimits};
 ghost use Rattle.tables.specs.Written.{Wrote};
 
 // The record at a place.
@@ -34,7 +34,7 @@ pub fn lock_at(words: &[u64], i: usize) -> Lock
 // The record at a place, written.
 pub fn put_lock(words: &mut [u64], i: usize, l: Lock)
     requires { ⌜ (length (now words) ≡ 641) × (i < 128) ⌝ }
-    ensures { λ _. ⌜ Wrote lockArray (now (words .entry)) (now (words .exit)) i l ⌝ }
+    ensures { λ _. ⌜ Wrote lockArray lockLimits (now (words .entry)) (now (words .exit)) i l ⌝ }
 {
     let at = 1 + 5 * i;
     words[at] = l.fid as u64;

@@ -8,7 +8,7 @@ ghost use mathlib.Core.Path.{_≡_};
 ghost use Prim.Native.Nat.{_<_};
 ghost use lib.ListN.{length, getD};
 ghost use Rattle.records.specs.Empty.{noOpen};
-ghost use Rattle.tables.specs.Words.{openArray};
+ghost use Rattle.tables.specs.Words.{openArray, openLimits};
 ghost use Rattle.tables.specs.Written.{Wrote};
 
 // The record at a place.
@@ -36,7 +36,7 @@ pub fn open_at(words: &[u64], i: usize) -> Open
 // The record at a place, written.
 pub fn put_open(words: &mut [u64], i: usize, o: Open)
     requires { ⌜ (length (now words) ≡ 385) × (i < 64) ⌝ }
-    ensures { λ _. ⌜ Wrote openArray (now (words .entry)) (now (words .exit)) i o ⌝ }
+    ensures { λ _. ⌜ Wrote openArray openLimits (now (words .entry)) (now (words .exit)) i o ⌝ }
 {
     let at = 1 + 6 * i;
     words[at] = o.fid as u64;

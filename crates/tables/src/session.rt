@@ -7,7 +7,7 @@ ghost use mathlib.Core.Path.{_≡_};
 ghost use Prim.Native.Nat.{_<_};
 ghost use lib.ListN.{length, getD};
 ghost use Rattle.records.specs.Empty.{noSession};
-ghost use Rattle.tables.specs.Words.{sessionArray};
+ghost use Rattle.tables.specs.Words.{sessionArray, sessionLimits};
 ghost use Rattle.tables.specs.Written.{Wrote};
 
 // The record at a place.
@@ -24,7 +24,7 @@ pub fn session_at(words: &[u64], i: usize) -> Session
 // The record at a place, written.
 pub fn put_session(words: &mut [u64], i: usize, s: Session)
     requires { ⌜ (length (now words) ≡ 33) × (i < 16) ⌝ }
-    ensures { λ _. ⌜ Wrote sessionArray (now (words .entry)) (now (words .exit)) i s ⌝ }
+    ensures { λ _. ⌜ Wrote sessionArray sessionLimits (now (words .entry)) (now (words .exit)) i s ⌝ }
 {
     let at = 1 + 2 * i;
     words[at] = s.uid as u64;

@@ -7,7 +7,7 @@ ghost use mathlib.Core.Path.{_≡_};
 ghost use Prim.Native.Nat.{_<_};
 ghost use lib.ListN.{length, getD};
 ghost use Rattle.records.specs.Empty.{noTree};
-ghost use Rattle.tables.specs.Words.{treeArray};
+ghost use Rattle.tables.specs.Words.{treeArray, treeLimits};
 ghost use Rattle.tables.specs.Written.{Wrote};
 
 // The record at a place.
@@ -25,7 +25,7 @@ pub fn tree_at(words: &[u64], i: usize) -> Tree
 // The record at a place, written.
 pub fn put_tree(words: &mut [u64], i: usize, t: Tree)
     requires { ⌜ (length (now words) ≡ 97) × (i < 32) ⌝ }
-    ensures { λ _. ⌜ Wrote treeArray (now (words .entry)) (now (words .exit)) i t ⌝ }
+    ensures { λ _. ⌜ Wrote treeArray treeLimits (now (words .entry)) (now (words .exit)) i t ⌝ }
 {
     let at = 1 + 3 * i;
     words[at] = t.tid as u64;

@@ -3,10 +3,10 @@ use borrow.Author.Needs.{needs}
 use mathlib.Core.Path.{refl}
 use native.Mathlib.Omega.{arith}
 use lib.ListN.{length-set}
-use Rattle.tables.specs.Words.{lockOf, lockArray}
+use Rattle.tables.specs.Words.{lockOf, lockArray, lockLimits}
 use Rattle.tables.specs.Written.{lockWords}
 use Rattle.tables.specs.ArrayLaws.{wrote}
-use Rattle.tables.specs.RecordLaws.{flag-narrow, lock-back}
+use Rattle.tables.specs.RecordLaws.{Within, flag-narrow, lock-back}
 use Rattle.tables.proofs.lock.put_lock.Statement.{statement}
 use Rattle.tables.proofs.lock.put_lock.Tie as tie
 
@@ -75,8 +75,9 @@ unfolding lockArray
 returns c =
     let start = c .before .before .before .before in
     let args = start .args in
+    let narrow : Within lockLimits (lockWords (args .l)) = (omega arith, (omega arith, (omega arith, (omega arith, (flag-narrow (args .l .shared), tt))))) in
     rw (c .flag .ensures)
-    (wrote lockOf 5 128 (args .words .now) (lockWords (args .l)) (args .i) (start .pre .1) (start .pre .0) refl (args .l) (lock-back (args .l) (omega arith, (omega arith, (flag-narrow (args .l .shared), tt)))))
+    (wrote lockOf lockLimits 128 (args .words .now) (lockWords (args .l)) (args .i) (args .l) (start .pre .1) (start .pre .0) refl narrow (lock-back (args .l) narrow))
 
 pub put-lock-spec : {M : Type 1} → statement M
 put-lock-spec =

@@ -3,10 +3,10 @@ use borrow.Author.Needs.{needs}
 use mathlib.Core.Path.{refl}
 use native.Mathlib.Omega.{arith}
 use lib.ListN.{length-set}
-use Rattle.tables.specs.Words.{openOf, openArray}
+use Rattle.tables.specs.Words.{openOf, openArray, openLimits}
 use Rattle.tables.specs.Written.{openWords}
 use Rattle.tables.specs.ArrayLaws.{wrote}
-use Rattle.tables.specs.RecordLaws.{open-back}
+use Rattle.tables.specs.RecordLaws.{Within, open-back}
 use Rattle.tables.proofs.open.put_open.Statement.{statement}
 use Rattle.tables.proofs.open.put_open.Tie as tie
 
@@ -93,7 +93,8 @@ unfolding openArray
 returns c =
     let start = c .before .before .before .before .before .before in
     let args = start .args in
-    wrote openOf 6 64 (args .words .now) (openWords (args .o)) (args .i) (start .pre .1) (start .pre .0) refl (args .o) (open-back (args .o) (omega arith, (omega arith, (omega arith, (omega arith, (omega arith, (omega arith, tt)))))))
+    let narrow : Within openLimits (openWords (args .o)) = (omega arith, (omega arith, (omega arith, (omega arith, (omega arith, (omega arith, tt)))))) in
+    wrote openOf openLimits 64 (args .words .now) (openWords (args .o)) (args .i) (args .o) (start .pre .1) (start .pre .0) refl narrow (open-back (args .o) narrow)
 
 pub put-open-spec : {M : Type 1} → statement M
 put-open-spec =

@@ -3,10 +3,10 @@ use borrow.Author.Needs.{needs}
 use mathlib.Core.Path.{refl}
 use native.Mathlib.Omega.{arith}
 use lib.ListN.{length-set}
-use Rattle.tables.specs.Words.{sessionOf, sessionArray}
+use Rattle.tables.specs.Words.{sessionOf, sessionArray, sessionLimits}
 use Rattle.tables.specs.Written.{sessionWords}
 use Rattle.tables.specs.ArrayLaws.{wrote}
-use Rattle.tables.specs.RecordLaws.{session-back}
+use Rattle.tables.specs.RecordLaws.{Within, session-back}
 use Rattle.tables.proofs.session.put_session.Statement.{statement}
 use Rattle.tables.proofs.session.put_session.Tie as tie
 
@@ -45,7 +45,8 @@ unfolding sessionArray
 returns c =
     let start = c .before .before in
     let args = start .args in
-    wrote sessionOf 2 16 (args .words .now) (sessionWords (args .s)) (args .i) (start .pre .1) (start .pre .0) refl (args .s) (session-back (args .s) (omega arith, (omega arith, tt)))
+    let narrow : Within sessionLimits (sessionWords (args .s)) = (omega arith, (omega arith, tt)) in
+    wrote sessionOf sessionLimits 16 (args .words .now) (sessionWords (args .s)) (args .i) (args .s) (start .pre .1) (start .pre .0) refl narrow (session-back (args .s) narrow)
 
 pub put-session-spec : {M : Type 1} → statement M
 put-session-spec =

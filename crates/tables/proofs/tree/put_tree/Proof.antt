@@ -3,10 +3,10 @@ use borrow.Author.Needs.{needs}
 use mathlib.Core.Path.{refl}
 use native.Mathlib.Omega.{arith}
 use lib.ListN.{length-set}
-use Rattle.tables.specs.Words.{treeOf, treeArray}
+use Rattle.tables.specs.Words.{treeOf, treeArray, treeLimits}
 use Rattle.tables.specs.Written.{treeWords}
 use Rattle.tables.specs.ArrayLaws.{wrote}
-use Rattle.tables.specs.RecordLaws.{tree-back}
+use Rattle.tables.specs.RecordLaws.{Within, tree-back}
 use Rattle.tables.proofs.tree.put_tree.Statement.{statement}
 use Rattle.tables.proofs.tree.put_tree.Tie as tie
 
@@ -57,7 +57,8 @@ unfolding treeArray
 returns c =
     let start = c .before .before .before in
     let args = start .args in
-    wrote treeOf 3 32 (args .words .now) (treeWords (args .t)) (args .i) (start .pre .1) (start .pre .0) refl (args .t) (tree-back (args .t) (omega arith, (omega arith, (omega arith, tt))))
+    let narrow : Within treeLimits (treeWords (args .t)) = (omega arith, (omega arith, (omega arith, tt))) in
+    wrote treeOf treeLimits 32 (args .words .now) (treeWords (args .t)) (args .i) (args .t) (start .pre .1) (start .pre .0) refl narrow (tree-back (args .t) narrow)
 
 pub put-tree-spec : {M : Type 1} → statement M
 put-tree-spec =

@@ -1,0 +1,173 @@
+-- All tables, after one table's words are lent and changed: that table is what its words say, and no other changes.
+-- Assumes nothing.
+use mathlib.Core.Path.{_≡_, refl, ap, _∙_}
+use Prim.Native.Nat.{ℕ, _+_, _≤_}
+use native.Mathlib.Omega.{arith}
+use mathlib.Core.List.{List}
+use lib.ListN.{length}
+use Rattle.records.specs.Empty.{noSession, noTree, noOpen, noLock}
+use Rattle.records.specs.Held.{sessionsOf, treesOf, opensOf, locksOf, withSessions, withTrees, withOpens, withLocks, withFiles}
+use Rattle.records.specs.declared.Session.{Session}
+use Rattle.records.specs.declared.Tree.{Tree}
+use Rattle.records.specs.declared.Open.{Open}
+use Rattle.records.specs.declared.Lock.{Lock}
+use Rattle.records.specs.declared.Tables.{Tables}
+use Rattle.tables.specs.Words.{word, part, sessionArray, treeArray, openArray, lockArray, fileArray, tablesOf}
+use Rattle.tables.specs.Written.{Holds, sessionsIn, treesIn, opensIn, locksIn}
+use Rattle.tables.specs.PartLaws.{lent, lent-here, lent-before, lent-behind}
+
+-- ---- the records in use are those of the tables
+
+pub sessions-in : (w : List ℕ) → sessionsOf (tablesOf w) ≡ sessionsIn (part w 0 33)
+unfolding tablesOf
+sessions-in w = refl
+
+pub trees-in : (w : List ℕ) → treesOf (tablesOf w) ≡ treesIn (part w 33 97)
+unfolding tablesOf
+trees-in w = refl
+
+pub opens-in : (w : List ℕ) → opensOf (tablesOf w) ≡ opensIn (part w 130 385)
+unfolding tablesOf
+opens-in w = refl
+
+pub locks-in : (w : List ℕ) → locksOf (tablesOf w) ≡ locksIn (part w 515 641)
+unfolding tablesOf
+locks-in w = refl
+
+-- ---- the tables with another array and count in place of one of them
+
+unfoldable pub withSessionArray : Tables → List Session → ℕ → Tables
+withSessionArray t list count =
+    record {
+      sessions = list;
+      nsessions = count;
+      trees = t .trees;
+      ntrees = t .ntrees;
+      opens = t .opens;
+      nopens = t .nopens;
+      locks = t .locks;
+      nlocks = t .nlocks;
+      files = t .files;
+    }
+
+unfoldable pub withTreeArray : Tables → List Tree → ℕ → Tables
+withTreeArray t list count =
+    record {
+      sessions = t .sessions;
+      nsessions = t .nsessions;
+      trees = list;
+      ntrees = count;
+      opens = t .opens;
+      nopens = t .nopens;
+      locks = t .locks;
+      nlocks = t .nlocks;
+      files = t .files;
+    }
+
+unfoldable pub withOpenArray : Tables → List Open → ℕ → Tables
+withOpenArray t list count =
+    record {
+      sessions = t .sessions;
+      nsessions = t .nsessions;
+      trees = t .trees;
+      ntrees = t .ntrees;
+      opens = list;
+      nopens = count;
+      locks = t .locks;
+      nlocks = t .nlocks;
+      files = t .files;
+    }
+
+unfoldable pub withLockArray : Tables → List Lock → ℕ → Tables
+withLockArray t list count =
+    record {
+      sessions = t .sessions;
+      nsessions = t .nsessions;
+      trees = t .trees;
+      ntrees = t .ntrees;
+      opens = t .opens;
+      nopens = t .nopens;
+      locks = list;
+      nlocks = count;
+      files = t .files;
+    }
+
+module _ (w e : List ℕ) (full : length w ≡ 1172) where
+  -- ---- each table's words, lent and changed
+
+  pub tables-sessions : length e ≡ 33 → tablesOf (lent w 0 33 e) ≡ withSessionArray (tablesOf w) (sessionArray e) (word e 0)
+  unfolding tablesOf withSessionArray
+  tables-sessions long =
+      rw (
+        lent-here w e 0 33 long (omega arith),
+        lent-behind w e 0 33 long (omega arith) 33 97 (omega arith),
+        lent-behind w e 0 33 long (omega arith) 130 385 (omega arith),
+        lent-behind w e 0 33 long (omega arith) 515 641 (omega arith),
+        lent-behind w e 0 33 long (omega arith) 1156 16 (omega arith),
+      )
+
+  pub tables-trees : length e ≡ 97 → tablesOf (lent w 33 97 e) ≡ withTreeArray (tablesOf w) (treeArray e) (word e 0)
+  unfolding tablesOf withTreeArray
+  tables-trees long =
+      rw (
+        lent-here w e 33 97 long (omega arith),
+        lent-before w e 33 97 long (omega arith) 0 33 (omega arith),
+        lent-behind w e 33 97 long (omega arith) 130 385 (omega arith),
+        lent-behind w e 33 97 long (omega arith) 515 641 (omega arith),
+        lent-behind w e 33 97 long (omega arith) 1156 16 (omega arith),
+      )
+
+  pub tables-opens : length e ≡ 385 → tablesOf (lent w 130 385 e) ≡ withOpenArray (tablesOf w) (openArray e) (word e 0)
+  unfolding tablesOf withOpenArray
+  tables-opens long =
+      rw (
+        lent-here w e 130 385 long (omega arith),
+        lent-before w e 130 385 long (omega arith) 0 33 (omega arith),
+        lent-before w e 130 385 long (omega arith) 33 97 (omega arith),
+        lent-behind w e 130 385 long (omega arith) 515 641 (omega arith),
+        lent-behind w e 130 385 long (omega arith) 1156 16 (omega arith),
+      )
+
+  pub tables-locks : length e ≡ 641 → tablesOf (lent w 515 641 e) ≡ withLockArray (tablesOf w) (lockArray e) (word e 0)
+  unfolding tablesOf withLockArray
+  tables-locks long =
+      rw (
+        lent-here w e 515 641 long (omega arith),
+        lent-before w e 515 641 long (omega arith) 0 33 (omega arith),
+        lent-before w e 515 641 long (omega arith) 33 97 (omega arith),
+        lent-before w e 515 641 long (omega arith) 130 385 (omega arith),
+        lent-behind w e 515 641 long (omega arith) 1156 16 (omega arith),
+      )
+
+  pub tables-files : length e ≡ 16 → tablesOf (lent w 1156 16 e) ≡ withFiles (tablesOf w) (fileArray e)
+  unfolding tablesOf withFiles
+  tables-files long =
+      rw (
+        lent-here w e 1156 16 long (omega arith),
+        lent-before w e 1156 16 long (omega arith) 0 33 (omega arith),
+        lent-before w e 1156 16 long (omega arith) 33 97 (omega arith),
+        lent-before w e 1156 16 long (omega arith) 130 385 (omega arith),
+        lent-before w e 1156 16 long (omega arith) 515 641 (omega arith),
+      )
+
+  -- ---- a table that now holds just the records of a list
+
+  pub with-sessions : (list : List Session) → length e ≡ 33 → Holds sessionArray noSession (part w 0 33) e list
+      → tablesOf (lent w 0 33 e) ≡ withSessions (tablesOf w) list
+  unfolding tablesOf withSessionArray withSessions
+  with-sessions list long h = tables-sessions long ∙ rw (h .array, h .count)
+
+  pub with-trees : (list : List Tree) → length e ≡ 97 → Holds treeArray noTree (part w 33 97) e list
+      → tablesOf (lent w 33 97 e) ≡ withTrees (tablesOf w) list
+  unfolding tablesOf withTreeArray withTrees
+  with-trees list long h = tables-trees long ∙ rw (h .array, h .count)
+
+  pub with-opens : (list : List Open) → length e ≡ 385 → Holds openArray noOpen (part w 130 385) e list
+      → tablesOf (lent w 130 385 e) ≡ withOpens (tablesOf w) list
+  unfolding tablesOf withOpenArray withOpens
+  with-opens list long h = tables-opens long ∙ rw (h .array, h .count)
+
+  pub with-locks : (list : List Lock) → length e ≡ 641 → Holds lockArray noLock (part w 515 641) e list
+      → tablesOf (lent w 515 641 e) ≡ withLocks (tablesOf w) list
+  unfolding tablesOf withLockArray withLocks
+  with-locks list long h = tables-locks long ∙ rw (h .array, h .count)
