@@ -4,3 +4,4 @@ pub mod RecordLaws
 pub mod PartLaws
 pub mod ArrayLaws
 pub mod WholeLaws
+pub mod FitLaws
