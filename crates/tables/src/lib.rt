@@ -3,6 +3,7 @@
 
 pub mod cut;
 pub mod file;
+pub mod fit;
 pub mod lock;
 pub mod open;
 pub mod session;
