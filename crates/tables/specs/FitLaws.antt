@@ -6,13 +6,13 @@ use native.Mathlib.Nat.{mul-suc, mul-le-mul-left}
 use native.Mathlib.Numerals.{add-one}
 use native.Mathlib.Decide.{ℕ-discrete}
 use native.Mathlib.Omega.{arith}
-use mathlib.Core.Bool.{Bool, true, false, _&&_}
+use mathlib.Core.Bool.{Bool, true, false, cond}
 use mathlib.Core.List.{List, [], _∷_, _++_}
 use lib.ListN.{length, take, drop, getD}
 use lib.Seq.{getD-take, getD-drop, take-all, take-length}
-use lib.Dec.{leb}
-use borrow.Author.Tests.{le-leb, lt-leb, leb-true}
-use Rattle.lists.specs.Truth.{both-hold, hold-both, same-truth}
+use lib.Dec.{leb, eqb}
+use borrow.Author.Tests.{le-leb, leb-true, eqb-true}
+use Rattle.lists.specs.Truth.{same-truth, test-cases}
 use Rattle.lists.specs.Walk.{all, rest}
 use Rattle.lists.specs.WalkLaws.{all-yes, all-no, all-end}
 use Rattle.lists.specs.Members.{all-each, each-all, all-snoc}
@@ -79,6 +79,17 @@ pub column-any : (w : List ℕ) (from step n limit : ℕ) → ((k : ℕ) → wor
 unfolding columnFits
 column-any w from step n limit each =
     all-upTo (λ x. leb x limit) (λ i. word w (from + step * i)) n (λ i h. le-leb (word w (from + step * i)) limit (each (from + step * i)))
+
+-- a column whose limit is the largest word needs no test
+pub column-tested : (w : List ℕ) (from step n limit : ℕ) → ((k : ℕ) → word w k ≤ 18446744073709551615)
+    → columnFits w from step (cond (eqb limit 18446744073709551615) 0 n) limit ≡ columnFits w from step n limit
+column-tested w from step n limit each =
+    test-cases (eqb limit 18446744073709551615)
+    (λ e.
+    let largest : limit ≡ 18446744073709551615 = eqb-true limit 18446744073709551615 e in
+    let any : (k : ℕ) → word w k ≤ limit = λ k. rw largest (each k) in
+    column-any w from step (cond (eqb limit 18446744073709551615) 0 n) limit any ∙ sym (column-any w from step n limit any))
+    (λ e. rw e)
 
 -- the word of a record, in its column
 record-word : (w : List ℕ) (k i j : ℕ) → j < k → word (recordAt k w i) j ≡ word w (1 + j + k * i)

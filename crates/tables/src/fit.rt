@@ -1,8 +1,10 @@
 // Whether each word of a record in use is a value of its field.
 
 ghost use mathlib.Core.Path.{_≡_};
+ghost use mathlib.Core.Bool.{cond};
 ghost use Prim.Native.Nat.{_+_, _*_, _<_, _≤_};
 ghost use lib.ListN.{length};
+ghost use lib.Dec.{eqb};
 ghost use Rattle.tables.specs.Words.{inUse, tableFits, inUseFit};
 ghost use Rattle.tables.specs.FitLaws.{columnFits};
 
@@ -33,6 +35,16 @@ fn column_fits(words: &[u64], from: usize, step: usize, count: usize, limit: u64
     true
 }
 
+// How many words of a column need a test: none where the limit is the largest word.
+fn tested(count: usize, limit: u64) -> usize
+    ensures { λ r. ⌜ r ≡ cond (eqb limit 18446744073709551615) 0 count ⌝ }
+{
+    if limit == 18446744073709551615 {
+        return 0;
+    }
+    count
+}
+
 // Whether the records in use of a table fit, column by column.
 fn table_fits(words: &[u64], room: usize, limits: &[u64]) -> bool
     requires { ⌜ length (now words) ≡ 1 + length (now limits) * room ⌝ }
@@ -42,7 +54,8 @@ fn table_fits(words: &[u64], room: usize, limits: &[u64]) -> bool
     let count = in_use(words, room);
     let mut j: usize = 0;
     while j < step {
-        if !column_fits(words, 1 + j, step, count, limits[j]) {
+        let limit = limits[j];
+        if !column_fits(words, 1 + j, step, tested(count, limit), limit) {
             return false;
         }
         j += 1;
