@@ -5,3 +5,4 @@ pub mod PartLaws
 pub mod ArrayLaws
 pub mod WholeLaws
 pub mod FitLaws
+pub mod ChangeLaws

@@ -3,8 +3,10 @@
 use mathlib.Core.Path.{_≡_, refl, ap, _∙_}
 use Prim.Native.Nat.{ℕ, _+_, _≤_}
 use native.Mathlib.Omega.{arith}
+use mathlib.Core.Bool.{true}
 use mathlib.Core.List.{List}
 use lib.ListN.{length}
+use Rattle.lists.specs.Truth.{both-hold}
 use Rattle.records.specs.Empty.{noSession, noTree, noOpen, noLock}
 use Rattle.records.specs.Held.{sessionsOf, treesOf, opensOf, locksOf, withSessions, withTrees, withOpens, withLocks, withFiles}
 use Rattle.records.specs.declared.Session.{Session}
@@ -12,7 +14,7 @@ use Rattle.records.specs.declared.Tree.{Tree}
 use Rattle.records.specs.declared.Open.{Open}
 use Rattle.records.specs.declared.Lock.{Lock}
 use Rattle.records.specs.declared.Tables.{Tables}
-use Rattle.tables.specs.Words.{word, part, sessionArray, treeArray, openArray, lockArray, fileArray, tablesOf}
+use Rattle.tables.specs.Words.{word, part, sessionArray, treeArray, openArray, lockArray, fileArray, tablesOf, sessionLimits, treeLimits, openLimits, lockLimits, tableFits, inUseFit}
 use Rattle.tables.specs.Written.{Holds, sessionsIn, treesIn, opensIn, locksIn}
 use Rattle.tables.specs.PartLaws.{lent, lent-here, lent-before, lent-behind}
 
@@ -91,6 +93,26 @@ withLockArray t list count =
       nlocks = count;
       files = t .files;
     }
+
+-- ---- words in use that fit, table by table
+
+pub record TablesFit (w : List ℕ) : Type 0 where
+  pub sessions-fit : tableFits sessionLimits 16 (part w 0 33) ≡ true
+  pub trees-fit : tableFits treeLimits 32 (part w 33 97) ≡ true
+  pub opens-fit : tableFits openLimits 64 (part w 130 385) ≡ true
+  pub locks-fit : tableFits lockLimits 128 (part w 515 641) ≡ true
+
+pub told-fit : (w : List ℕ) → inUseFit w ≡ true → TablesFit w
+unfolding inUseFit
+told-fit w h =
+    let a = both-hold _ _ h in
+    let b = both-hold _ _ (a .1) in
+    let d = both-hold _ _ (b .1) in
+    record { sessions-fit = a .0; trees-fit = b .0; opens-fit = d .0; locks-fit = d .1 }
+
+pub fit-told : (w : List ℕ) → TablesFit w → inUseFit w ≡ true
+unfolding inUseFit
+fit-told w t = rw (t .sessions-fit, t .trees-fit, t .opens-fit, t .locks-fit)
 
 module _ (w e : List ℕ) (full : length w ≡ 1172) where
   -- ---- each table's words, lent and changed
@@ -171,3 +193,61 @@ module _ (w e : List ℕ) (full : length w ≡ 1172) where
       → tablesOf (lent w 515 641 e) ≡ withLocks (tablesOf w) list
   unfolding tablesOf withLockArray withLocks
   with-locks list long h = tables-locks long ∙ rw (h .array, h .count)
+
+  -- ---- words in use that fit: those of the table changed, and the others as they were
+
+  pub fit-sessions : length e ≡ 33 → inUseFit w ≡ true → tableFits sessionLimits 16 e ≡ true → inUseFit (lent w 0 33 e) ≡ true
+  fit-sessions long fit here =
+      let t = told-fit w fit in
+      fit-told (lent w 0 33 e)
+      (record {
+        sessions-fit = ap (tableFits sessionLimits 16) (lent-here w e 0 33 long (omega arith)) ∙ here;
+        trees-fit = ap (tableFits treeLimits 32) (lent-behind w e 0 33 long (omega arith) 33 97 (omega arith)) ∙ t .trees-fit;
+        opens-fit = ap (tableFits openLimits 64) (lent-behind w e 0 33 long (omega arith) 130 385 (omega arith)) ∙ t .opens-fit;
+        locks-fit = ap (tableFits lockLimits 128) (lent-behind w e 0 33 long (omega arith) 515 641 (omega arith)) ∙ t .locks-fit;
+      })
+
+  pub fit-trees : length e ≡ 97 → inUseFit w ≡ true → tableFits treeLimits 32 e ≡ true → inUseFit (lent w 33 97 e) ≡ true
+  fit-trees long fit here =
+      let t = told-fit w fit in
+      fit-told (lent w 33 97 e)
+      (record {
+        sessions-fit = ap (tableFits sessionLimits 16) (lent-before w e 33 97 long (omega arith) 0 33 (omega arith)) ∙ t .sessions-fit;
+        trees-fit = ap (tableFits treeLimits 32) (lent-here w e 33 97 long (omega arith)) ∙ here;
+        opens-fit = ap (tableFits openLimits 64) (lent-behind w e 33 97 long (omega arith) 130 385 (omega arith)) ∙ t .opens-fit;
+        locks-fit = ap (tableFits lockLimits 128) (lent-behind w e 33 97 long (omega arith) 515 641 (omega arith)) ∙ t .locks-fit;
+      })
+
+  pub fit-opens : length e ≡ 385 → inUseFit w ≡ true → tableFits openLimits 64 e ≡ true → inUseFit (lent w 130 385 e) ≡ true
+  fit-opens long fit here =
+      let t = told-fit w fit in
+      fit-told (lent w 130 385 e)
+      (record {
+        sessions-fit = ap (tableFits sessionLimits 16) (lent-before w e 130 385 long (omega arith) 0 33 (omega arith)) ∙ t .sessions-fit;
+        trees-fit = ap (tableFits treeLimits 32) (lent-before w e 130 385 long (omega arith) 33 97 (omega arith)) ∙ t .trees-fit;
+        opens-fit = ap (tableFits openLimits 64) (lent-here w e 130 385 long (omega arith)) ∙ here;
+        locks-fit = ap (tableFits lockLimits 128) (lent-behind w e 130 385 long (omega arith) 515 641 (omega arith)) ∙ t .locks-fit;
+      })
+
+  pub fit-locks : length e ≡ 641 → inUseFit w ≡ true → tableFits lockLimits 128 e ≡ true → inUseFit (lent w 515 641 e) ≡ true
+  fit-locks long fit here =
+      let t = told-fit w fit in
+      fit-told (lent w 515 641 e)
+      (record {
+        sessions-fit = ap (tableFits sessionLimits 16) (lent-before w e 515 641 long (omega arith) 0 33 (omega arith)) ∙ t .sessions-fit;
+        trees-fit = ap (tableFits treeLimits 32) (lent-before w e 515 641 long (omega arith) 33 97 (omega arith)) ∙ t .trees-fit;
+        opens-fit = ap (tableFits openLimits 64) (lent-before w e 515 641 long (omega arith) 130 385 (omega arith)) ∙ t .opens-fit;
+        locks-fit = ap (tableFits lockLimits 128) (lent-here w e 515 641 long (omega arith)) ∙ here;
+      })
+
+  -- the sizes are any words
+  pub fit-files : length e ≡ 16 → inUseFit w ≡ true → inUseFit (lent w 1156 16 e) ≡ true
+  fit-files long fit =
+      let t = told-fit w fit in
+      fit-told (lent w 1156 16 e)
+      (record {
+        sessions-fit = ap (tableFits sessionLimits 16) (lent-before w e 1156 16 long (omega arith) 0 33 (omega arith)) ∙ t .sessions-fit;
+        trees-fit = ap (tableFits treeLimits 32) (lent-before w e 1156 16 long (omega arith) 33 97 (omega arith)) ∙ t .trees-fit;
+        opens-fit = ap (tableFits openLimits 64) (lent-before w e 1156 16 long (omega arith) 130 385 (omega arith)) ∙ t .opens-fit;
+        locks-fit = ap (tableFits lockLimits 128) (lent-before w e 1156 16 long (omega arith) 515 641 (omega arith)) ∙ t .locks-fit;
+      })
