@@ -7,13 +7,13 @@ use native.Mathlib.Nat.{mul-suc, mul-le-mul-left}
 use native.Mathlib.Numerals.{add-one}
 use native.Mathlib.Decide.{ℕ-discrete, decLe}
 use native.Mathlib.Omega.{arith}
-use mathlib.Core.List.{List, [], _∷_, _++_}
+use mathlib.Core.List.{List, [], _∷_}
 use lib.ListN.{length, getD, set, length-append, List·getD-append, length-set}
 use lib.Seq.{ext-getD, getD-at, getD-set-same, getD-set-other}
 use Rattle.lists.specs.Put.{put}
 use Rattle.lists.specs.PutLaws.{put-front}
 use Rattle.records.specs.declared.File.{File}
-use Rattle.tables.specs.Words.{word, part, upTo, recordAt, within, arrayOf, fileOf, fileArray}
+use Rattle.tables.specs.Words.{word, upTo, recordAt, within, arrayOf, fileOf, fileArray}
 use Rattle.tables.specs.Written.{Wrote}
 use Rattle.tables.specs.PartLaws.{part-here, part-before, part-behind, row, part-row, stores, stores-put}
 use Rattle.tables.specs.RecordLaws.{Within, within-holds}

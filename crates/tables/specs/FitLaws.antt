@@ -3,22 +3,21 @@
 use mathlib.Core.Path.{_≡_, refl, sym, ap, _∙_}
 use Prim.Native.Nat.{ℕ, zero, suc, _+_, _*_, _≤_, _<_}
 use native.Mathlib.Nat.{mul-suc, mul-le-mul-left}
-use native.Mathlib.Numerals.{add-one}
 use native.Mathlib.Decide.{ℕ-discrete}
 use native.Mathlib.Omega.{arith}
 use mathlib.Core.Bool.{Bool, true, false, cond}
-use mathlib.Core.List.{List, [], _∷_, _++_}
-use lib.ListN.{length, take, drop, getD}
-use lib.Seq.{getD-take, getD-drop, take-all, take-length}
+use mathlib.Core.List.{List}
+use lib.ListN.{length, drop, getD}
+use lib.Seq.{getD-take, getD-drop, take-all}
 use lib.Dec.{leb, eqb}
 use borrow.Author.Tests.{le-leb, leb-true, eqb-true}
 use Rattle.lists.specs.Truth.{same-truth, test-cases}
 use Rattle.lists.specs.Walk.{all, rest}
 use Rattle.lists.specs.WalkLaws.{all-yes, all-no, all-end}
-use Rattle.lists.specs.Members.{all-each, each-all, all-snoc}
-use Rattle.lists.specs.PairLaws.{place-in, in-place}
+use Rattle.lists.specs.Members.{all-each, all-snoc}
+use Rattle.lists.specs.PairLaws.{place-in}
 use Rattle.records.specs.Empty.{noSession, noTree, noOpen, noLock}
-use Rattle.tables.specs.Words.{word, part, upTo, recordAt, arrayOf, within, recordsFit, inUse, sessionOf, treeOf, openOf, lockOf, sessionArray, treeArray, openArray, lockArray, sessionLimits, treeLimits, openLimits, lockLimits}
+use Rattle.tables.specs.Words.{word, upTo, recordAt, arrayOf, within, recordsFit, inUse, sessionOf, treeOf, openOf, lockOf, sessionArray, treeArray, openArray, lockArray, sessionLimits, treeLimits, openLimits, lockLimits}
 use Rattle.tables.specs.Written.{Wrote, sessionWords, treeWords, openWords, lockWords}
 use Rattle.tables.specs.RecordLaws.{Within, within-holds, within-told, within-each, each-within, session-exact, tree-exact, open-exact, lock-exact}
 use Rattle.tables.specs.PartLaws.{row, part-row}
