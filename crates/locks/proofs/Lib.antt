@@ -1,4 +1,6 @@
 pub mod Ahead
+pub mod Lent
+pub mod Purposes
 pub mod Removed
 pub mod Unlocked
 pub mod Granted

@@ -60,7 +60,7 @@ fn barring(q: Ask, l: Lock) -> bool
 
 // Whether the lock stands in the way of what is asked; the overlap is tested first, since most locks
 // lie elsewhere.
-fn in_way(files: &[u8; 65], q: Ask, l: Lock) -> bool
+pub(crate) fn in_way(files: &[u8; 65], q: Ask, l: Lock) -> bool
     ensures { λ r. ⌜ r ≡ inWay (fileIn (now (files .entry))) q l ⌝ }
 {
     if !overlap(l.offset, l.length, q.offset, q.length) {
@@ -73,7 +73,7 @@ fn in_way(files: &[u8; 65], q: Ask, l: Lock) -> bool
 }
 
 // Whether the lock is the one that an unlock names.
-fn is_named(q: Ask, l: Lock) -> bool
+pub(crate) fn is_named(q: Ask, l: Lock) -> bool
     ensures { λ r. ⌜ r ≡ named q l ⌝ }
 {
     if l.offset != q.offset {

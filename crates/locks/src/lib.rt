@@ -8,4 +8,5 @@ pub mod range;
 pub mod release;
 pub mod request;
 pub mod types;
+pub mod walk;
 pub mod wire_form;
