@@ -1,12 +1,35 @@
--- The lock list in its words: how long its array is, and what a write leaves.
+-- The lock list in its words: its array, and a loop that writes records there.
 -- Assumes nothing.
-use mathlib.Core.Path.{_≡_}
+use mathlib.Core.Path.{_≡_, refl, _∙_}
 use Prim.Native.Nat.{ℕ}
 use mathlib.Core.List.{List}
-use lib.ListN.{length}
-use Rattle.tables.specs.Words.{lockOf, lockArray}
-use Rattle.tables.specs.ArrayLaws.{length-array}
+use native.Mathlib.Omega.{arith}
+use lib.ListN.{length, set}
+use lib.Seq.{getD-set-same}
+use Rattle.records.specs.declared.Lock.{Lock}
+use Rattle.tables.specs.Words.{word, lockOf, lockArray}
+use Rattle.tables.specs.Written.{Wrote}
+use Rattle.tables.specs.ArrayLaws.{length-array, array-count}
 
 pub length-locks : (w : List ℕ) → length (lockArray w) ≡ 128
 unfolding lockArray
 length-locks w = length-array lockOf 5 128 w
+
+-- the words stay 641, and their count stays
+pub record Sized (before after : List ℕ) : Type 0 where
+  pub long : length after ≡ 641
+  pub same : word after 0 ≡ word before 0
+
+pub sized-start : {w : List ℕ} → length w ≡ 641 → Sized w w
+sized-start h = record { long = h; same = refl }
+
+pub sized-wrote : {w v u : List ℕ} {i : ℕ} {l : Lock} → Sized w v → Wrote lockArray v u i l → length u ≡ length v → Sized w u
+sized-wrote s r e = record { long = e ∙ s .long; same = r .count ∙ s .same }
+
+-- the count written: the array stays
+pub count-array : (w : List ℕ) (n : ℕ) → length w ≡ 641 → lockArray (set w 0 n) ≡ lockArray w
+unfolding lockArray
+count-array w n h = array-count lockOf 5 128 w n (omega arith)
+
+pub count-is : (w : List ℕ) (n : ℕ) → length w ≡ 641 → word (set w 0 n) 0 ≡ n
+count-is w n h = getD-set-same w 0 n 0 (omega arith)

@@ -3,8 +3,8 @@
 use mathlib.Core.Path.{_≡_, sym, ap, _∙_}
 use Prim.Native.Nat.{ℕ, suc, _+_, _-_, _≤_, _<_}
 use mathlib.Core.List.{List, [], _∷_, _++_, append-assoc, append-nil}
-use lib.ListN.{length, take, drop, getD, set, length-append, length-take, length-drop, drop-of-length-le}
-use lib.Seq.{drop-cons, take-suc, take-at, split-at, length-take-le, take-append-le, drop-append-le, take-set-le, drop-set-lt, take-set-lt}
+use lib.ListN.{length, take, drop, getD, set, length-append, length-take, length-drop, drop-of-length-le, take-append-drop}
+use lib.Seq.{drop-cons, take-suc, take-at, split-at, length-take-le, take-append-le, drop-append-le, take-set-le, drop-set-lt, take-set-lt, set-at, getD-append-add, getD-drop}
 use native.Mathlib.Numerals.{add-one}
 use native.Mathlib.Omega.{arith}
 use Rattle.lists.specs.Stored.{stored, parted, parted-read, parted-empty, parted-fill}
@@ -102,3 +102,70 @@ module _ (z : Lock) (place : ℕ) where
       let gap : count - length (removeAt place (take count xs)) ≡ 1 = omega arith in
       let end : length (removeAt place (take count xs)) + 1 ≡ count = omega arith in
       rw (take-set-lt count xs place z h, removeAt-set, drop-set-lt count xs place z h, gap, end)
+
+-- ---- in place: each record behind the place moves forward by one, and the last is emptied in the end
+
+module _ (xs : List Lock) (place : ℕ) where
+  -- the array when the records up to i have moved: the last of them still stands where it stood, too
+  abbrev pub moved : ℕ → List Lock
+  moved i = removeAt place (take i xs) ++ drop (i - 1) xs
+
+  -- at first none has
+  pub moved-start : (d : Lock) → place < length xs → xs ≡ moved (place + 1)
+  moved-start d h =
+      let le : place ≤ length xs = omega arith in
+      let back : place + 1 - 1 ≡ place = omega arith in
+      let last : removeAt place (take (suc place) xs) ≡ take place xs =
+      ap (removeAt place) (take-suc xs place d h) ∙ removeAt-last (take place xs) (getD xs place d) place (length-take-le place xs le)
+      in
+      rw (back, add-one place, last) (sym (take-append-drop place xs))
+
+  module _ (i : ℕ) (before : place < i) (within : i ≤ length xs) where
+    -- the list without its record is shorter than i by one
+    fewer : length (removeAt place (take i xs)) ≡ i - 1
+    fewer =
+        let taken : length (take i xs) ≡ i = length-take-le i xs within in
+        let short : length (removeAt place (take i xs)) ≡ length (take i xs) - 1 = length-removeAt place (take i xs) (omega arith) in
+        omega arith
+
+    -- a record written over the one that still stands
+    over : (x : Lock) → set (moved i) (i - 1) x ≡ removeAt place (take i xs) ++ (x ∷ drop i xs)
+    over x =
+        let inside : i - 1 < length xs = omega arith in
+        let next : suc (i - 1) ≡ i = omega arith in
+        ap (λ (t : List Lock). set (removeAt place (take i xs) ++ t) (i - 1) x) (drop-cons xs (i - 1) x inside)
+        ∙ set-at (removeAt place (take i xs)) (getD xs (i - 1) x) (drop (suc (i - 1)) xs) x (i - 1) fewer
+        ∙ ap (λ (k : ℕ). removeAt place (take i xs) ++ (x ∷ drop k xs)) next
+
+    -- the next record stands where it stood
+    next-stands : (d : Lock) → getD (moved i) i d ≡ getD xs i d
+    next-stands d =
+        let f = fewer in
+        let at : i ≡ length (removeAt place (take i xs)) + 1 = omega arith in
+        let back : i - 1 + 1 ≡ i = omega arith in
+        ap (λ (k : ℕ). getD (moved i) k d) at
+        ∙ getD-append-add (removeAt place (take i xs)) (drop (i - 1) xs) 1 d
+        ∙ getD-drop (i - 1) xs 1 d
+        ∙ ap (λ (k : ℕ). getD xs k d) back
+
+    -- it moves forward by one
+    pub moved-step : (d : Lock) → i < length xs → set (moved i) (i - 1) (getD (moved i) i d) ≡ moved (i + 1)
+    moved-step d h =
+        let taken : length (take i xs) ≡ i = length-take-le i xs within in
+        let back : i + 1 - 1 ≡ i = omega arith in
+        let more : removeAt place (take (suc i) xs) ≡ removeAt place (take i xs) ++ (getD xs i d ∷ []) =
+        ap (removeAt place) (take-suc xs i d h) ∙ removeAt-append place (take i xs) (getD xs i d ∷ []) (omega arith)
+        in
+        ap (set (moved i) (i - 1)) (next-stands d)
+        ∙ over (getD xs i d)
+        ∙ sym (ap (λ (k : ℕ). removeAt place (take (i + 1) xs) ++ drop k xs) back
+        ∙ rw (add-one i, more) (append-assoc (removeAt place (take i xs)) (getD xs i d ∷ []) (drop i xs)))
+
+    -- in the end the last one is emptied
+    pub moved-end : (z : Lock) → set (moved i) (i - 1) z ≡ stored z xs i (removeAt place (take i xs))
+    unfolding stored
+    moved-end z =
+        let f = fewer in
+        let gap : i - length (removeAt place (take i xs)) ≡ 1 = omega arith in
+        let end : length (removeAt place (take i xs)) + 1 ≡ i = omega arith in
+        over z ∙ rw (gap, end)

@@ -8,5 +8,6 @@ pub mod range;
 pub mod release;
 pub mod request;
 pub mod types;
+pub mod unlock;
 pub mod walk;
 pub mod wire_form;

@@ -1,0 +1,38 @@
+// Unlocks in the words of the list: "Unlocks go first, in order: each removes the earliest listed
+// lock with equal FID, process, offset and length."
+
+use records::Lock;
+use tables::lock::lock_at;
+use tables::lock::put_lock;
+ghost use mathlib.Core.Path.{_≡_};
+ghost use Prim.Native.Nat.{_-_, _<_, _≤_};
+ghost use lib.ListN.{length};
+ghost use Rattle.lists.specs.Stored.{stored};
+ghost use Rattle.records.specs.Empty.{noLock};
+ghost use Rattle.tables.specs.Words.{word, lockArray};
+ghost use Rattle.tables.specs.Written.{locksIn};
+ghost use Rattle.locks.specs.Request.{removeAt};
+
+// The record at a place taken out: those behind it move forward, and the last is emptied.
+fn remove_at(words: &mut [u64], place: usize)
+    requires { ⌜ (length (now words) ≡ 641) × ((place < word (now words) 0) × (word (now words) 0 ≤ 128)) ⌝ }
+    ensures { λ _. ⌜ lockArray (now (words .exit)) ≡ stored noLock (lockArray (now (words .entry))) (word (now (words .entry)) 0) (removeAt place (locksIn (now (words .entry)))) ⌝ }
+    ensures { λ _. ⌜ word (now (words .exit)) 0 ≡ word (now (words .entry)) 0 - 1 ⌝ }
+{
+    let count = words[0] as usize;
+    let mut i = place + 1;
+    while i < count {
+        let l = lock_at(words, i);
+        put_lock(words, i - 1, l);
+        i += 1;
+    }
+    let none = Lock {
+        fid: 0,
+        process: 0,
+        offset: 0,
+        length: 0,
+        shared: false,
+    };
+    put_lock(words, count - 1, none);
+    words[0] = (count - 1) as u64;
+}
