@@ -2,13 +2,14 @@
 -- Assumes nothing.
 use mathlib.Core.Path.{_≡_, refl, sym, ap, _∙_}
 use Prim.Native.Nat.{ℕ, _-_, _≤_, _<_}
-use mathlib.Core.Bool.{true, false}
+use mathlib.Core.Bool.{Bool, true, false}
 use mathlib.Core.List.{List, [], _∷_}
 use mathlib.Core.Option.{Option, none, some}
 use lib.ListN.{length, take}
 use lib.Seq.{length-take-le}
 use native.Mathlib.Omega.{arith}
 use Rattle.lists.specs.Walk.{found}
+use Rattle.lists.specs.FoundLaws.{found-below}
 use Rattle.lists.specs.Stored.{stored}
 use Rattle.lists.specs.StoredLaws.{stored-same, stored-stored, take-stored}
 use Rattle.lists.specs.declared.Found.{Found}
@@ -78,6 +79,10 @@ module _ {locks : List Lock} {count : ℕ} {left : List Lock} {held : ℕ} (l : 
       ap (λ (t : List Lock). stored noLock t held m) (l .holds)
       ∙ ap (λ (n : ℕ). stored noLock (stored noLock locks count (take held left)) n m) (sym (l .long))
       ∙ stored-stored noLock locks count (take held left) m b
+
+  -- a place found in the list is one of its records
+  pub left-below : (p : Lock → Bool) (place : ℕ) → found p (take held left) ≡ At place → place < held
+  left-below p place e = rw (l .long) at (found-below p (take held left) place e)
 
   -- in the end it holds the list that is left
   pub left-end : _≡_ {A = Released} (record { found = true; locks = left; count = held }) (released locks count (some (take held left)))

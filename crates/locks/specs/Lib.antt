@@ -4,3 +4,4 @@ pub mod Answer
 pub mod Request
 pub mod Released
 pub mod Blocked
+pub mod Changed

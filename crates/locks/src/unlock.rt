@@ -1,6 +1,12 @@
 // Unlocks in the words of the list: "Unlocks go first, in order: each removes the earliest listed
 // lock with equal FID, process, offset and length."
 
+use crate::release::ask_of;
+use crate::types::Purpose;
+use crate::types::Request;
+use crate::walk::first_answer;
+use crate::wire_form::range_at;
+use lists::Found;
 use records::Lock;
 use tables::lock::lock_at;
 use tables::lock::put_lock;
@@ -11,7 +17,10 @@ ghost use Rattle.lists.specs.Stored.{stored};
 ghost use Rattle.records.specs.Empty.{noLock};
 ghost use Rattle.tables.specs.Words.{word, lockArray};
 ghost use Rattle.tables.specs.Written.{locksIn};
-ghost use Rattle.locks.specs.Request.{removeAt};
+ghost use Rattle.locks.specs.Answer.{fileIn};
+ghost use Rattle.locks.specs.Wire.{rangesAt};
+ghost use Rattle.locks.specs.Request.{removeAt, releaseAll};
+ghost use Rattle.locks.specs.Changed.{Unlocks};
 
 // The record at a place taken out: those behind it move forward, and the last is emptied.
 fn remove_at(words: &mut [u64], place: usize)
@@ -35,4 +44,23 @@ fn remove_at(words: &mut [u64], place: usize)
     };
     put_lock(words, count - 1, none);
     words[0] = (count - 1) as u64;
+}
+
+// The unlocks of a request, in order: the first ranges of the area. True if each names a lock; if
+// not, the words are left as they are then.
+pub(crate) fn release_all(files: &[u8; 65], words: &mut [u64], q: Request, area: &[u8]) -> bool
+    requires { ⌜ (length (now words) ≡ 641) × (word (now words) 0 ≤ 128) ⌝ }
+    ensures { λ r. ⌜ Unlocks (releaseAll (fileIn (now (files .entry))) (q .fid) (rangesAt (q .large) (now (area .entry)) 0 (q .unlocks)) (locksIn (now (words .entry)))) (now (words .entry)) (now (words .exit)) r ⌝ }
+{
+    let unlocks = q.unlocks as usize;
+    let mut k: usize = 0;
+    while k < unlocks {
+        let r = range_at(area, q.large, k);
+        let Found::At(place) = first_answer(files, words, ask_of(q.fid, Purpose::Release, r)) else {
+            return false;
+        };
+        remove_at(words, place);
+        k += 1;
+    }
+    true
 }
