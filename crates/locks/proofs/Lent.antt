@@ -1,14 +1,14 @@
 -- The lock list in its words: its array, and a loop that writes records there.
 -- Assumes nothing.
 use mathlib.Core.Path.{_≡_, refl, _∙_}
-use Prim.Native.Nat.{ℕ}
+use Prim.Native.Nat.{ℕ, _≤_}
 use mathlib.Core.List.{List}
 use native.Mathlib.Omega.{arith}
-use lib.ListN.{length, set}
+use lib.ListN.{length, set, length-take}
 use lib.Seq.{getD-set-same}
 use Rattle.records.specs.declared.Lock.{Lock}
 use Rattle.tables.specs.Words.{word, lockOf, lockArray}
-use Rattle.tables.specs.Written.{Wrote}
+use Rattle.tables.specs.Written.{Wrote, locksIn}
 use Rattle.tables.specs.ArrayLaws.{length-array, array-count}
 
 pub length-locks : (w : List ℕ) → length (lockArray w) ≡ 128
@@ -33,3 +33,7 @@ count-array w n h = array-count lockOf 5 128 w n (omega arith)
 
 pub count-is : (w : List ℕ) (n : ℕ) → length w ≡ 641 → word (set w 0 n) 0 ≡ n
 count-is w n h = getD-set-same w 0 n 0 (omega arith)
+
+-- no more records are held than there are
+pub held-most : (w : List ℕ) → length (locksIn w) ≤ 128
+held-most w = let long : length (lockArray w) ≡ 128 = length-locks w in rw length-take (omega arith)

@@ -25,7 +25,7 @@ ghost use Rattle.locks.specs.Request.{lockOf, grantAll, rangePasses};
 ghost use Rattle.locks.specs.Blocked.{blockedAt, conflictOf};
 
 // The lock that a range asks for.
-fn lock_of(fid: u16, shared: bool, r: LockRange) -> Lock
+pub(crate) fn lock_of(fid: u16, shared: bool, r: LockRange) -> Lock
     ensures { λ l. ⌜ l ≡ lockOf fid shared r ⌝ }
 {
     Lock {
@@ -54,7 +54,7 @@ pub(crate) fn some_passes(area: &[u8], large: bool, from: usize, to: usize) -> b
 }
 
 // The first of the request's own ranges from..to that stands in the way.
-fn own_conflict(
+pub(crate) fn own_conflict(
     files: &[u8; 65],
     area: &[u8],
     large: bool,

@@ -4,6 +4,7 @@
 
 pub mod answer;
 pub mod grant;
+pub mod grants;
 pub mod range;
 pub mod release;
 pub mod request;

@@ -1,0 +1,97 @@
+// Locks in the words of the list: "Then locks in order, each against the list as it stands, the
+// asker's own locks included, however long it gets". The request's own earlier ranges are read again
+// from the message, so that the words change only once all are granted.
+
+use crate::grant::lock_of;
+use crate::grant::own_conflict;
+use crate::release::ask_of;
+use crate::types::Purpose;
+use crate::types::Request;
+use crate::walk::first_answer;
+use crate::wire_form::range_at;
+use lists::Found;
+use tables::lock::put_lock;
+ghost use mathlib.Core.Path.{_≡_};
+ghost use mathlib.Core.List.{_++_, map};
+ghost use Prim.Native.Nat.{_+_, _-_, _<_, _≤_};
+ghost use lib.ListN.{length, take};
+ghost use Rattle.lists.specs.Stored.{stored};
+ghost use Rattle.records.specs.Empty.{noLock};
+ghost use Rattle.tables.specs.Words.{word, lockArray};
+ghost use Rattle.tables.specs.Written.{locksIn};
+ghost use Rattle.locks.specs.Answer.{fileIn};
+ghost use Rattle.locks.specs.Wire.{rangesAt};
+ghost use Rattle.locks.specs.Request.{lockOf, grantAll};
+ghost use Rattle.locks.specs.Blocked.{blockedAt, conflictOf};
+
+// The first listed lock that stands in the way of range k, in the words or among the request's own
+// earlier ranges, which follow those.
+fn conflict_of(
+    files: &[u8; 65],
+    words: &[u64],
+    held: usize,
+    q: Request,
+    area: &[u8],
+    k: usize,
+) -> Found
+    requires { ⌜ (length (now words) ≡ 641) × (held ≡ length (locksIn (now words))) ⌝ }
+    requires { ⌜ (q .unlocks ≤ k) × (k < 131072) ⌝ }
+    ensures { λ r. ⌜ r ≡ conflictOf (fileIn (now (files .entry))) (q .fid) (q .shared) (q .large) (now (area .entry)) (q .unlocks) k (locksIn (now (words .entry))) ⌝ }
+{
+    let from = q.unlocks as usize;
+    let ask = ask_of(q.fid, Purpose::Grant(q.shared), range_at(area, q.large, k));
+    let first = first_answer(files, words, ask);
+    if let Found::At(place) = first {
+        return Found::At(place);
+    }
+    let own = own_conflict(files, area, q.large, from, k, q.fid, q.shared, ask);
+    let Found::At(place) = own else {
+        return Found::Nothing;
+    };
+    Found::At(held + place)
+}
+
+// The place of the first lock in the way of the request's locks, taken in order.
+pub(crate) fn first_conflict(
+    files: &[u8; 65],
+    words: &[u64],
+    held: usize,
+    q: Request,
+    area: &[u8],
+) -> Found
+    requires { ⌜ (length (now words) ≡ 641) × (held ≡ length (locksIn (now words))) ⌝ }
+    ensures { λ r. ⌜ r ≡ blockedAt (grantAll (fileIn (now (files .entry))) (q .fid) (q .shared) (rangesAt (q .large) (now (area .entry)) (q .unlocks) (q .locks)) (locksIn (now (words .entry)))) ⌝ }
+{
+    let from = q.unlocks as usize;
+    let to = from + q.locks as usize;
+    let mut k = from;
+    while k < to {
+        let first = conflict_of(files, words, held, q, area, k);
+        if let Found::At(place) = first {
+            return Found::At(place);
+        }
+        k += 1;
+    }
+    Found::Nothing
+}
+
+// The request's locks, written behind the first `held` records, and the count.
+pub(crate) fn append_locks(words: &mut [u64], held: usize, q: Request, area: &[u8])
+    requires { ⌜ (length (now words) ≡ 641) × (held + q .locks ≤ 128) ⌝ }
+    ensures { λ _. ⌜ lockArray (now (words .exit)) ≡ stored noLock (lockArray (now (words .entry))) held (take held (lockArray (now (words .entry))) ++ map (lockOf (q .fid) (q .shared)) (rangesAt (q .large) (now (area .entry)) (q .unlocks) (q .locks))) ⌝ }
+    ensures { λ _. ⌜ word (now (words .exit)) 0 ≡ held + q .locks ⌝ }
+{
+    let from = q.unlocks as usize;
+    let to = from + q.locks as usize;
+    let mut k = from;
+    while k < to {
+        let at = held + (k - from);
+        put_lock(
+            words,
+            at,
+            lock_of(q.fid, q.shared, range_at(area, q.large, k)),
+        );
+        k += 1;
+    }
+    words[0] = (held + (to - from)) as u64;
+}
