@@ -1,11 +1,11 @@
 -- The lock list in its words: its array, and a loop that writes records there.
 -- Assumes nothing.
-use mathlib.Core.Path.{_≡_, refl, _∙_}
+use mathlib.Core.Path.{_≡_, refl, sym, ap, _∙_}
 use Prim.Native.Nat.{ℕ, _≤_}
 use mathlib.Core.List.{List}
 use native.Mathlib.Omega.{arith}
-use lib.ListN.{length, set, length-take}
-use lib.Seq.{getD-set-same}
+use lib.ListN.{length, take, drop, set, length-take, take-append-drop}
+use lib.Seq.{getD-set-same, take-append-seam}
 use Rattle.records.specs.declared.Lock.{Lock}
 use Rattle.tables.specs.Words.{word, lockOf, lockArray}
 use Rattle.tables.specs.Written.{Wrote, locksIn}
@@ -37,3 +37,10 @@ count-is w n h = getD-set-same w 0 n 0 (omega arith)
 -- no more records are held than there are
 pub held-most : (w : List ℕ) → length (locksIn w) ≤ 128
 held-most w = let long : length (lockArray w) ≡ 128 = length-locks w in rw length-take (omega arith)
+
+-- as many records as are held are those held
+pub held-front : (w : List ℕ) (n : ℕ) → n ≡ length (locksIn w) → take n (lockArray w) ≡ locksIn w
+held-front w n e =
+    ap (λ (k : ℕ). take k (lockArray w)) e
+    ∙ ap (take (length (locksIn w))) (sym (take-append-drop (word w 0) (lockArray w)))
+    ∙ take-append-seam (locksIn w) (drop (word w 0) (lockArray w))

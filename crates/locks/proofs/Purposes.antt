@@ -2,10 +2,8 @@
 -- Assumes nothing.
 use mathlib.Core.Path.{_≡_, ap}
 use Prim.Native.Nat.{ℕ}
-use mathlib.Core.Bool.{Bool}
 use mathlib.Core.List.{List}
 use Rattle.lists.specs.Walk.{found}
-use Rattle.lists.specs.declared.Found.{Found}
 use Rattle.records.specs.declared.Lock.{Lock}
 use Rattle.locks.specs.Answer.{answersFor, answers}
 use Rattle.locks.specs.declared.types.Ask.{Ask}

@@ -11,7 +11,7 @@ use Rattle.records.specs.declared.Lock.{Lock}
 use Rattle.tables.specs.Words.{word, lockArray}
 use Rattle.tables.specs.Written.{locksIn}
 use Rattle.locks.specs.declared.types.Outcome.{Outcome}
-use Rattle.locks.specs.declared.types.Outcome.the-variants.{Done}
+use Rattle.locks.specs.declared.types.Outcome.the-variants.{Done, Malformed, NoSuchLock, PassesEnd, Conflict, NoRecord}
 use Rattle.locks.specs.declared.types.Locking.{Locking}
 
 -- Unlocks that leave the list `left`, if each names a lock. Then the words hold that list, with empty records in place of those
@@ -22,11 +22,20 @@ pub record Unlocks (left : Option (List Lock)) (before after : List ℕ) (found 
   pub count : found ≡ true → word after 0 ≤ word before 0
   pub missing : found ≡ false → left ≡ none
 
--- A request whose words are to be thrown away if it is refused: if it is done they hold what its definition says.
-pub record Tried (before after : List ℕ) (why : Outcome) (l : Locking) : Type 0 where
+-- a request is done
+abbrev pub isDone : Outcome → Bool
+isDone Done = true
+isDone Malformed = false
+isDone NoSuchLock = false
+isDone PassesEnd = false
+isDone (Conflict place) = false
+isDone NoRecord = false
+
+-- A request on words that are thrown away if it is refused: if it is done they are as the definition has them.
+pub record Tried (after : List ℕ) (why : Outcome) (l : Locking) : Type 0 where
   pub outcome : why ≡ l .outcome
-  pub locks : why ≡ Done → lockArray after ≡ l .locks
-  pub count : why ≡ Done → word after 0 ≡ l .count
+  pub locks : isDone why ≡ true → lockArray after ≡ l .locks
+  pub count : isDone why ≡ true → word after 0 ≡ l .count
 
 -- A request with its outcome and its words as the definition has them. "A refused request leaves the list untouched, its unlocks
 -- included": each word stands.
@@ -34,4 +43,4 @@ pub record Settles (before after : List ℕ) (why : Outcome) (l : Locking) : Typ
   pub outcome : why ≡ l .outcome
   pub locks : lockArray after ≡ l .locks
   pub count : word after 0 ≡ l .count
-  pub stands : (why ≡ Done → ⊥) → after ≡ before
+  pub stands : isDone why ≡ false → after ≡ before

@@ -3,8 +3,10 @@
 // made from the opens, so that a walk over the locks looks at no open.
 
 pub mod answer;
+pub mod copy;
 pub mod grant;
 pub mod grants;
+pub mod locking;
 pub mod range;
 pub mod release;
 pub mod request;

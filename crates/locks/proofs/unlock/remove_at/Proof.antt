@@ -1,6 +1,6 @@
 -- `locks::unlock::remove_at` meets its contract: each turn moves one record forward, over the one in front of it.
 -- Assumes nothing.
-use mathlib.Core.Path.{_≡_, sym, _∙_}
+use mathlib.Core.Path.{_≡_, _∙_}
 use Prim.Native.Nat.{_-_, _≤_, _<_}
 use lib.ListN.{length, length-set}
 use Rattle.records.specs.Empty.{noLock}
@@ -9,7 +9,6 @@ use Rattle.locks.proofs.Lent.{length-locks, Sized, sized-start, sized-w
 use Rattle.locks.proofs.Removed.{moved, moved-start, moved-step, moved-end}
 use Rattle.locks.proofs.unlock.remove_at.Statement.{statement}
 use Rattle.locks.proofs.unlock.remove_at.Tie as tie
-use borrow.Author.Needs.{needs}
 use native.Mathlib.Omega.{arith}
 
 abbrev Inv-loop : tie.InvT-loop

@@ -3,7 +3,7 @@
 use borrow.Author.Needs.{needs}
 use borrow.Author.Tests.{ne-eqb}
 use Rattle.records.specs.Empty.{noLock}
-use Rattle.tables.specs.Words.{word, lockOf, lockArray}
+use Rattle.tables.specs.Words.{lockOf, lockArray}
 use Rattle.tables.specs.ArrayLaws.{record-at}
 use Rattle.locks.specs.Answer.{named}
 use Rattle.locks.proofs.walk.named_at.Statement.{statement}
