@@ -1,1 +1,3 @@
 pub mod Swept
+pub mod Marking
+pub mod Filtering

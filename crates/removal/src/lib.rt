@@ -1,6 +1,8 @@
 // Removal: the records that are named go, each with what hangs on it. CLOSE, TREE_DISCONNECT, LOGOFF,
 // PROCESS_EXIT and a dropped connection are each one value of `Gone`.
 
+pub mod marks;
+
 use numbers::column::fids;
 use numbers::column::tids;
 use numbers::column::uids;
