@@ -2,6 +2,7 @@
 // PROCESS_EXIT and a dropped connection are each one value of `Gone`.
 
 pub mod marks;
+pub mod sessions;
 
 use numbers::column::fids;
 use numbers::column::tids;
