@@ -3,6 +3,7 @@
 
 pub mod marks;
 pub mod sessions;
+pub mod trees;
 
 use numbers::column::fids;
 use numbers::column::tids;
