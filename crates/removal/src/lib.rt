@@ -2,6 +2,7 @@
 // PROCESS_EXIT and a dropped connection are each one value of `Gone`.
 
 pub mod marks;
+pub mod opens;
 pub mod sessions;
 pub mod trees;
 
