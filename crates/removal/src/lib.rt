@@ -1,6 +1,7 @@
 // Removal: the records that are named go, each with what hangs on it. CLOSE, TREE_DISCONNECT, LOGOFF,
 // PROCESS_EXIT and a dropped connection are each one value of `Gone`.
 
+pub mod locks;
 pub mod marks;
 pub mod opens;
 pub mod sessions;
