@@ -2,19 +2,19 @@
 -- of a record.
 -- Assumes nothing.
 use mathlib.Core.Path.{_≡_, refl, sym, ap, _∙_}
-use Prim.Native.Nat.{ℕ, min, _+_, _*_, _≤_, _<_}
+use Prim.Native.Nat.{ℕ, min, _+_, _≤_, _<_}
 use native.Mathlib.Omega.{arith}
 use mathlib.Core.Bool.{Bool, true, false}
-use mathlib.Core.List.{List, [], _∷_}
+use mathlib.Core.List.{List}
 use lib.ListN.{length, take, getD, set}
-use lib.Seq.{getD-set-same, set-set, set-getD}
+use lib.Seq.{set-set, set-getD}
 use Rattle.lists.specs.Walk.{keep}
 use Rattle.lists.specs.Stored.{Keeping, keeping-none, keeping-most, keeping-no, keeping-yes, kept-read, take-most, kept-most}
 use Rattle.tables.specs.Words.{word, recordAt, arrayOf, within, recordsFit}
 use Rattle.tables.specs.Written.{Wrote}
-use Rattle.tables.specs.PartLaws.{part-behind, stores-put}
 use Rattle.tables.specs.ArrayLaws.{length-array, array-count}
 use Rattle.tables.specs.FitLaws.{all-upTo, upTo-all, fit-wrote}
+use Rattle.tables.specs.ChangeLaws.{count-set, fit-count}
 use Rattle.removal.specs.Filter.{Moved, Filtered}
 
 -- ---- a record moved
@@ -81,11 +81,6 @@ module _ {A : Type 0} {arrayIn : List ℕ → List A} {limits : List ℕ} {z : A
 
 -- ---- at the end the count is written
 
-record-count : (k : ℕ) (w : List ℕ) (c j : ℕ) → 0 < length w → recordAt k (set w 0 c) j ≡ recordAt k w j
-record-count k w c j h =
-    let e = stores-put w (c ∷ []) 0 (omega arith) in
-    rw e (part-behind w (c ∷ []) 0 (omega arith) (1 + k * j) k (omega arith))
-
 pub filtered : {A : Type 0} (f : List ℕ → A) (limits : List ℕ) (room : ℕ) (z : A) (p : A → Bool) (start words : List ℕ) (n i count : ℕ)
     → Filtering (arrayOf f (length limits) room) limits z p start n i words count → i ≡ n → n ≡ min (word start 0) room → 0 < length start
     → Filtered (arrayOf f (length limits) room) limits room z p start (set words 0 count)
@@ -95,7 +90,7 @@ filtered {A} f limits room z p start words n i count before end cut some =
     let xs = arrayOf f k room start in
     let full : length xs ≡ room = length-array f k room start in
     let there : 0 < length words = rw (before .long) some in
-    let counted : word (set words 0 count) 0 ≡ count = getD-set-same words 0 count 0 there in
+    let counted : word (set words 0 count) 0 ≡ count = count-set words count there in
     let most : count ≤ i = filtering-most before (omega arith) in
     let place : i ≡ min (word start 0) room = end ∙ cut in
     record {
@@ -108,6 +103,5 @@ filtered {A} f limits room z p start words n i count before end cut some =
           λ h.
           let g = before .fit (rw (sym cut) at h) in
           all-upTo (within limits) (recordAt k (set words 0 count)) (min (word (set words 0 count) 0) room) (λ j q.
-          ap (within limits) (record-count k words count j there)
-          ∙ upTo-all (within limits) (recordAt k words) n j g (let m : word (set words 0 count) 0 ≡ count = counted in omega arith));
+          upTo-all (within limits) (recordAt k (set words 0 count)) n j (fit-count words count there limits n ∙ g) (let m : word (set words 0 count) 0 ≡ count = counted in omega arith));
     }

@@ -1,3 +1,4 @@
 pub mod Swept
 pub mod Marking
 pub mod Filtering
+pub mod Removing

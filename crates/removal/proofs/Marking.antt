@@ -9,9 +9,9 @@ use mathlib.Core.List.{List, [], _∷_, _++_, map, map-append, append-nil}
 use lib.ListN.{length, take, getD, set, replicate, length-set, List·getD-eq-default}
 use lib.Seq.{ext-getD, getD-set-same, getD-set-other}
 use lib.Dec.{leb, eqb}
-use borrow.Author.Tests.{eq-eqb, ne-eqb, leb-true}
-use Rattle.lists.specs.Truth.{both-hold, holds-second}
-use Rattle.lists.specs.Walk.{any, allTails, keep}
+use borrow.Author.Tests.{eq-eqb, ne-eqb, le-leb, leb-true}
+use Rattle.lists.specs.Truth.{both-hold, hold-both, holds-second}
+use Rattle.lists.specs.Walk.{any, all, allTails, keep}
 use Rattle.lists.specs.Stored.{keep-more, take-most}
 use Rattle.tables.specs.Words.{upTo}
 use Rattle.tables.specs.ArrayLaws.{length-upTo, getD-upTo}
@@ -63,38 +63,49 @@ module _ (numbers : List ℕ) (x : ℕ) where
 
 -- ---- what they tell
 
-contains-above : (limit k : ℕ) (numbers : List ℕ) → numbered limit numbers ≡ true → limit < k → contains k numbers ≡ false
-unfolding contains any numbered allTails numberOk
-contains-above limit k [] e h = refl
-contains-above limit k (x ∷ xs) e h =
-    let a = both-hold (leb 1 x && (leb x limit && not (contains x xs))) (numbered limit xs) e in
-    let b = both-hold (leb 1 x) (leb x limit && not (contains x xs)) (a .0) in
-    let c = both-hold (leb x limit) (not (contains x xs)) (b .1) in
-    let small : x ≤ limit = leb-true x limit (c .0) in
-    rw (ne-eqb x k (λ q. omega arith)) (contains-above limit k xs (a .1) h)
+module _ {A : Type 0} (number : A → ℕ) where
+  -- numbers in order are small
+  pub numbered-small : (limit : ℕ) (xs : List A) → limit ≤ 64 → numbered limit (map number xs) ≡ true → all (λ x. leb (number x) 64) xs ≡ true
+  unfolding all numbered allTails numberOk
+  numbered-small limit [] h e = refl
+  numbered-small limit (x ∷ xs) h e =
+      let k = number x in
+      let others = not (contains k (map number xs)) in
+      let a = both-hold (leb 1 k && (leb k limit && others)) (numbered limit (map number xs)) e in
+      let b = both-hold (leb k limit) others (both-hold (leb 1 k) (leb k limit && others) (a .0) .1) in
+      let small : k ≤ limit = leb-true k limit (b .0) in
+      hold-both (leb k 64) (all (λ x. leb (number x) 64) xs) (le-leb k 64 (omega arith)) (numbered-small limit xs h (a .1))
 
--- over numbers in order they tell what is in use
-module _ (limit : ℕ) (numbers : List ℕ) (ordered : numbered limit numbers ≡ true) (small : limit ≤ 64) where
-  marks-say : (k : ℕ) → getD (marksOf numbers) k false ≡ contains k numbers
-  marks-say k =
+  contains-above : (k : ℕ) (xs : List A) → all (λ x. leb (number x) 64) xs ≡ true → 64 < k → contains k (map number xs) ≡ false
+  unfolding contains any all
+  contains-above k [] e h = refl
+  contains-above k (x ∷ xs) e h =
+      let a = both-hold (leb (number x) 64) (all (λ x. leb (number x) 64) xs) e in
+      let small : number x ≤ 64 = leb-true (number x) 64 (a .0) in
+      rw (ne-eqb (number x) k (λ q. omega arith)) (contains-above k xs (a .1) h)
+
+  -- of small numbers they tell which are in use
+  marks-say : (xs : List A) → all (λ x. leb (number x) 64) xs ≡ true → (k : ℕ) → getD (marksOf (map number xs)) k false ≡ contains k (map number xs)
+  marks-say xs small k =
       elim (decLt k 65) [
-        | yes h ↦ marks-at numbers k false h
+        | yes h ↦ marks-at (map number xs) k false h
         | no h ↦
-            let past : length (marksOf numbers) ≤ k = rw (length-marks numbers) (omega arith) in
-            List·getD-eq-default (marksOf numbers) false past ∙ sym (contains-above limit k numbers ordered (omega arith))
+            let past : length (marksOf (map number xs)) ≤ k = rw (length-marks (map number xs)) (omega arith) in
+            List·getD-eq-default (marksOf (map number xs)) false past ∙ sym (contains-above k xs small (omega arith))
       ]
 
-  pub trees-told : (gone : Gone) → treeMarked gone (marksOf numbers) ≡ treeStays gone numbers
-  unfolding treeMarked treeStays
-  trees-told gone = fun-ext (λ t. ap (λ (b : Bool). not (treeNamed gone t) && b) (marks-say (t .uid)))
+  module _ (xs : List A) (small : all (λ x. leb (number x) 64) xs ≡ true) where
+    pub trees-told : (gone : Gone) → treeMarked gone (marksOf (map number xs)) ≡ treeStays gone (map number xs)
+    unfolding treeMarked treeStays
+    trees-told gone = fun-ext (λ t. ap (λ (b : Bool). not (treeNamed gone t) && b) (marks-say xs small (t .uid)))
 
-  pub opens-told : (gone : Gone) → openMarked gone (marksOf numbers) ≡ openStays gone numbers
-  unfolding openMarked openStays
-  opens-told gone = fun-ext (λ o. ap (λ (b : Bool). not (openNamed gone o) && b) (marks-say (o .tid)))
+    pub opens-told : (gone : Gone) → openMarked gone (marksOf (map number xs)) ≡ openStays gone (map number xs)
+    unfolding openMarked openStays
+    opens-told gone = fun-ext (λ o. ap (λ (b : Bool). not (openNamed gone o) && b) (marks-say xs small (o .tid)))
 
-  pub locks-told : lockMarked (marksOf numbers) ≡ lockStays numbers
-  unfolding lockMarked lockStays
-  locks-told = fun-ext (λ l. marks-say (l .fid))
+    pub locks-told : lockMarked (marksOf (map number xs)) ≡ lockStays (map number xs)
+    unfolding lockMarked lockStays
+    locks-told = fun-ext (λ l. marks-say xs small (l .fid))
 
 -- ---- the loop that marks the numbers of the records kept
 

@@ -5,6 +5,7 @@ pub mod locks;
 pub mod marks;
 pub mod opens;
 pub mod sessions;
+pub mod sweep;
 pub mod trees;
 
 use numbers::column::fids;

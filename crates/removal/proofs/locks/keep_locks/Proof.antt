@@ -7,7 +7,7 @@ use native.Mathlib.Omega.{arith}
 use lib.ListN.{length, length-set}
 use Rattle.records.specs.Empty.{noLock}
 use Rattle.tables.specs.Words.{lockOf, lockArray, lockLimits}
-use Rattle.tables.specs.ArrayLaws.{length-array}
+use Rattle.tables.specs.ChangeLaws.{length-lockArray}
 use Rattle.removal.specs.Filter.{lockMarked}
 use Rattle.removal.proofs.Filtering.{Filtering, filtering-none, filtering-most, filtering-no, filtering-yes, filtered}
 use Rattle.removal.proofs.locks.keep_locks.Statement.{statement}
@@ -39,16 +39,14 @@ marked-requires : tie.Need-marked-requires Inv-loop μ-loop
 marked-requires c κs = search needs
 
 move-lock-requires : tie.Need-move-lock-requires Inv-loop μ-loop
-unfolding lockArray
 move-lock-requires c κs =
-    let long : length (lockArray (c .before .before .before .before .before .before .before .before .before .before .before .args .words .now)) ≡ 128 = length-array lockOf 5 128 (c .before .before .before .before .before .before .before .before .before .before .before .args .words .now) in
+    let long : length (lockArray (c .before .before .before .before .before .before .before .before .before .before .before .args .words .now)) ≡ 128 = length-lockArray (c .before .before .before .before .before .before .before .before .before .before .before .args .words .now) in
     let most = filtering-most (c .before .before .before .before .before .before .loop .inv .1) (omega arith) in
     (c .before .before .before .before .before .before .loop .inv .1 .long ∙ c .before .before .before .before .before .before .before .before .before .before .before .pre, (omega arith, omega arith))
 
 add-count : tie.Need-add-count Inv-loop μ-loop
-unfolding lockArray
 add-count c =
-    let long : length (lockArray (c .before .before .before .before .before .before .before .before .before .before .before .before .before .before .args .words .now)) ≡ 128 = length-array lockOf 5 128 (c .before .before .before .before .before .before .before .before .before .before .before .before .before .before .args .words .now) in
+    let long : length (lockArray (c .before .before .before .before .before .before .before .before .before .before .before .before .before .before .args .words .now)) ≡ 128 = length-lockArray (c .before .before .before .before .before .before .before .before .before .before .before .before .before .before .args .words .now) in
     let most = filtering-most (c .before .before .before .before .before .before .before .before .before .loop .inv .1) (omega arith) in
     omega arith
 
@@ -62,12 +60,12 @@ loop-less : tie.Need-loop-less Inv-loop μ-loop
 loop-less c = omega arith
 
 loop-again : tie.Need-loop-again Inv-loop μ-loop
-unfolding lockArray lockMarked
+unfolding lockMarked
 loop-again c =
     let args = c .before .before .before .before .before .before .before .before .before .before .args in
     let loop = c .before .before .before .before .before .loop in
     let x = c .before .before .lock-at .result in
-    let long : length (lockArray (args .words .now)) ≡ 128 = length-array lockOf 5 128 (args .words .now) in
+    let long : length (lockArray (args .words .now)) ≡ 128 = length-lockArray (args .words .now) in
     let below : loop .i < c .before .before .before .before .before .before .at-most .result = omega arith in
     let inside : loop .i < length (lockArray (args .words .now)) = omega arith in
     ⊎-elim

@@ -7,7 +7,7 @@ use native.Mathlib.Omega.{arith}
 use lib.ListN.{length, length-set}
 use Rattle.records.specs.Empty.{noSession}
 use Rattle.tables.specs.Words.{word, sessionOf, sessionArray, sessionLimits}
-use Rattle.tables.specs.ArrayLaws.{length-array}
+use Rattle.tables.specs.ChangeLaws.{length-sessionArray}
 use Rattle.numbers.specs.Column.{uidOf}
 use Rattle.removal.specs.Removal.{sessionStays}
 use Rattle.removal.proofs.Marking.{Marking, marking-none, length-marking, marking-yes, marking-no, marking-all}
@@ -41,9 +41,8 @@ session-stays-requires : tie.Need-session-stays-requires Inv-loop μ-loop
 session-stays-requires c κs = search needs
 
 move-session-requires : tie.Need-move-session-requires Inv-loop μ-loop
-unfolding sessionArray
 move-session-requires c κs =
-    let long : length (sessionArray (c .before .before .before .before .before .before .before .before .before .before .args .words .now)) ≡ 16 = length-array sessionOf 2 16 (c .before .before .before .before .before .before .before .before .before .before .args .words .now) in
+    let long : length (sessionArray (c .before .before .before .before .before .before .before .before .before .before .args .words .now)) ≡ 16 = length-sessionArray (c .before .before .before .before .before .before .before .before .before .before .args .words .now) in
     let most = filtering-most (c .before .before .before .before .before .before .loop .inv .1) (omega arith) in
     (c .before .before .before .before .before .before .loop .inv .1 .long ∙ c .before .before .before .before .before .before .before .before .before .before .pre, (omega arith, omega arith))
 
@@ -54,9 +53,8 @@ mark-requires : tie.Need-mark-requires Inv-loop μ-loop
 mark-requires c κs = search needs
 
 add-count : tie.Need-add-count Inv-loop μ-loop
-unfolding sessionArray
 add-count c =
-    let long : length (sessionArray (c .before .before .before .before .before .before .before .before .before .before .before .before .before .before .before .before .args .words .now)) ≡ 16 = length-array sessionOf 2 16 (c .before .before .before .before .before .before .before .before .before .before .before .before .before .before .before .before .args .words .now) in
+    let long : length (sessionArray (c .before .before .before .before .before .before .before .before .before .before .before .before .before .before .before .before .args .words .now)) ≡ 16 = length-sessionArray (c .before .before .before .before .before .before .before .before .before .before .before .before .before .before .before .before .args .words .now) in
     let most = filtering-most (c .before .before .before .before .before .before .before .before .before .before .before .before .loop .inv .1) (omega arith) in
     omega arith
 
@@ -70,12 +68,11 @@ loop-less : tie.Need-loop-less Inv-loop μ-loop
 loop-less c = omega arith
 
 loop-again : tie.Need-loop-again Inv-loop μ-loop
-unfolding sessionArray
 loop-again c =
     let args = c .before .before .before .before .before .before .before .before .before .args in
     let loop = c .before .before .before .before .before .loop in
     let x = c .before .before .session-at .result in
-    let long : length (sessionArray (args .words .now)) ≡ 16 = length-array sessionOf 2 16 (args .words .now) in
+    let long : length (sessionArray (args .words .now)) ≡ 16 = length-sessionArray (args .words .now) in
     let below : loop .i < c .before .before .before .before .before .before .at-most .result = omega arith in
     let inside : loop .i < length (sessionArray (args .words .now)) = omega arith in
     let next = filtering-next (loop .inv .1) x inside (c .before .before .session-at .ensures) in
@@ -111,7 +108,7 @@ returns c =
     let words = args .words .now in
     let end : loop .i ≡ c .before .before .at-most .result = omega arith in
     let h = c .before .before .before .before .before .pre in (
-      marking-all (loop .inv .2) (word words 0) 16 (length-array sessionOf 2 16 words) (end ∙ c .before .before .at-most .ensures),
+      marking-all (loop .inv .2) (word words 0) 16 (length-sessionArray words) (end ∙ c .before .before .at-most .ensures),
       filtered sessionOf sessionLimits 16 noSession (sessionStays (args .gone)) words (loop .words) (c .before .before .at-most .result) (loop .i) (loop .count) (loop .inv .1) end (c .before .before .at-most .ensures) (omega arith),
     )
 

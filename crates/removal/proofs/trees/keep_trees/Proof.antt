@@ -7,7 +7,7 @@ use native.Mathlib.Omega.{arith}
 use lib.ListN.{length, length-set}
 use Rattle.records.specs.Empty.{noTree}
 use Rattle.tables.specs.Words.{word, treeOf, treeArray, treeLimits}
-use Rattle.tables.specs.ArrayLaws.{length-array}
+use Rattle.tables.specs.ChangeLaws.{length-treeArray}
 use Rattle.numbers.specs.Column.{tidOf}
 use Rattle.removal.specs.Filter.{treeMarked}
 use Rattle.removal.proofs.Marking.{Marking, marking-none, length-marking, marking-yes, marking-no, marking-all}
@@ -41,9 +41,8 @@ tree-marked-requires : tie.Need-tree-marked-requires Inv-loop μ-loop
 tree-marked-requires c κs = search needs
 
 move-tree-requires : tie.Need-move-tree-requires Inv-loop μ-loop
-unfolding treeArray
 move-tree-requires c κs =
-    let long : length (treeArray (c .before .before .before .before .before .before .before .before .before .before .before .args .words .now)) ≡ 32 = length-array treeOf 3 32 (c .before .before .before .before .before .before .before .before .before .before .before .args .words .now) in
+    let long : length (treeArray (c .before .before .before .before .before .before .before .before .before .before .before .args .words .now)) ≡ 32 = length-treeArray (c .before .before .before .before .before .before .before .before .before .before .before .args .words .now) in
     let most = filtering-most (c .before .before .before .before .before .before .loop .inv .1) (omega arith) in
     (c .before .before .before .before .before .before .loop .inv .1 .long ∙ c .before .before .before .before .before .before .before .before .before .before .before .pre, (omega arith, omega arith))
 
@@ -54,9 +53,8 @@ mark-requires : tie.Need-mark-requires Inv-loop μ-loop
 mark-requires c κs = search needs
 
 add-count : tie.Need-add-count Inv-loop μ-loop
-unfolding treeArray
 add-count c =
-    let long : length (treeArray (c .before .before .before .before .before .before .before .before .before .before .before .before .before .before .before .before .before .args .words .now)) ≡ 32 = length-array treeOf 3 32 (c .before .before .before .before .before .before .before .before .before .before .before .before .before .before .before .before .before .args .words .now) in
+    let long : length (treeArray (c .before .before .before .before .before .before .before .before .before .before .before .before .before .before .before .before .before .args .words .now)) ≡ 32 = length-treeArray (c .before .before .before .before .before .before .before .before .before .before .before .before .before .before .before .before .before .args .words .now) in
     let most = filtering-most (c .before .before .before .before .before .before .before .before .before .before .before .before .loop .inv .1) (omega arith) in
     omega arith
 
@@ -70,12 +68,11 @@ loop-less : tie.Need-loop-less Inv-loop μ-loop
 loop-less c = omega arith
 
 loop-again : tie.Need-loop-again Inv-loop μ-loop
-unfolding treeArray
 loop-again c =
     let args = c .before .before .before .before .before .before .before .before .before .before .args in
     let loop = c .before .before .before .before .before .loop in
     let x = c .before .before .tree-at .result in
-    let long : length (treeArray (args .words .now)) ≡ 32 = length-array treeOf 3 32 (args .words .now) in
+    let long : length (treeArray (args .words .now)) ≡ 32 = length-treeArray (args .words .now) in
     let below : loop .i < c .before .before .before .before .before .before .at-most .result = omega arith in
     let inside : loop .i < length (treeArray (args .words .now)) = omega arith in
     let next = filtering-next (loop .inv .1) x inside (c .before .before .tree-at .ensures) in
@@ -111,7 +108,7 @@ returns c =
     let words = args .words .now in
     let end : loop .i ≡ c .before .before .at-most .result = omega arith in
     let h = c .before .before .before .before .before .before .pre in (
-      marking-all (loop .inv .2) (word words 0) 32 (length-array treeOf 3 32 words) (end ∙ c .before .before .at-most .ensures),
+      marking-all (loop .inv .2) (word words 0) 32 (length-treeArray words) (end ∙ c .before .before .at-most .ensures),
       filtered treeOf treeLimits 32 noTree (treeMarked (args .gone) (args .uids .now)) words (loop .words) (c .before .before .at-most .result) (loop .i) (loop .count) (loop .inv .1) end (c .before .before .at-most .ensures) (omega arith),
     )
 
