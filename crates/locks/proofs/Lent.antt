@@ -1,42 +1,32 @@
--- The lock list in its words: its array, and a loop that writes records there.
+-- The lock list in its words: how many are held, and that the words in use still fit.
 -- Assumes nothing.
-use mathlib.Core.Path.{_≡_, refl, sym, ap, _∙_}
-use Prim.Native.Nat.{ℕ, _≤_}
-use mathlib.Core.List.{List}
+use mathlib.Core.Path.{_≡_, sym, ap, _∙_}
+use Prim.Native.Nat.{ℕ, _+_, _≤_, _<_}
+use native.Mathlib.Nat.{min-eq-left}
+use native.Mathlib.Decide.{decLe}
 use native.Mathlib.Omega.{arith}
-use lib.ListN.{length, take, drop, set, length-take, take-append-drop}
-use lib.Seq.{getD-set-same, take-append-seam}
+use mathlib.Core.Bool.{true}
+use mathlib.Core.List.{List}
+use lib.ListN.{length, take, drop, set, take-append-drop}
+use lib.Seq.{take-append-seam}
+use Rattle.lists.specs.Stored.{length-take-most}
 use Rattle.records.specs.declared.Lock.{Lock}
-use Rattle.tables.specs.Words.{word, lockOf, lockArray}
+use Rattle.tables.specs.Words.{word, lockArray, lockLimits, recordsFit, inUse, tableFits}
 use Rattle.tables.specs.Written.{Wrote, locksIn}
-use Rattle.tables.specs.ArrayLaws.{length-array, array-count}
+use Rattle.tables.specs.ChangeLaws.{length-lockArray, count-set, fit-count}
+use Rattle.tables.specs.FitLaws.{fit-wrote}
 
-pub length-locks : (w : List ℕ) → length (lockArray w) ≡ 128
-unfolding lockArray
-length-locks w = length-array lockOf 5 128 w
+-- as many are held as are in use
+held-in-use : (w : List ℕ) → length (locksIn w) ≡ inUse w 128
+held-in-use w = length-take-most (lockArray w) (word w 0) 128 (length-lockArray w)
 
--- the words stay 641, and their count stays
-pub record Sized (before after : List ℕ) : Type 0 where
-  pub long : length after ≡ 641
-  pub same : word after 0 ≡ word before 0
+-- which is the count, where it is one of the table's
+pub held-count : (w : List ℕ) → word w 0 ≤ 128 → word w 0 ≡ length (locksIn w)
+held-count w h = let e = held-in-use w in omega arith
 
-pub sized-start : {w : List ℕ} → length w ≡ 641 → Sized w w
-sized-start h = record { long = h; same = refl }
-
-pub sized-wrote : {w v u : List ℕ} {i : ℕ} {l : Lock} → Sized w v → Wrote lockArray v u i l → length u ≡ length v → Sized w u
-sized-wrote s r e = record { long = e ∙ s .long; same = r .count ∙ s .same }
-
--- the count written: the array stays
-pub count-array : (w : List ℕ) (n : ℕ) → length w ≡ 641 → lockArray (set w 0 n) ≡ lockArray w
-unfolding lockArray
-count-array w n h = array-count lockOf 5 128 w n (omega arith)
-
-pub count-is : (w : List ℕ) (n : ℕ) → length w ≡ 641 → word (set w 0 n) 0 ≡ n
-count-is w n h = getD-set-same w 0 n 0 (omega arith)
-
--- no more records are held than there are
+-- no more than there are records
 pub held-most : (w : List ℕ) → length (locksIn w) ≤ 128
-held-most w = let long : length (lockArray w) ≡ 128 = length-locks w in rw length-take (omega arith)
+held-most w = let e = held-in-use w in omega arith
 
 -- as many records as are held are those held
 pub held-front : (w : List ℕ) (n : ℕ) → n ≡ length (locksIn w) → take n (lockArray w) ≡ locksIn w
@@ -44,3 +34,27 @@ held-front w n e =
     ap (λ (k : ℕ). take k (lockArray w)) e
     ∙ ap (take (length (locksIn w))) (sym (take-append-drop (word w 0) (lockArray w)))
     ∙ take-append-seam (locksIn w) (drop (word w 0) (lockArray w))
+
+-- ---- words in use that fit
+
+-- they are those of the locks held
+pub fit-held : (w : List ℕ) (n : ℕ) → n ≡ length (locksIn w) → tableFits lockLimits 128 w ≡ true → recordsFit lockLimits n w ≡ true
+fit-held w n e f = rw (e, held-in-use w) f
+
+-- the first n records fit, and the count is n
+pub fit-counted : (w : List ℕ) (n : ℕ) → 0 < length w → n ≤ 128 → recordsFit lockLimits n w ≡ true → tableFits lockLimits 128 (set w 0 n) ≡ true
+fit-counted w n h k f = rw (count-set w n h, min-eq-left k) (fit-count w n h lockLimits n ∙ f)
+
+-- a record written among n that fit
+pub fit-within : {w v : List ℕ} {i : ℕ} {l : Lock} (n m : ℕ) → m ≤ n → Wrote lockArray lockLimits w v i l → recordsFit lockLimits n w ≡ true
+    → recordsFit lockLimits m v ≡ true
+fit-within n m h r f = fit-wrote n m r f (λ j k _. omega arith)
+
+-- a number below the next is that one or below it
+below-other : {j n : ℕ} → j < n + 1 → (j ≡ n → ⊥) → j < n
+below-other {j} {n} h e = elim (decLe n j) [ yes k ↦ absurd (e (omega arith)) | no k ↦ omega arith ]
+
+-- a record written behind n that fit
+pub fit-behind : {w v : List ℕ} {l : Lock} (n m : ℕ) → m ≡ n + 1 → Wrote lockArray lockLimits w v n l → recordsFit lockLimits n w ≡ true
+    → recordsFit lockLimits m v ≡ true
+fit-behind n m h r f = fit-wrote n m r f (λ j k e. below-other (let q : j < n + 1 = omega arith in q) e)

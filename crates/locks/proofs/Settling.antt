@@ -18,6 +18,7 @@ use Rattle.records.specs.Empty.{noLock}
 use Rattle.records.specs.declared.Lock.{Lock}
 use Rattle.tables.specs.Words.{word, lockArray}
 use Rattle.tables.specs.Written.{locksIn}
+use Rattle.tables.specs.ChangeLaws.{lockArray-count, count-set}
 use Rattle.locks.specs.Wire.{rangeSize, rangesAt}
 use Rattle.locks.specs.Request.{lockOf, releaseAll, Grants, grantAll, granted, blocked, afterGrants, rangePasses, afterReleases, Result, done, refused, request, settle, locking}
 use Rattle.locks.specs.Blocked.{blockedAt}
@@ -27,7 +28,7 @@ use Rattle.locks.specs.declared.types.Request.{Request}
 use Rattle.locks.specs.declared.types.Outcome.{Outcome}
 use Rattle.locks.specs.declared.types.Outcome.the-variants.{Done, Malformed, NoSuchLock, PassesEnd, Conflict, NoRecord}
 use Rattle.locks.specs.declared.types.Locking.{Locking}
-use Rattle.locks.proofs.Lent.{count-array, count-is, held-front}
+use Rattle.locks.proofs.Lent.{held-front}
 use Rattle.locks.proofs.Granted.{blocked-at, granted-all}
 
 -- ---- what comes of the locks, after the unlocks
@@ -147,7 +148,7 @@ pub record Recounted (w v : List ℕ) : Type 0 where
   pub count : word v 0 ≡ length (locksIn w)
 
 pub recounted : (w : List ℕ) (n : ℕ) → length w ≡ 641 → n ≡ length (locksIn w) → Recounted w (set w 0 n)
-recounted w n long e = record { array = count-array w n long; count = count-is w n long ∙ e }
+recounted w n long e = record { array = lockArray-count w n (omega arith); count = count-set w n (omega arith) ∙ e }
 
 -- the same list
 same-list : {w v : List ℕ} → Recounted w v → locksIn v ≡ locksIn w

@@ -12,12 +12,13 @@ use crate::wire_form::range_at;
 use lists::Found;
 use tables::lock::put_lock;
 ghost use mathlib.Core.Path.{_≡_};
+ghost use mathlib.Core.Bool.{true};
 ghost use mathlib.Core.List.{_++_, map};
 ghost use Prim.Native.Nat.{_+_, _-_, _<_, _≤_};
 ghost use lib.ListN.{length, take};
 ghost use Rattle.lists.specs.Stored.{stored};
 ghost use Rattle.records.specs.Empty.{noLock};
-ghost use Rattle.tables.specs.Words.{word, lockArray};
+ghost use Rattle.tables.specs.Words.{word, lockArray, lockLimits, recordsFit, tableFits};
 ghost use Rattle.tables.specs.Written.{locksIn};
 ghost use Rattle.locks.specs.Answer.{fileIn};
 ghost use Rattle.locks.specs.Wire.{rangesAt};
@@ -80,6 +81,7 @@ pub(crate) fn append_locks(words: &mut [u64], held: usize, q: Request, area: &[u
     requires { ⌜ (length (now words) ≡ 641) × (held + q .locks ≤ 128) ⌝ }
     ensures { λ _. ⌜ lockArray (now (words .exit)) ≡ stored noLock (lockArray (now (words .entry))) held (take held (lockArray (now (words .entry))) ++ map (lockOf (q .fid) (q .shared)) (rangesAt (q .large) (now (area .entry)) (q .unlocks) (q .locks))) ⌝ }
     ensures { λ _. ⌜ word (now (words .exit)) 0 ≡ held + q .locks ⌝ }
+    ensures { λ _. ⌜ (recordsFit lockLimits held (now (words .entry)) ≡ true → tableFits lockLimits 128 (now (words .exit)) ≡ true) ⌝ }
 {
     let from = q.unlocks as usize;
     let to = from + q.locks as usize;

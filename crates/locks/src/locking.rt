@@ -11,9 +11,10 @@ use crate::unlock::release_all;
 use crate::wire_form::range_size;
 use lists::Found;
 ghost use mathlib.Core.Path.{_≡_};
+ghost use mathlib.Core.Bool.{true};
 ghost use mathlib.Core.Option.{some};
 ghost use lib.ListN.{length};
-ghost use Rattle.tables.specs.Words.{word, lockArray};
+ghost use Rattle.tables.specs.Words.{word, lockArray, lockLimits, tableFits};
 ghost use Rattle.tables.specs.Written.{locksIn};
 ghost use Rattle.locks.specs.Answer.{fileIn};
 ghost use Rattle.locks.specs.Wire.{rangesAt};
@@ -49,6 +50,7 @@ fn is_done(why: Outcome) -> bool
 fn grant_all(files: &[u8; 65], words: &mut [u64], q: Request, area: &[u8]) -> Outcome
     requires { ⌜ length (now words) ≡ 641 ⌝ }
     ensures { λ r. ⌜ Settles (now (words .entry)) (now (words .exit)) r (settle (lockArray (now (words .entry))) (word (now (words .entry)) 0) (afterReleases (fileIn (now (files .entry))) (q .fid) (q .shared) (rangesAt (q .large) (now (area .entry)) (q .unlocks) (q .locks)) (some (locksIn (now (words .entry)))))) ⌝ }
+    ensures { λ _. ⌜ (tableFits lockLimits 128 (now (words .entry)) ≡ true → tableFits lockLimits 128 (now (words .exit)) ≡ true) ⌝ }
 {
     let from = q.unlocks as usize;
     let wanted = q.locks as usize;
@@ -71,6 +73,7 @@ fn grant_all(files: &[u8; 65], words: &mut [u64], q: Request, area: &[u8]) -> Ou
 fn unlock_and_grant(files: &[u8; 65], words: &mut [u64], q: Request, area: &[u8]) -> Outcome
     requires { ⌜ length (now words) ≡ 641 ⌝ }
     ensures { λ r. ⌜ Tried (now (words .exit)) r (settle (lockArray (now (words .entry))) (word (now (words .entry)) 0) (request (fileIn (now (files .entry))) (q .fid) (q .shared) (rangesAt (q .large) (now (area .entry)) 0 (q .unlocks)) (rangesAt (q .large) (now (area .entry)) (q .unlocks) (q .locks)) (locksIn (now (words .entry))))) ⌝ }
+    ensures { λ _. ⌜ (tableFits lockLimits 128 (now (words .entry)) ≡ true → tableFits lockLimits 128 (now (words .exit)) ≡ true) ⌝ }
 {
     let held = held_in(words);
     words[0] = held as u64;
@@ -86,6 +89,7 @@ fn unlock_and_grant(files: &[u8; 65], words: &mut [u64], q: Request, area: &[u8]
 pub fn lock_request(files: &[u8; 65], words: &mut [u64], q: Request, area: &[u8]) -> Outcome
     requires { ⌜ length (now words) ≡ 641 ⌝ }
     ensures { λ r. ⌜ Settles (now (words .entry)) (now (words .exit)) r (locking (fileIn (now (files .entry))) (lockArray (now (words .entry))) (word (now (words .entry)) 0) q (now (area .entry))) ⌝ }
+    ensures { λ _. ⌜ (tableFits lockLimits 128 (now (words .entry)) ≡ true → tableFits lockLimits 128 (now (words .exit)) ≡ true) ⌝ }
 {
     let ranges = q.unlocks as usize + q.locks as usize;
     if area.len() != ranges * range_size(q.large) {

@@ -11,11 +11,12 @@ use records::Lock;
 use tables::lock::lock_at;
 use tables::lock::put_lock;
 ghost use mathlib.Core.Path.{_≡_};
+ghost use mathlib.Core.Bool.{true};
 ghost use Prim.Native.Nat.{_-_, _<_, _≤_};
 ghost use lib.ListN.{length};
 ghost use Rattle.lists.specs.Stored.{stored};
 ghost use Rattle.records.specs.Empty.{noLock};
-ghost use Rattle.tables.specs.Words.{word, lockArray};
+ghost use Rattle.tables.specs.Words.{word, lockArray, lockLimits, tableFits};
 ghost use Rattle.tables.specs.Written.{locksIn};
 ghost use Rattle.locks.specs.Answer.{fileIn};
 ghost use Rattle.locks.specs.Wire.{rangesAt};
@@ -27,6 +28,7 @@ fn remove_at(words: &mut [u64], place: usize)
     requires { ⌜ (length (now words) ≡ 641) × ((place < word (now words) 0) × (word (now words) 0 ≤ 128)) ⌝ }
     ensures { λ _. ⌜ lockArray (now (words .exit)) ≡ stored noLock (lockArray (now (words .entry))) (word (now (words .entry)) 0) (removeAt place (locksIn (now (words .entry)))) ⌝ }
     ensures { λ _. ⌜ word (now (words .exit)) 0 ≡ word (now (words .entry)) 0 - 1 ⌝ }
+    ensures { λ _. ⌜ (tableFits lockLimits 128 (now (words .entry)) ≡ true → tableFits lockLimits 128 (now (words .exit)) ≡ true) ⌝ }
 {
     let count = words[0] as usize;
     let mut i = place + 1;
@@ -51,6 +53,7 @@ fn remove_at(words: &mut [u64], place: usize)
 pub(crate) fn release_all(files: &[u8; 65], words: &mut [u64], q: Request, area: &[u8]) -> bool
     requires { ⌜ (length (now words) ≡ 641) × (word (now words) 0 ≤ 128) ⌝ }
     ensures { λ r. ⌜ Unlocks (releaseAll (fileIn (now (files .entry))) (q .fid) (rangesAt (q .large) (now (area .entry)) 0 (q .unlocks)) (locksIn (now (words .entry)))) (now (words .entry)) (now (words .exit)) r ⌝ }
+    ensures { λ _. ⌜ (tableFits lockLimits 128 (now (words .entry)) ≡ true → tableFits lockLimits 128 (now (words .exit)) ≡ true) ⌝ }
 {
     let unlocks = q.unlocks as usize;
     let mut k: usize = 0;

@@ -1,10 +1,12 @@
 -- `locks::grants::append_locks` meets its contract: each turn writes one lock behind those that the words hold.
 -- Assumes nothing.
 use mathlib.Core.Path.{_≡_, _∙_}
+use mathlib.Core.Bool.{true}
 use Prim.Native.Nat.{_+_, _-_, _≤_}
 use lib.ListN.{length, length-set}
-use Rattle.tables.specs.Words.{lockArray}
-use Rattle.locks.proofs.Lent.{length-locks, count-array, count-is}
+use Rattle.tables.specs.Words.{lockArray, lockLimits, recordsFit}
+use Rattle.tables.specs.ChangeLaws.{length-lockArray, lockArray-count, count-set}
+use Rattle.locks.proofs.Lent.{fit-counted, fit-behind}
 use Rattle.locks.proofs.Appended.{appended, appended-start, appended-more}
 use Rattle.locks.proofs.grants.append_locks.Statement.{statement}
 use Rattle.locks.proofs.grants.append_locks.Tie as tie
@@ -14,6 +16,7 @@ use native.Mathlib.Omega.{arith}
 abbrev Inv-loop : tie.InvT-loop
 Inv-loop words₀ held q area from to k₀ words k =
     (from ≤ k) × (k ≤ to) × (length words ≡ 641) × (lockArray words ≡ appended (lockArray words₀) held (q .fid) (q .shared) (q .large) area (q .unlocks) k)
+    × (recordsFit lockLimits held words₀ ≡ true → recordsFit lockLimits (held + (k - from)) words ≡ true)
 
 abbrev μ-loop : tie.MeasureT-loop
 μ-loop words₀ held q area from to k₀ words k = to - k
@@ -30,11 +33,13 @@ add-to c = omega arith
 loop-holds : tie.Need-loop-holds Inv-loop μ-loop
 loop-holds c =
     let args = c .before .before .before .before .args in
-    let long : length (lockArray (args .words .now)) ≡ 128 = length-locks (args .words .now) in (
+    let long : length (lockArray (args .words .now)) ≡ 128 = length-lockArray (args .words .now) in
+    let first : args .held + (args .q .unlocks - args .q .unlocks) ≡ args .held = omega arith in (
       omega arith,
       omega arith,
       c .before .before .before .before .pre .0,
       appended-start (lockArray (args .words .now)) (args .held) (args .q .fid) (args .q .shared) (args .q .large) (args .area .now) (args .q .unlocks) (omega arith),
+      λ f. rw first f,
     )
 
 sub-at : tie.Need-sub-at Inv-loop μ-loop
@@ -63,7 +68,7 @@ loop-again c =
     let args = c .before .before .before .before .before .before .before .before .before .before .before .before .args in
     let loop = c .before .before .before .before .before .before .before .loop in
     let wrote = c .before .before .put-lock in
-    let long : length (lockArray (args .words .now)) ≡ 128 = length-locks (args .words .now) in (
+    let long : length (lockArray (args .words .now)) ≡ 128 = length-lockArray (args .words .now) in (
       omega arith,
       omega arith,
       wrote .kept .0 ∙ loop .inv .2,
@@ -73,6 +78,7 @@ loop-again c =
           appended-more (lockArray (args .words .now)) (args .held) (args .q .fid) (args .q .shared) (args .q .large) (args .area .now) (args .q .unlocks)
           (omega arith) (loop .k) (omega arith) (omega arith)
           ),
+      λ f. fit-behind (args .held + (loop .k - args .q .unlocks)) _ (omega arith) (wrote .ensures) (loop .inv .4 f),
     )
 
 sub-words : tie.Need-sub-words Inv-loop μ-loop
@@ -91,10 +97,14 @@ returns : tie.Need-returns Inv-loop μ-loop
 returns c =
     let args = c .before .before .before .before .before .before .args in
     let loop = c .before .loop in
+    let full = loop .inv .2 in
     let at : loop .k ≡ args .q .unlocks + args .q .locks = omega arith in
     let asked : args .q .unlocks + args .q .locks - args .q .unlocks ≡ args .q .locks = omega arith in (
-      count-array _ _ (loop .inv .2) ∙ rw (at, asked) at (loop .inv .3),
-      count-is (loop .words) _ (loop .inv .2) ∙ rw asked,
+      lockArray-count (loop .words) _ (omega arith) ∙ rw (at, asked) at (loop .inv .3),
+      (
+        count-set (loop .words) _ (omega arith) ∙ rw asked,
+        λ f. fit-counted (loop .words) _ (omega arith) (omega arith) (rw at at (loop .inv .4 f)),
+      ),
     )
 
 pub append-locks-spec : {M : Type 1} → statement M

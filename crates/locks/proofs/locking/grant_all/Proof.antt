@@ -7,7 +7,7 @@ use native.Mathlib.Omega.{arith}
 use Rattle.lists.specs.Walk.{any}
 use Rattle.locks.specs.Wire.{rangesAt, length-ranges}
 use Rattle.locks.specs.Request.{rangePasses}
-use Rattle.locks.proofs.Lent.{held-most, held-front}
+use Rattle.locks.proofs.Lent.{held-most, held-front, fit-held}
 use Rattle.locks.proofs.Settling.{locks-pass, locks-conflict, locks-full, locks-granted, length-whole, settles-refused, settles-done}
 use borrow.Author.Needs.{needs}
 use Rattle.locks.proofs.locking.grant_all.Statement.{statement}
@@ -29,7 +29,7 @@ returns : tie.Need-returns
 returns c =
     let args = c .before .before .before .before .before .before .args in
     let asked : args .q .unlocks + args .q .locks - args .q .unlocks ≡ args .q .locks = omega arith in
-    settles-refused (args .words .now) _ _ (locks-pass _ _ _ _ _ (sym (c .if1 .taken) ∙ rw asked at (c .before .some-passes .ensures)))
+    (settles-refused (args .words .now) _ _ (locks-pass _ _ _ _ _ (sym (c .if1 .taken) ∙ rw asked at (c .before .some-passes .ensures))), λ f. f)
 
 held-in-requires : tie.Need-held-in-requires
 held-in-requires c κs = search needs
@@ -50,7 +50,7 @@ returns-2 c =
     let within : false ≡ any rangePasses (rangesAt (args .q .large) (args .area .now) (args .q .unlocks) (args .q .locks)) =
     sym (c .before .before .before .before .before .before .before .if1 .left) ∙ rw asked at (c .before .before .before .before .before .before .before .before .some-passes .ensures)
     in
-    settles-refused (args .words .now) _ _ (locks-conflict _ _ _ _ _ within (sym (c .before .first .given .1) ∙ c .before .before .before .first-conflict .ensures))
+    (settles-refused (args .words .now) _ _ (locks-conflict _ _ _ _ _ within (sym (c .before .first .given .1) ∙ c .before .before .before .first-conflict .ensures)), λ f. f)
 
 enum-told : tie.Need-enum-told
 enum-told c = search needs
@@ -72,7 +72,7 @@ returns-3 c =
     let held = c .before .before .before .before .before .held-in .ensures in
     let free = sym (c .before .enum-told .given .1) ∙ c .before .before .before .first-conflict .ensures in
     let many = length-ranges (args .q .large) (args .area .now) (args .q .unlocks) (args .q .locks) in
-    settles-refused (args .words .now) _ _ (locks-full _ _ _ _ _ within free _ _ held many (omega arith))
+    (settles-refused (args .words .now) _ _ (locks-full _ _ _ _ _ within free _ _ held many (omega arith)), λ f. f)
 
 append-locks-requires : tie.Need-append-locks-requires
 append-locks-requires c κs = let most = held-most (c .before .before .before .before .before .before .before .before .before .before .before .before .before .before .args .words .now) in let held = c .before .before .before .before .before .before .held-in .ensures in (c .before .before .before .before .before .before .before .before .before .before .before .before .before .before .pre, omega arith)
@@ -90,11 +90,13 @@ returns-4 c =
     let most = held-most (args .words .now) in
     let held = c .before .before .before .before .before .before .before .before .before .held-in .ensures in
     let free = sym (c .before .before .before .before .before .enum-told .given .1) ∙ c .before .before .before .before .before .before .before .first-conflict .ensures in
-    let many = length-ranges (args .q .large) (args .area .now) (args .q .unlocks) (args .q .locks) in
-    settles-done (args .words .now) _ _ _
-    (locks-granted _ _ _ _ _ within free _ _ held many (omega arith))
-    (rw (held-front (args .words .now) (c .before .before .before .before .before .before .before .before .before .held-in .result) held, held) at (c .before .before .append-locks .ensures .0))
-    (c .before .before .append-locks .ensures .1 ∙ sym (length-whole _ _ _ _ _ within free _ _ held many))
+    let many = length-ranges (args .q .large) (args .area .now) (args .q .unlocks) (args .q .locks) in (
+      settles-done (args .words .now) _ _ _
+          (locks-granted _ _ _ _ _ within free _ _ held many (omega arith))
+          (rw (held-front (args .words .now) (c .before .before .before .before .before .before .before .before .before .held-in .result) held, held) at (c .before .before .append-locks .ensures .0))
+          (c .before .before .append-locks .ensures .1 .0 ∙ sym (length-whole _ _ _ _ _ within free _ _ held many)),
+      λ f. c .before .before .append-locks .ensures .1 .1 (fit-held (args .words .now) (c .before .before .before .before .before .before .before .before .before .held-in .result) held f),
+    )
 
 pub grant-all-spec : {M : Type 1} → statement M
 grant-all-spec =

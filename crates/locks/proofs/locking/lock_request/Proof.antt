@@ -36,7 +36,7 @@ mul-if1 c =
 returns : tie.Need-returns
 returns c =
     let args = c .before .before .before .before .before .before .args in
-    settles-malformed (fileIn (args .files .now)) (args .words .now) (args .q) (args .area .now) (rw (c .before .range-size .ensures) at (c .if1 .taken))
+    (settles-malformed (fileIn (args .files .now)) (args .words .now) (args .q) (args .area .now) (rw (c .before .range-size .ensures) at (c .if1 .taken)), λ f. f)
 
 grant-all-requires : tie.Need-grant-all-requires
 grant-all-requires c κs = search needs
@@ -49,12 +49,14 @@ returns-2 c =
     let args = c .before .before .before .before .before .before .before .before .before .before .before .before .args in
     let q = args .q in
     let w = args .words .now in
-    let sized : length (args .area .now) ≡ (q .unlocks + q .locks) * rangeSize (q .large) = rw (← (c .before .before .before .before .before .before .before .range-size .ensures)) (c .before .before .before .before .before .before .if1 .left) in
-    rw (
-      locking-sized (fileIn (args .files .now)) (lockArray w) (word w 0) q (args .area .now) sized,
-      no-unlocks (fileIn (args .files .now)) (q .fid) (q .shared) (q .large) (args .area .now) (q .unlocks) (rangesAt (q .large) (args .area .now) (q .unlocks) (q .locks)) (locksIn w) (c .before .before .before .before .if2 .taken),
+    let sized : length (args .area .now) ≡ (q .unlocks + q .locks) * rangeSize (q .large) = rw (← (c .before .before .before .before .before .before .before .range-size .ensures)) (c .before .before .before .before .before .before .if1 .left) in (
+      rw (
+        locking-sized (fileIn (args .files .now)) (lockArray w) (word w 0) q (args .area .now) sized,
+        no-unlocks (fileIn (args .files .now)) (q .fid) (q .shared) (q .large) (args .area .now) (q .unlocks) (rangesAt (q .large) (args .area .now) (q .unlocks) (q .locks)) (locksIn w) (c .before .before .before .before .if2 .taken),
+      )
+          (c .before .before .grant-all .ensures .0),
+      c .before .before .grant-all .ensures .1,
     )
-    (c .before .before .grant-all .ensures)
 
 slice-aggregate-copy-words : tie.Need-slice-aggregate-copy-words
 slice-aggregate-copy-words c = search needs
@@ -76,8 +78,10 @@ returns-3 c =
     let args = c .before .before .before .before .before .before .before .before .before .before .before .before .before .before .before .before .before .before .args in
     let q = args .q in
     let w = args .words .now in
-    let sized : length (args .area .now) ≡ (q .unlocks + q .locks) * rangeSize (q .large) = rw (← (c .before .before .before .before .before .before .before .before .before .before .before .before .before .range-size .ensures)) (c .before .before .before .before .before .before .before .before .before .before .before .before .if1 .left) in
-    rw (locking-sized (fileIn (args .files .now)) (lockArray w) (word w 0) q (args .area .now) sized) (settles-tried w (sym (c .before .is-done .ensures) ∙ c .if3 .taken) (c .before .before .before .before .unlock-and-grant .ensures))
+    let sized : length (args .area .now) ≡ (q .unlocks + q .locks) * rangeSize (q .large) = rw (← (c .before .before .before .before .before .before .before .before .before .before .before .before .before .range-size .ensures)) (c .before .before .before .before .before .before .before .before .before .before .before .before .if1 .left) in (
+      rw (locking-sized (fileIn (args .files .now)) (lockArray w) (word w 0) q (args .area .now) sized) (settles-tried w (sym (c .before .is-done .ensures) ∙ c .if3 .taken) (c .before .before .before .before .unlock-and-grant .ensures .0)),
+      c .before .before .before .before .unlock-and-grant .ensures .1,
+    )
 
 slice-aggregate-copy-words-2 : tie.Need-slice-aggregate-copy-words-2
 slice-aggregate-copy-words-2 c = search needs
@@ -93,9 +97,11 @@ returns-4 c =
     let args = c .before .before .before .before .before .before .before .before .before .before .before .before .before .before .before .before .before .before .before .before .before .before .before .args in
     let q = args .q in
     let w = args .words .now in
-    let sized : length (args .area .now) ≡ (q .unlocks + q .locks) * rangeSize (q .large) = rw (← (c .before .before .before .before .before .before .before .before .before .before .before .before .before .before .before .before .before .before .range-size .ensures)) (c .before .before .before .before .before .before .before .before .before .before .before .before .before .before .before .before .before .if1 .left) in
-    rw (locking-sized (fileIn (args .files .now)) (lockArray w) (word w 0) q (args .area .now) sized, c .before .before .copy-words2 .ensures, c .before .before .before .before .before .before .before .before .before .before .before .before .copy-words .ensures)
-    (settles-back w _ (sym (c .before .before .before .before .before .before .is-done .ensures) ∙ c .before .before .before .before .before .if3 .left) (c .before .before .before .before .before .before .before .before .before .unlock-and-grant .ensures))
+    let sized : length (args .area .now) ≡ (q .unlocks + q .locks) * rangeSize (q .large) = rw (← (c .before .before .before .before .before .before .before .before .before .before .before .before .before .before .before .before .before .before .range-size .ensures)) (c .before .before .before .before .before .before .before .before .before .before .before .before .before .before .before .before .before .if1 .left) in (
+      rw (locking-sized (fileIn (args .files .now)) (lockArray w) (word w 0) q (args .area .now) sized, c .before .before .copy-words2 .ensures, c .before .before .before .before .before .before .before .before .before .before .before .before .copy-words .ensures)
+          (settles-back w _ (sym (c .before .before .before .before .before .before .is-done .ensures) ∙ c .before .before .before .before .before .if3 .left) (c .before .before .before .before .before .before .before .before .before .unlock-and-grant .ensures .0)),
+      λ f. rw (c .before .before .copy-words2 .ensures, c .before .before .before .before .before .before .before .before .before .before .before .before .copy-words .ensures) f,
+    )
 
 pub lock-request-spec : {M : Type 1} → statement M
 lock-request-spec =

@@ -3,8 +3,9 @@
 use mathlib.Core.Path.{_∙_}
 use native.Mathlib.Omega.{arith}
 use lib.ListN.{length-set}
+use Rattle.tables.specs.ChangeLaws.{count-set}
 use borrow.Author.Tests.{not-true, not-false}
-use Rattle.locks.proofs.Lent.{count-is, held-most}
+use Rattle.locks.proofs.Lent.{held-most, fit-held, fit-counted}
 use Rattle.locks.proofs.Settling.{recounted, tried-missing, tried-locks}
 use borrow.Author.Needs.{needs}
 use Rattle.locks.proofs.locking.unlock_and_grant.Statement.{statement}
@@ -21,7 +22,8 @@ release-all-requires c κs =
     let args = c .before .before .before .before .before .args in
     let most = held-most (args .words .now) in
     let held = c .before .held-in .ensures in
-    let count = count-is (args .words .now) (c .before .held-in .result) (c .before .before .before .before .before .pre) in
+    let long = c .before .before .before .before .before .pre in
+    let count = count-set (args .words .now) (c .before .held-in .result) (omega arith) in
     (length-set (c .before .before .before .before .before .args .words .now) 0 (c .before .held-in .result) ∙ c .before .before .before .before .before .pre, omega arith)
 
 same-length : tie.Need-same-length
@@ -29,8 +31,15 @@ same-length c = c .before .before .before .release-all .kept .1 .0 ∙ length-se
 
 returns : tie.Need-returns
 returns c =
-    tried-missing _ _ _ _ _ (recounted (c .before .before .before .before .before .before .before .before .before .args .words .now) (c .before .before .before .before .before .held-in .result) (c .before .before .before .before .before .before .before .before .before .pre) (c .before .before .before .before .before .held-in .ensures)) (c .before .before .before .release-all .ensures) _
-    (not-true (c .before .before .before .release-all .result) (c .if1 .taken))
+    let w = c .before .before .before .before .before .before .before .before .before .args .words .now in
+    let held = c .before .before .before .before .before .held-in .result in
+    let most = held-most w in
+    let same = c .before .before .before .before .before .held-in .ensures in
+    let long = c .before .before .before .before .before .before .before .before .before .pre in (
+      tried-missing _ _ _ _ _ (recounted w held long same) (c .before .before .before .release-all .ensures .0) _
+          (not-true (c .before .before .before .release-all .result) (c .if1 .taken)),
+      λ f. c .before .before .before .release-all .ensures .1 (fit-counted w held (omega arith) (omega arith) (fit-held w held same f)),
+    )
 
 grant-all-requires : tie.Need-grant-all-requires
 grant-all-requires c κs = c .before .before .before .before .release-all .kept .1 .0 ∙ length-set (c .before .before .before .before .before .before .before .before .before .before .args .words .now) 0 (c .before .before .before .before .before .before .held-in .result) ∙ c .before .before .before .before .before .before .before .before .before .before .pre
@@ -40,8 +49,15 @@ same-length-2 c = c .before .before .grant-all .kept .1 .0 ∙ c .before .before
 
 returns-2 : tie.Need-returns-2
 returns-2 c =
-    tried-locks _ _ _ _ _ (recounted (c .before .before .before .before .before .before .before .before .before .before .before .before .before .args .words .now) (c .before .before .before .before .before .before .before .before .before .held-in .result) (c .before .before .before .before .before .before .before .before .before .before .before .before .before .pre) (c .before .before .before .before .before .before .before .before .before .held-in .ensures)) (c .before .before .before .before .before .before .before .release-all .ensures)
-    (not-false (c .before .before .before .before .before .before .before .release-all .result) (c .before .before .before .before .if1 .left)) (c .before .before .grant-all .ensures)
+    let w = c .before .before .before .before .before .before .before .before .before .before .before .before .before .args .words .now in
+    let held = c .before .before .before .before .before .before .before .before .before .held-in .result in
+    let most = held-most w in
+    let same = c .before .before .before .before .before .before .before .before .before .held-in .ensures in
+    let long = c .before .before .before .before .before .before .before .before .before .before .before .before .before .pre in (
+      tried-locks _ _ _ _ _ (recounted w held long same) (c .before .before .before .before .before .before .before .release-all .ensures .0)
+          (not-false (c .before .before .before .before .before .before .before .release-all .result) (c .before .before .before .before .if1 .left)) (c .before .before .grant-all .ensures .0),
+      λ f. c .before .before .grant-all .ensures .1 (c .before .before .before .before .before .before .before .release-all .ensures .1 (fit-counted w held (omega arith) (omega arith) (fit-held w held same f))),
+    )
 
 pub unlock-and-grant-spec : {M : Type 1} → statement M
 unlock-and-grant-spec =

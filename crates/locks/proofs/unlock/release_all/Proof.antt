@@ -1,16 +1,16 @@
 -- `locks::unlock::release_all` meets its contract: the unlocks ahead make of the list so far what all of them make of the first list, and the words hold it.
 -- Assumes nothing.
 use mathlib.Core.Path.{_≡_, sym, _∙_}
-use mathlib.Core.Bool.{false≢true}
+use mathlib.Core.Bool.{true, false≢true}
 use Prim.Native.Nat.{_-_}
 use lib.ListN.{length}
-use Rattle.tables.specs.Words.{word, lockArray}
+use Rattle.tables.specs.Words.{word, lockArray, lockLimits, tableFits}
 use Rattle.tables.specs.Written.{locksIn}
 use Rattle.locks.specs.Wire.{rangesAt}
 use Rattle.locks.specs.Answer.{fileIn}
 use Rattle.locks.specs.Request.{releaseAll}
 use Rattle.locks.proofs.Ahead.{Ahead, ahead-start, ahead-here, ahead-more, ahead-none}
-use Rattle.locks.proofs.Lent.{length-locks}
+use Rattle.tables.specs.ChangeLaws.{length-lockArray}
 use Rattle.locks.proofs.Unlocked.{Left, left-start, left-below, left-step, left-list, release-more, release-stop}
 use Rattle.locks.proofs.unlock.release_all.Statement.{statement}
 use Rattle.locks.proofs.unlock.release_all.Tie as tie
@@ -23,6 +23,7 @@ Inv-loop files words₀ q area unlocks k₀ words k =
     × Left (lockArray words₀) (word words₀ 0) (lockArray words) (word words 0)
     × Ahead (releaseAll (fileIn files) (q .fid) (rangesAt (q .large) area 0 (q .unlocks)) (locksIn words₀))
     (λ rs. releaseAll (fileIn files) (q .fid) rs (locksIn words)) (q .large) area 0 (q .unlocks) k
+    × (tableFits lockLimits 128 words₀ ≡ true → tableFits lockLimits 128 words ≡ true)
 
 abbrev μ-loop : tie.MeasureT-loop
 μ-loop files words₀ q area unlocks k₀ words k = q .unlocks - k
@@ -34,8 +35,8 @@ loop-holds : tie.Need-loop-holds Inv-loop μ-loop
 loop-holds c =
     let args = c .before .before .before .args in
     let all : args .q .unlocks - 0 ≡ args .q .unlocks = omega arith in
-    let long : length (lockArray (args .words .now)) ≡ 128 = length-locks (args .words .now) in
-    (c .before .before .before .pre .0, left-start (lockArray (args .words .now)) (word (args .words .now) 0) (omega arith), ahead-start (omega arith) (rw all))
+    let long : length (lockArray (args .words .now)) ≡ 128 = length-lockArray (args .words .now) in
+    (c .before .before .before .pre .0, left-start (lockArray (args .words .now)) (word (args .words .now) 0) (omega arith), ahead-start (omega arith) (rw all), λ f. f)
 
 range-at-requires : tie.Need-range-at-requires Inv-loop μ-loop
 range-at-requires c κs = search needs
@@ -56,15 +57,17 @@ same-length : tie.Need-same-length Inv-loop μ-loop
 same-length c = c .before .before .before .before .before .before .before .loop .inv .0 ∙ sym (c .before .before .before .before .before .before .before .before .before .before .before .pre .0)
 
 returns : tie.Need-returns Inv-loop μ-loop
-returns c =
-    record {
-      list = λ e. absurd (false≢true e);
-      array = λ e. absurd (false≢true e);
-      count = λ e. absurd (false≢true e);
-      missing =
-          λ _. ahead-here (c .before .before .before .before .before .before .before .loop .inv .2) (omega arith)
-          (λ rs. release-stop _ _ _ rs _ (rw (← (c .before .before .before .before .before .range-at .ensures), ← (c .before .before .before .ask-of .ensures)) (sym (c .enum-told .given .1) ∙ c .before .before .first-answer .ensures)));
-    }
+returns c = (
+  record {
+    list = λ e. absurd (false≢true e);
+    array = λ e. absurd (false≢true e);
+    count = λ e. absurd (false≢true e);
+    missing =
+        λ _. ahead-here (c .before .before .before .before .before .before .before .loop .inv .2) (omega arith)
+        (λ rs. release-stop _ _ _ rs _ (rw (← (c .before .before .before .before .before .range-at .ensures), ← (c .before .before .before .ask-of .ensures)) (sym (c .enum-told .given .1) ∙ c .before .before .first-answer .ensures)));
+  },
+  c .before .before .before .before .before .before .before .loop .inv .3,
+)
 
 remove-at-requires : tie.Need-remove-at-requires Inv-loop μ-loop
 remove-at-requires c κs =
@@ -87,13 +90,14 @@ loop-again c =
     let gone = c .before .before .remove-at .ensures in
     let below = left-below left _ place (sym (c .before .before .before .before .before .before .before .first-answer .ensures) ∙ c .before .before .before .before .before .place .given .1) in (
       c .before .before .remove-at .kept .0 ∙ loop .inv .0,
-      rw (gone .1) (left-step left below (gone .0)),
+      rw (gone .1 .0) (left-step left below (gone .0)),
       ahead-more (loop .inv .2) (omega arith)
           (
           λ rs.
-          rw (gone .1, left-list left below (gone .0))
+          rw (gone .1 .0, left-list left below (gone .0))
           (release-more _ _ _ rs _ place (rw (← (c .before .before .before .before .before .before .before .before .before .before .range-at .ensures), ← (c .before .before .before .before .before .before .before .before .ask-of .ensures)) (sym (c .before .before .before .before .before .place .given .1) ∙ c .before .before .before .before .before .before .before .first-answer .ensures)))
           ),
+      λ f. gone .1 .1 (loop .inv .3 f),
     )
 
 same-length-2 : tie.Need-same-length-2 Inv-loop μ-loop
@@ -101,13 +105,15 @@ same-length-2 c = c .before .loop .inv .0 ∙ sym (c .before .before .before .be
 
 returns-2 : tie.Need-returns-2 Inv-loop μ-loop
 unfolding releaseAll
-returns-2 c =
-    record {
-      list = λ _. ahead-none (c .before .loop .inv .2) (omega arith);
-      array = λ _. c .before .loop .inv .1 .holds;
-      count = λ _. c .before .loop .inv .1 .short;
-      missing = λ e. absurd (false≢true (sym e));
-    }
+returns-2 c = (
+  record {
+    list = λ _. ahead-none (c .before .loop .inv .2) (omega arith);
+    array = λ _. c .before .loop .inv .1 .holds;
+    count = λ _. c .before .loop .inv .1 .short;
+    missing = λ e. absurd (false≢true (sym e));
+  },
+  c .before .loop .inv .3,
+)
 
 pub release-all-spec : {M : Type 1} → statement M
 release-all-spec =

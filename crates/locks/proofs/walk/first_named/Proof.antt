@@ -8,8 +8,8 @@ use borrow.Author.Needs.{needs}
 use Rattle.lists.specs.FoundLaws.{Passed, passed-start, passed-here, passed-more, passed-none, passed-all}
 use Rattle.records.specs.Empty.{noLock}
 use Rattle.tables.specs.Words.{word, lockArray}
+use Rattle.tables.specs.ChangeLaws.{length-lockArray}
 use Rattle.locks.specs.Answer.{named}
-use Rattle.locks.proofs.Lent.{length-locks}
 use Rattle.locks.proofs.walk.first_named.Statement.{statement}
 use Rattle.locks.proofs.walk.first_named.Tie as tie
 
@@ -34,7 +34,7 @@ named-at-requires c κs = search needs
 returns-2 : tie.Need-returns-2 Inv-loop μ-loop
 returns-2 c =
     let words = c .before .before .before .before .before .before .before .args .words .now in
-    let long : length (lockArray words) ≡ 128 = length-locks words in
+    let long : length (lockArray words) ≡ 128 = length-lockArray words in
     passed-here (c .before .before .before .before .loop .inv .1) noLock (omega arith) (omega arith) (sym (c .before .named-at .ensures) ∙ c .if2 .taken)
 
 add-i : tie.Need-add-i Inv-loop μ-loop
@@ -46,12 +46,12 @@ loop-less c = omega arith
 loop-again : tie.Need-loop-again Inv-loop μ-loop
 loop-again c =
     let words = c .before .before .before .before .before .before .before .args .words .now in
-    let long : length (lockArray words) ≡ 128 = length-locks words in
+    let long : length (lockArray words) ≡ 128 = length-lockArray words in
     (omega arith, passed-more (c .before .before .before .before .loop .inv .1) noLock (omega arith) (omega arith) (sym (c .before .named-at .ensures) ∙ c .if2 .left))
 
 returns-3 : tie.Need-returns-3 Inv-loop μ-loop
 returns-3 c =
-    let long : length (lockArray (c .before .before .before .before .args .words .now)) ≡ 128 = length-locks (c .before .before .before .before .args .words .now) in
+    let long : length (lockArray (c .before .before .before .before .args .words .now)) ≡ 128 = length-lockArray (c .before .before .before .before .args .words .now) in
     passed-all (c .before .loop .inv .1) (omega arith)
 
 pub first-named-spec : {M : Type 1} → statement M
