@@ -3,3 +3,8 @@ pub mod Lookup
 pub mod Sound
 pub mod LockFits
 pub mod SoundLaws
+pub mod ByNumber
+pub mod InWords
+pub mod InWordsLaws
+pub mod RowWalk
+pub mod AgreeLaws

@@ -1,0 +1,77 @@
+-- `soundness::file_words::files_ok` meets its contract: what the walk has left says the same as the whole.
+-- Assumes nothing.
+use mathlib.Core.Path.{_≡_, sym, ap, _∙_}
+use Prim.Native.Nat.{_≤_, _-_}
+use mathlib.Core.Bool.{true, false}
+use lib.ListN.{length, getD}
+use lib.Seq.{take-all}
+use borrow.Author.Tests.{le-leb, lt-leb}
+use Rattle.lists.specs.Walk.{all, rest}
+use Rattle.lists.specs.WalkLaws.{all-end, all-yes, all-no}
+use Rattle.records.specs.Empty.{noFile}
+use Rattle.tables.specs.Words.{word, fileArray}
+use Rattle.tables.specs.ArrayLaws.{length-fileArray, file-at}
+use Rattle.soundness.specs.Sound.{fileOk}
+use Rattle.soundness.proofs.file_words.files_ok.Statement.{statement}
+use Rattle.soundness.proofs.file_words.files_ok.Tie as tie
+use native.Mathlib.Omega.{arith}
+
+abbrev Inv-loop : tie.InvT-loop
+Inv-loop words i₀ i = (i ≤ 16) × (all fileOk (fileArray words) ≡ all fileOk (rest (fileArray words) 16 i))
+
+abbrev μ-loop : tie.MeasureT-loop
+μ-loop words i₀ i = 16 - i
+
+loop-holds : tie.Need-loop-holds Inv-loop μ-loop
+loop-holds c =
+    let w = c .args .words .now in
+    let long : length (fileArray w) ≡ 16 = length-fileArray w in
+    (omega arith, sym (ap (all fileOk) (take-all 16 (fileArray w) (omega arith))))
+
+mul-if1 : tie.Need-mul-if1 Inv-loop μ-loop
+mul-if1 c = omega arith
+
+shared-slice-read-if1 : tie.Need-shared-slice-read-if1 Inv-loop μ-loop
+shared-slice-read-if1 c = omega arith
+
+returns : tie.Need-returns Inv-loop μ-loop
+unfolding fileOk
+returns c =
+    let w = c .before .before .before .before .args .words .now in
+    let loop = c .before .before .before .loop in
+    let long : length (fileArray w) ≡ 16 = length-fileArray w in
+    let fails : fileOk (getD (fileArray w) (loop .i) noFile) ≡ false = rw (file-at w (loop .i) noFile (c .before .before .loop-test .taken)) (lt-leb (word w (loop .i)) 4096 (c .if1 .taken)) in
+    sym (loop .inv .1 ∙ all-no (fileArray w) 16 (loop .i) noFile (c .before .before .loop-test .taken) (omega arith) fileOk fails)
+
+add-i : tie.Need-add-i Inv-loop μ-loop
+add-i c = omega arith
+
+loop-less : tie.Need-loop-less Inv-loop μ-loop
+loop-less c = omega arith
+
+loop-again : tie.Need-loop-again Inv-loop μ-loop
+unfolding fileOk
+loop-again c =
+    let w = c .before .before .before .before .args .words .now in
+    let loop = c .before .before .before .loop in
+    let long : length (fileArray w) ≡ 16 = length-fileArray w in
+    let holds : fileOk (getD (fileArray w) (loop .i) noFile) ≡ true = rw (file-at w (loop .i) noFile (c .before .before .loop-test .taken)) (le-leb (word w (loop .i)) 4096 (c .if1 .left)) in
+    (omega arith, loop .inv .1 ∙ all-yes (fileArray w) 16 (loop .i) noFile (c .before .before .loop-test .taken) (omega arith) fileOk holds)
+
+returns-2 : tie.Need-returns-2 Inv-loop μ-loop
+returns-2 c = sym (c .before .loop .inv .1 ∙ all-end (fileArray (c .before .before .args .words .now)) 16 fileOk (c .before .loop .i) (c .loop-test .left))
+
+pub files-ok-spec : {M : Type 1} → statement M
+files-ok-spec =
+    tie.close
+    (tie.spec
+    Inv-loop
+    μ-loop
+    loop-holds
+    mul-if1
+    shared-slice-read-if1
+    returns
+    add-i
+    loop-less
+    loop-again
+    returns-2)
