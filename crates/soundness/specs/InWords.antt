@@ -12,7 +12,7 @@ use Rattle.locks.specs.Range.{passesEnd}
 use Rattle.records.specs.declared.Tree.{Tree}
 use Rattle.records.specs.declared.Open.{Open}
 use Rattle.numbers.specs.Number.{numberOk, numbered}
-use Rattle.tables.specs.Words.{word, upTo, recordAt, arrayOf, atMost, recordsFit}
+use Rattle.tables.specs.Words.{word, upTo, recordAt, arrayOf, within, tableFits}
 use Rattle.soundness.specs.ByNumber.{numberFree}
 
 -- the words of each of the n records of a table, k to a record
@@ -20,14 +20,14 @@ abbrev pub rows : ℕ → ℕ → List ℕ → List (List ℕ)
 rows k n w = upTo (recordAt k w) n
 
 -- a record's rules, in front of the records behind it: its words fit, its number is in order, and it passes `ok`
-unfoldable pub inOrder : {A : Type 0} → List (ℕ × ℕ) → (List ℕ → A) → ℕ → (A → ℕ) → (A → Bool) → List ℕ → List (List ℕ) → Bool
-inOrder limits f limit key ok r later = all (atMost r) limits && (numberOk limit (key (f r)) (map (λ s. key (f s)) later) && ok (f r))
+unfoldable pub inOrder : {A : Type 0} → List ℕ → (List ℕ → A) → ℕ → (A → ℕ) → (A → Bool) → List ℕ → List (List ℕ) → Bool
+inOrder limits f limit key ok r later = within limits r && (numberOk limit (key (f r)) (map (λ s. key (f s)) later) && ok (f r))
 
 -- the same of all records in use
-unfoldable pub tableInOrder : {A : Type 0} → List (ℕ × ℕ) → ℕ → ℕ → (List ℕ → A) → ℕ → (A → ℕ) → (A → Bool) → List ℕ → Bool
-tableInOrder limits k n f limit key ok w =
-    recordsFit limits k n w
-    && (numbered limit (map key (take (word w 0) (arrayOf f k n w))) && all ok (take (word w 0) (arrayOf f k n w)))
+unfoldable pub tableInOrder : {A : Type 0} → List ℕ → ℕ → (List ℕ → A) → ℕ → (A → ℕ) → (A → Bool) → List ℕ → Bool
+tableInOrder limits n f limit key ok w =
+    tableFits limits n w
+    && (numbered limit (map key (take (word w 0) (arrayOf f (length limits) n w))) && all ok (take (word w 0) (arrayOf f (length limits) n w)))
 
 -- what a walk over a table says: its verdict and, if it holds, the table by number that it made
 pub record Told (verdict : Bool) (good : List ℕ) (sound : Bool) (table : List ℕ) : Type 0 where

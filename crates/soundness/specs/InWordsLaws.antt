@@ -22,9 +22,9 @@ use Rattle.records.specs.declared.Open.{Open}
 use Rattle.records.specs.declared.Lock.{Lock}
 use Rattle.numbers.specs.Number.{contains, numberOk, numbered}
 use Rattle.numbers.specs.Column.{uidOf, tidOf, fidOf}
-use Rattle.tables.specs.Words.{word, upTo, recordAt, arrayOf, atMost, recordsFit, inUse, sessionOf, treeOf, openOf, lockOf, treeArray, openArray, lockArray, sessionLimits, treeLimits, openLimits, lockLimits}
-use Rattle.tables.specs.PartLaws.{row}
-use Rattle.tables.specs.ArrayLaws.{length-upTo, getD-upTo, length-array, record-at}
+use Rattle.tables.specs.Words.{word, upTo, recordAt, arrayOf, within, recordsFit, tableFits, sessionOf, treeOf, openOf, lockOf, lockArray, sessionLimits, treeLimits, openLimits, lockLimits}
+use Rattle.tables.specs.PartLaws.{row, part-row}
+use Rattle.tables.specs.ArrayLaws.{length-upTo, getD-upTo, record-at}
 use Rattle.soundness.specs.Sound.{treeOk, permits, holdsOpen, openOk}
 use Rattle.soundness.specs.LockFits.{lockFits}
 use Rattle.soundness.specs.ByNumber.{last-false, uncut, entry, byNumber, numberFree, free-number, byNumber-serves}
@@ -79,9 +79,9 @@ module _ {A : Type 0} (f : List ℕ → A) (k n : ℕ) (w : List ℕ) where
   unfolding arrayOf
   records-rows = map-take f (word w 0) (rows k n w) ∙ ap (take (word w 0)) (map-upTo f (recordAt k w) n)
 
-  pub fit-rows : (limits : List (ℕ × ℕ)) → recordsFit limits k n w ≡ all (λ r. all (atMost r) limits) (take (word w 0) (rows k n w))
-  unfolding recordsFit
-  fit-rows limits = ap (all (λ r. all (atMost r) limits)) (take-upTo (recordAt k w) (word w 0) n)
+pub fit-rows : (limits : List ℕ) (n : ℕ) (w : List ℕ) → tableFits limits n w ≡ all (within limits) (take (word w 0) (rows (length limits) n w))
+unfolding recordsFit
+fit-rows limits n w = ap (all (within limits)) (take-upTo (recordAt (length limits) w) (word w 0) n)
 
 -- ---- the rules of all records, one by one
 
@@ -91,22 +91,22 @@ sorted true false o fs ns os = sym (last-false fs)
 sorted true true false fs ns os = simp last-false
 sorted true true true fs ns os = refl
 
-module _ {A : Type 0} (limits : List (ℕ × ℕ)) (f : List ℕ → A) (limit : ℕ) (key : A → ℕ) (ok : A → Bool) where
+module _ {A : Type 0} (limits : List ℕ) (f : List ℕ → A) (limit : ℕ) (key : A → ℕ) (ok : A → Bool) where
   rows-in-order : (rs : List (List ℕ)) → allTails (inOrder limits f limit key ok) rs
-      ≡ all (λ r. all (atMost r) limits) rs && (numbered limit (map (λ r. key (f r)) rs) && all (λ r. ok (f r)) rs)
+      ≡ all (within limits) rs && (numbered limit (map (λ r. key (f r)) rs) && all (λ r. ok (f r)) rs)
   unfolding allTails all numbered inOrder
   rows-in-order [] = refl
   rows-in-order (r ∷ rs) =
       rw (rows-in-order rs)
-      (sorted (all (atMost r) limits) (numberOk limit (key (f r)) (map (λ s. key (f s)) rs)) (ok (f r))
-      (all (λ r. all (atMost r) limits) rs) (numbered limit (map (λ r. key (f r)) rs)) (all (λ r. ok (f r)) rs))
+      (sorted (within limits r) (numberOk limit (key (f r)) (map (λ s. key (f s)) rs)) (ok (f r))
+      (all (within limits) rs) (numbered limit (map (λ r. key (f r)) rs)) (all (λ r. ok (f r)) rs))
 
-  pub table-in-order : (k n : ℕ) (w : List ℕ)
-      → allTails (inOrder limits f limit key ok) (take (word w 0) (rows k n w)) ≡ tableInOrder limits k n f limit key ok w
+  pub table-in-order : (n : ℕ) (w : List ℕ)
+      → allTails (inOrder limits f limit key ok) (take (word w 0) (rows (length limits) n w)) ≡ tableInOrder limits n f limit key ok w
   unfolding tableInOrder
-  table-in-order k n w =
-      rw (rows-in-order (take (word w 0) (rows k n w)), fit-rows f k n w limits, ← (records-rows f k n w))
-      (rw (map-map f key (take (word w 0) (rows k n w)), all-map f ok (take (word w 0) (rows k n w))))
+  table-in-order n w =
+      let rs = take (word w 0) (rows (length limits) n w) in
+      rw (rows-in-order rs, fit-rows limits n w, ← (records-rows f (length limits) n w), map-map f key rs, all-map f ok rs)
 
 -- ---- one bound for two
 
@@ -150,12 +150,17 @@ rowUid r = uidOf (sessionOf r)
 abbrev pub sessionRule : List ℕ → List (List ℕ) → Bool
 sessionRule = inOrder sessionLimits sessionOf 16 uidOf (λ _. true)
 
-pub session-stands : (r : List ℕ) (later : List (List ℕ)) (uids : List ℕ) → allTails sessionRule later ≡ true
-    → uids ≡ byNumber rowUid (λ _. 1) 0 17 later → sessionStands uids r ≡ sessionRule r later
-unfolding sessionStands inOrder sessionOf all
-session-stands r later uids e q =
-    rw (free-number rowUid (λ _. 1) 0 sessionRule (λ _ _ _ z. let n : ⊥ = omega arith in n) 16 later uids (word r 0) (omega arith) e q)
-    (session-sorted (leb (word r 0) 65535) (numberOk 16 (word r 0 % 65536) (map rowUid later)) (leb (word r 1) 4294967295))
+session-words : (a b : ℕ) (later : List (List ℕ)) (uids : List ℕ) → allTails sessionRule later ≡ true
+    → uids ≡ byNumber rowUid (λ _. 1) 0 17 later → sessionStands uids (a ∷ b ∷ []) ≡ sessionRule (a ∷ b ∷ []) later
+unfolding sessionStands inOrder sessionOf within
+session-words a b later uids e q =
+    rw (free-number rowUid (λ _. 1) 0 sessionRule (λ _ _ _ z. let n : ⊥ = omega arith in n) 16 later uids a (omega arith) e q)
+    (session-sorted (leb a 65535) (numberOk 16 (a % 65536) (map rowUid later)) (leb b 4294967295))
+
+pub session-stands : (w : List ℕ) (i : ℕ) (later : List (List ℕ)) (uids : List ℕ) → length w ≡ 33 → i < 16 → allTails sessionRule later ≡ true
+    → uids ≡ byNumber rowUid (λ _. 1) 0 17 later → sessionStands uids (recordAt 2 w i) ≡ sessionRule (recordAt 2 w i) later
+session-stands w i later uids long few e q =
+    rw (part-row w (1 + 2 * i) 2 (omega arith)) (session-words (word w (1 + 2 * i)) (word w (1 + 2 * i + 1)) later uids e q)
 
 -- trees
 tree-sorted : (a o b b′ c c′ : Bool) → (a && o) && ((c && c′) && (b && b′)) ≡ (a && (b && (c && true))) && (o && (c′ && b′))
@@ -175,16 +180,23 @@ rowCode r = treeCode (treeOf r)
 abbrev pub treeRule : List ℕ → List ℕ → List (List ℕ) → Bool
 treeRule uids = inOrder treeLimits treeOf 32 tidOf (treeIn uids)
 
-pub tree-stands : (r : List ℕ) (later : List (List ℕ)) (uids codes : List ℕ) → length uids ≤ 65536 → allTails (treeRule uids) later ≡ true
-    → codes ≡ byNumber rowTid rowCode 0 33 later → treeStands uids codes r ≡ treeRule uids r later
-unfolding treeStands inOrder treeOf all treeIn marked
-tree-stands r later uids codes h e q =
+tree-words : (a b c : ℕ) (later : List (List ℕ)) (uids codes : List ℕ) → length uids ≤ 65536 → allTails (treeRule uids) later ≡ true
+    → codes ≡ byNumber rowTid rowCode 0 33 later → treeStands uids codes (a ∷ b ∷ c ∷ []) ≡ treeRule uids (a ∷ b ∷ c ∷ []) later
+unfolding treeStands inOrder treeOf within treeIn marked
+tree-words a b c later uids codes h e q =
     rw (
-      free-number rowTid rowCode 0 (treeRule uids) (λ _ _ _ z. let n : ⊥ = omega arith in n) 32 later codes (word r 0) (omega arith) e q,
-      bound (word r 2) 1 255 (omega arith),
-      looked uids (word r 1) 65535 0 (λ x. eqb x 1) h refl,
+      free-number rowTid rowCode 0 (treeRule uids) (λ _ _ _ z. let n : ⊥ = omega arith in n) 32 later codes a (omega arith) e q,
+      bound c 1 255 (omega arith),
+      looked uids b 65535 0 (λ x. eqb x 1) h refl,
     )
-    (tree-sorted (leb (word r 0) 65535) (numberOk 32 (word r 0 % 65536) (map rowTid later)) (leb (word r 1) 65535) (eqb (getD uids (word r 1 % 65536) 0) 1) (leb (word r 2) 255) (leb (word r 2 % 256) 1))
+    (tree-sorted (leb a 65535) (numberOk 32 (a % 65536) (map rowTid later)) (leb b 65535) (eqb (getD uids (b % 65536) 0) 1) (leb c 255) (leb (c % 256) 1))
+
+pub tree-stands : (w : List ℕ) (i : ℕ) (later : List (List ℕ)) (uids codes : List ℕ) → length w ≡ 97 → i < 32 → length uids ≤ 65536
+    → allTails (treeRule uids) later ≡ true → codes ≡ byNumber rowTid rowCode 0 33 later
+    → treeStands uids codes (recordAt 3 w i) ≡ treeRule uids (recordAt 3 w i) later
+tree-stands w i later uids codes long few h e q =
+    rw (part-row w (1 + 3 * i) 3 (omega arith))
+    (tree-words (word w (1 + 3 * i)) (word w (1 + 3 * i + 1)) (word w (1 + 3 * i + 2)) later uids codes h e q)
 
 -- opens
 open-sorted : (a o u t p e e′ g g′ h h′ : Bool) → (g ≡ true → h ≡ h′)
@@ -214,14 +226,14 @@ openRule codes = inOrder openLimits openOf 64 fidOf (openIn codes)
 open-some : (codes r : List ℕ) (later : List (List ℕ)) → openRule codes r later ≡ true → rowFile r ≡ 255 → ⊥
 unfolding inOrder openIn
 open-some codes r later e z =
-    let a = both-hold (all (atMost r) openLimits) _ e in
+    let a = both-hold (within openLimits r) _ e in
     let b = both-hold (numberOk 64 (rowFid r) (map rowFid later)) _ (a .1) in
     let c = both-hold (leb (rowFile r) 15) _ (b .1) in
     let small : rowFile r ≤ 15 = leb-true (rowFile r) 15 (c .0) in
     omega arith
 
 -- no code is 0
-code-none : (uid access : ℕ) → codeHolds 0 uid access ≡ false
+pub code-none : (uid access : ℕ) → codeHolds 0 uid access ≡ false
 unfolding codeHolds
 code-none uid access =
     rw (ne-eqb 0 (2 * uid + 2) (λ e. let n : ⊥ = omega arith in n), ne-eqb 0 (2 * uid + 1) (λ e. let n : ⊥ = omega arith in n))
@@ -236,56 +248,57 @@ holds-looked codes tid uid access h =
       | no k ↦ rw (lt-leb uid 65535 (omega arith))
     ])
 
-pub open-stands : (r : List ℕ) (later : List (List ℕ)) (codes files : List ℕ) → length codes ≤ 65536 → allTails (openRule codes) later ≡ true
-    → files ≡ byNumber rowFid rowFile 255 65 later → openStands codes files r ≡ openRule codes r later
-unfolding openStands inOrder openOf all openIn
-open-stands r later codes files h e q =
+open-words : (a b c d f g : ℕ) (later : List (List ℕ)) (codes files : List ℕ) → length codes ≤ 65536 → allTails (openRule codes) later ≡ true
+    → files ≡ byNumber rowFid rowFile 255 65 later
+    → openStands codes files (a ∷ b ∷ c ∷ d ∷ f ∷ g ∷ []) ≡ openRule codes (a ∷ b ∷ c ∷ d ∷ f ∷ g ∷ []) later
+unfolding openStands inOrder openOf within openIn
+open-words a b c d f g later codes files h e q =
     rw (
-      free-number rowFid rowFile 255 (openRule codes) (open-some codes) 64 later files (word r 0) (omega arith) e q,
-      bound (word r 4) 15 255 (omega arith),
-      bound (word r 5) 2 255 (omega arith),
-      holds-looked codes (word r 2) (word r 1) (word r 5) h,
+      free-number rowFid rowFile 255 (openRule codes) (open-some codes) 64 later files a (omega arith) e q,
+      bound f 15 255 (omega arith),
+      bound g 2 255 (omega arith),
+      holds-looked codes c b g h,
     )
-    (open-sorted (leb (word r 0) 65535) (numberOk 64 (word r 0 % 65536) (map rowFid later)) (leb (word r 1) 65535) (leb (word r 2) 65535)
-    (leb (word r 3) 4294967295) (leb (word r 4) 255) (leb (word r 4 % 256) 15) (leb (word r 5) 255) (leb (word r 5 % 256) 2)
-    (codeHolds (getD codes (word r 2 % 65536) 0) (word r 1 % 65536) (word r 5))
-    (codeHolds (getD codes (word r 2 % 65536) 0) (word r 1 % 65536) (word r 5 % 256))
-    (λ g. ap (codeHolds (getD codes (word r 2 % 65536) 0) (word r 1 % 65536)) (sym (uncut (word r 5) 255 (leb-true (word r 5) 255 g)))))
+    (open-sorted (leb a 65535) (numberOk 64 (a % 65536) (map rowFid later)) (leb b 65535) (leb c 65535) (leb d 4294967295) (leb f 255)
+    (leb (f % 256) 15) (leb g 255) (leb (g % 256) 2) (codeHolds (getD codes (c % 65536) 0) (b % 65536) g)
+    (codeHolds (getD codes (c % 65536) 0) (b % 65536) (g % 256))
+    (λ k. ap (codeHolds (getD codes (c % 65536) 0) (b % 65536)) (sym (uncut g 255 (leb-true g 255 k)))))
+
+pub open-stands : (w : List ℕ) (i : ℕ) (later : List (List ℕ)) (codes files : List ℕ) → length w ≡ 385 → i < 64 → length codes ≤ 65536
+    → allTails (openRule codes) later ≡ true → files ≡ byNumber rowFid rowFile 255 65 later
+    → openStands codes files (recordAt 6 w i) ≡ openRule codes (recordAt 6 w i) later
+open-stands w i later codes files long few h e q =
+    rw (part-row w (1 + 6 * i) 6 (omega arith))
+    (open-words (word w (1 + 6 * i)) (word w (1 + 6 * i + 1)) (word w (1 + 6 * i + 2)) (word w (1 + 6 * i + 3)) (word w (1 + 6 * i + 4)) (word w (1 + 6 * i + 5))
+    later codes files h e q)
 
 -- locks
-lock-sorted : (f p s e h : Bool) → s && (p && (e && (f && h))) ≡ (f && (p && (s && true))) && (e && h)
+lock-sorted : (f p s e h : Bool) → s && (p && (e && (f && h))) ≡ (f && (p && (true && (true && (s && true))))) && (e && h)
 lock-sorted f p false e h = simp last-false
 lock-sorted f false true e h = simp last-false
 lock-sorted f true true false h = simp last-false
 lock-sorted false true true true h = refl
 lock-sorted true true true true h = refl
 
-pub lock-stands : (r files : List ℕ) → length files ≤ 65536
-    → lockStands files r ≡ all (atMost r) lockLimits && lockFits (fileIn files) (lockOf r)
-unfolding lockStands lockFits lockOf all fileIn
-lock-stands r files h =
-    rw (looked files (word r 0) 65535 255 (λ x. not (eqb x 255)) h refl)
-    (lock-sorted (leb (word r 0) 65535) (leb (word r 1) 4294967295) (leb (word r 4) 1) (not (passesEnd (word r 2) (word r 3)))
-    (not (eqb (getD files (word r 0 % 65536) 255) 255)))
+-- a lock's rules by itself
+abbrev pub lockRule : List ℕ → List ℕ → Bool
+lockRule files r = within lockLimits r && lockFits (fileIn files) (lockOf r)
 
--- ---- how many records there are, and a lock as its words stand
+lock-words : (a b c d f : ℕ) (files : List ℕ) → c ≤ 18446744073709551615 → d ≤ 18446744073709551615 → length files ≤ 65536
+    → lockStands files (a ∷ b ∷ c ∷ d ∷ f ∷ []) ≡ lockRule files (a ∷ b ∷ c ∷ d ∷ f ∷ [])
+unfolding lockStands lockFits lockOf within fileIn
+lock-words a b c d f files u v h =
+    rw (looked files a 65535 255 (λ x. not (eqb x 255)) h refl, le-leb c 18446744073709551615 u, le-leb d 18446744073709551615 v)
+    (lock-sorted (leb a 65535) (leb b 4294967295) (leb f 1) (not (passesEnd c d)) (not (eqb (getD files (a % 65536) 255) 255)))
 
-pub length-treeArray : (w : List ℕ) → length (treeArray w) ≡ 32
-unfolding treeArray
-length-treeArray w = length-array treeOf 3 32 w
+pub lock-stands : (w : List ℕ) (i : ℕ) (files : List ℕ) → length w ≡ 641 → i < 128 → ((k : ℕ) → word w k ≤ 18446744073709551615) → length files ≤ 65536
+    → lockStands files (recordAt 5 w i) ≡ lockRule files (recordAt 5 w i)
+lock-stands w i files long few each h =
+    rw (part-row w (1 + 5 * i) 5 (omega arith))
+    (lock-words (word w (1 + 5 * i)) (word w (1 + 5 * i + 1)) (word w (1 + 5 * i + 2)) (word w (1 + 5 * i + 3)) (word w (1 + 5 * i + 4))
+    files (each (1 + 5 * i + 2)) (each (1 + 5 * i + 3)) h)
 
-pub length-openArray : (w : List ℕ) → length (openArray w) ≡ 64
-unfolding openArray
-length-openArray w = length-array openOf 6 64 w
-
-pub length-lockArray : (w : List ℕ) → length (lockArray w) ≡ 128
-unfolding lockArray
-length-lockArray w = length-array lockOf 5 128 w
-
-pub lock-row : (w : List ℕ) (i : ℕ) → i < 128 → length w ≡ 641 → getD (lockArray w) i noLock ≡ lockOf (row w (1 + 5 * i) 5)
-unfolding lockArray
-lock-row w i h long = record-at lockOf 5 128 w i noLock h long
-
+-- all locks in use
 all-both : {A : Type 0} (p q : A → Bool) (xs : List A) → all (λ x. p x && q x) xs ≡ all p xs && all q xs
 unfolding all
 all-both p q [] = refl
@@ -296,11 +309,15 @@ all-both p q (x ∷ xs) = rw (all-both p q xs) (both-sorted (p x) (q x) (all p x
     both-sorted true false c d = sym (last-false c)
     both-sorted true true c d = refl
 
--- all locks in use
-pub locks-stand : (w files : List ℕ) → length files ≤ 65536
-    → all (lockStands files) (take (word w 0) (rows 5 128 w)) ≡ recordsFit lockLimits 5 128 w && all (lockFits (fileIn files)) (take (word w 0) (lockArray w))
+pub locks-stand : (w files : List ℕ)
+    → all (lockRule files) (take (word w 0) (rows 5 128 w)) ≡ tableFits lockLimits 128 w && all (lockFits (fileIn files)) (take (word w 0) (lockArray w))
 unfolding lockArray
-locks-stand w files h =
-    ap (λ (p : List ℕ → Bool). all p (take (word w 0) (rows 5 128 w))) (fun-ext (λ r. lock-stands r files h))
-    ∙ all-both (λ r. all (atMost r) lockLimits) (λ r. lockFits (fileIn files) (lockOf r)) (take (word w 0) (rows 5 128 w))
-    ∙ rw (fit-rows lockOf 5 128 w lockLimits, ← (records-rows lockOf 5 128 w), all-map lockOf (lockFits (fileIn files)) (take (word w 0) (rows 5 128 w)))
+locks-stand w files =
+    let rs = take (word w 0) (rows 5 128 w) in
+    all-both (within lockLimits) (λ r. lockFits (fileIn files) (lockOf r)) rs
+    ∙ rw (fit-rows lockLimits 128 w, ← (records-rows lockOf 5 128 w), all-map lockOf (lockFits (fileIn files)) rs)
+
+-- a lock as its words stand
+pub lock-row : (w : List ℕ) (i : ℕ) → i < 128 → length w ≡ 641 → getD (lockArray w) i noLock ≡ lockOf (row w (1 + 5 * i) 5)
+unfolding lockArray
+lock-row w i h long = record-at lockOf 5 128 w i noLock h long

@@ -8,3 +8,4 @@ pub mod InWords
 pub mod InWordsLaws
 pub mod RowWalk
 pub mod AgreeLaws
+pub mod WholeLaws

@@ -46,27 +46,27 @@ module _ {key value : List ℕ → ℕ} {none size : ℕ} {rule : List ℕ → L
     pub row-no : rule (recordAt k w (i - 1)) (rest (rows k room w) n i) ≡ false → allTails rule (take n (rows k room w)) ≡ false
     row-no e = marked-no i table m [] h l inside (rw row e)
 
-module _ {A : Type 0} (limits : List (ℕ × ℕ)) (k n : ℕ) (f : List ℕ → A) (limit : ℕ) (key : A → ℕ) (ok : A → Bool) (value : A → ℕ) (none size : ℕ) (w table : List ℕ) where
+module _ {A : Type 0} (limits : List ℕ) (n : ℕ) (f : List ℕ → A) (limit : ℕ) (key : A → ℕ) (ok : A → Bool) (value : A → ℕ) (none size : ℕ) (w table : List ℕ) where
   -- all records in use keep the rules, and stand in the table
-  pub told-yes : Marked (λ r. key (f r)) (λ r. value (f r)) none size (inOrder limits f limit key ok) (rows k n w) (word w 0) 0 table
-      → Told (tableInOrder limits k n f limit key ok w) (byNumber key value none size (take (word w 0) (arrayOf f k n w))) true table
+  pub told-yes : Marked (λ r. key (f r)) (λ r. value (f r)) none size (inOrder limits f limit key ok) (rows (length limits) n w) (word w 0) 0 table
+      → Told (tableInOrder limits n f limit key ok w) (byNumber key value none size (take (word w 0) (arrayOf f (length limits) n w))) true table
   unfolding byNumber
   told-yes m =
       record {
-        says = sym (sym (table-in-order limits f limit key ok k n w) ∙ m .keeps);
+        says = sym (sym (table-in-order limits f limit key ok n w) ∙ m .keeps);
         made =
             λ _.
             m .made
-            ∙ upTo-same (entry key value none (take (word w 0) (arrayOf f k n w))) (entry (λ r. key (f r)) (λ r. value (f r)) none (take (word w 0) (rows k n w)))
-            (λ j. entry-map f key value none (take (word w 0) (rows k n w)) j ∙ ap (λ l. entry key value none l j) (records-rows f k n w))
+            ∙ upTo-same (entry key value none (take (word w 0) (arrayOf f (length limits) n w))) (entry (λ r. key (f r)) (λ r. value (f r)) none (take (word w 0) (rows (length limits) n w)))
+            (λ j. entry-map f key value none (take (word w 0) (rows (length limits) n w)) j ∙ ap (λ l. entry key value none l j) (records-rows f (length limits) n w))
             size;
       }
 
   -- one does not
-  pub told-no : allTails (inOrder limits f limit key ok) (take (word w 0) (rows k n w)) ≡ false
-      → Told (tableInOrder limits k n f limit key ok w) (byNumber key value none size (take (word w 0) (arrayOf f k n w))) false table
+  pub told-no : allTails (inOrder limits f limit key ok) (take (word w 0) (rows (length limits) n w)) ≡ false
+      → Told (tableInOrder limits n f limit key ok w) (byNumber key value none size (take (word w 0) (arrayOf f (length limits) n w))) false table
   told-no e =
       record {
-        says = sym (sym (table-in-order limits f limit key ok k n w) ∙ e);
+        says = sym (sym (table-in-order limits f limit key ok n w) ∙ e);
         made = λ q. absurd (false≢true q);
       }

@@ -13,3 +13,4 @@ mod session_words;
 pub mod sound;
 pub mod tree;
 mod tree_words;
+pub mod whole;

@@ -14,7 +14,7 @@ ghost use lib.Dec.{eqb};
 ghost use Rattle.lists.specs.Walk.{all, rest};
 ghost use Rattle.records.specs.Empty.{noLock};
 ghost use Rattle.locks.specs.Answer.{fileIn};
-ghost use Rattle.tables.specs.Words.{word, recordAt, lockArray, lockLimits, recordsFit};
+ghost use Rattle.tables.specs.Words.{word, recordAt, lockArray, lockLimits, tableFits};
 ghost use Rattle.tables.specs.Written.{locksIn};
 ghost use Rattle.soundness.specs.Sound.{agree, agreeAll};
 ghost use Rattle.soundness.specs.LockFits.{lockFits};
@@ -46,7 +46,7 @@ fn lock_stands(files: &[u8], words: &[u64], i: usize) -> bool
 // The rules for each lock in use by itself.
 pub(crate) fn locks_fit(files: &[u8; 65], words: &[u64]) -> bool
     requires { ⌜ (length (now files) ≡ 65) × ((length (now words) ≡ 641) × (word (now words) 0 ≤ 128)) ⌝ }
-    ensures { λ r. ⌜ r ≡ recordsFit lockLimits 5 128 (now (words .entry)) && all (lockFits (fileIn (now (files .entry)))) (locksIn (now (words .entry))) ⌝ }
+    ensures { λ r. ⌜ r ≡ tableFits lockLimits 128 (now (words .entry)) && all (lockFits (fileIn (now (files .entry)))) (locksIn (now (words .entry))) ⌝ }
 {
     let count = words[0] as usize;
     let mut i: usize = 0;

@@ -85,7 +85,7 @@ fn open_stands(codes: &[u8; 33], files: &[u8; 65], words: &[u64], i: usize) -> b
 // The rules for each open in use; `codes` has the trees.
 pub(crate) fn opens_marked(codes: &[u8; 33], words: &[u64]) -> Opens
     requires { ⌜ (length (now codes) ≡ 33) × ((length (now words) ≡ 385) × (word (now words) 0 ≤ 64)) ⌝ }
-    ensures { λ r. ⌜ Told (tableInOrder openLimits 6 64 openOf 64 fidOf (openIn (now (codes .entry))) (now (words .entry))) (byNumber fidOf (λ o. o .file) 255 65 (opensIn (now (words .entry)))) (r .sound) (r .files) ⌝ }
+    ensures { λ r. ⌜ Told (tableInOrder openLimits 64 openOf 64 fidOf (openIn (now (codes .entry))) (now (words .entry))) (byNumber fidOf (λ o. o .file) 255 65 (opensIn (now (words .entry)))) (r .sound) (r .files) ⌝ }
 {
     let mut files = [255u8; 65];
     let mut i = words[0] as usize;

@@ -32,7 +32,7 @@ fn session_stands(uids: &[u8; 17], words: &[u64], i: usize) -> bool
 // The rules for each session in use.
 pub(crate) fn sessions_marked(words: &[u64]) -> Sessions
     requires { ⌜ (length (now words) ≡ 33) × (word (now words) 0 ≤ 16) ⌝ }
-    ensures { λ r. ⌜ Told (tableInOrder sessionLimits 2 16 sessionOf 16 uidOf (λ _. true) (now (words .entry))) (byNumber uidOf (λ _. 1) 0 17 (sessionsIn (now (words .entry)))) (r .sound) (r .uids) ⌝ }
+    ensures { λ r. ⌜ Told (tableInOrder sessionLimits 16 sessionOf 16 uidOf (λ _. true) (now (words .entry))) (byNumber uidOf (λ _. 1) 0 17 (sessionsIn (now (words .entry)))) (r .sound) (r .uids) ⌝ }
 {
     let mut uids = [0u8; 17];
     let mut i = words[0] as usize;

@@ -36,7 +36,7 @@ fn tree_stands(uids: &[u8; 17], codes: &[u8; 33], words: &[u64], i: usize) -> bo
 // The rules for each tree in use; `uids` marks the UIDs of the sessions.
 pub(crate) fn trees_marked(uids: &[u8; 17], words: &[u64]) -> Trees
     requires { ⌜ (length (now uids) ≡ 17) × ((length (now words) ≡ 97) × (word (now words) 0 ≤ 32)) ⌝ }
-    ensures { λ r. ⌜ Told (tableInOrder treeLimits 3 32 treeOf 32 tidOf (treeIn (now (uids .entry))) (now (words .entry))) (byNumber tidOf treeCode 0 33 (treesIn (now (words .entry)))) (r .sound) (r .codes) ⌝ }
+    ensures { λ r. ⌜ Told (tableInOrder treeLimits 32 treeOf 32 tidOf (treeIn (now (uids .entry))) (now (words .entry))) (byNumber tidOf treeCode 0 33 (treesIn (now (words .entry)))) (r .sound) (r .codes) ⌝ }
 {
     let mut codes = [0u8; 33];
     let mut i = words[0] as usize;

@@ -11,7 +11,7 @@ use Rattle.lists.specs.WalkLaws.{all-end, all-yes, all-no}
 use Rattle.records.specs.Empty.{noLock}
 use Rattle.locks.specs.Answer.{fileIn}
 use Rattle.tables.specs.Words.{word, lockArray}
-use Rattle.soundness.specs.InWordsLaws.{length-lockArray}
+use Rattle.tables.specs.ChangeLaws.{length-lockArray}
 use Rattle.soundness.specs.Sound.{agree}
 use Rattle.soundness.specs.AgreeLaws.{inBounds, all-at, within, agree-empty}
 use Rattle.soundness.proofs.lock_words.agrees_later.Statement.{statement}

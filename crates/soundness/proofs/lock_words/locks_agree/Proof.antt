@@ -12,7 +12,7 @@ use Rattle.records.specs.Empty.{noLock}
 use Rattle.locks.specs.Answer.{fileIn}
 use Rattle.tables.specs.Words.{word, lockArray}
 use Rattle.tables.specs.Written.{locksIn}
-use Rattle.soundness.specs.InWordsLaws.{length-lockArray}
+use Rattle.tables.specs.ChangeLaws.{length-lockArray}
 use Rattle.soundness.specs.Sound.{agree, agreeAll}
 use Rattle.soundness.proofs.lock_words.locks_agree.Statement.{statement}
 use Rattle.soundness.proofs.lock_words.locks_agree.Tie as tie

@@ -10,15 +10,15 @@ use Rattle.lists.specs.Walk.{all, rest}
 use Rattle.lists.specs.WalkLaws.{all-end, all-yes, all-no}
 use Rattle.tables.specs.Words.{word, recordAt}
 use Rattle.tables.specs.ArrayLaws.{length-upTo, getD-upTo}
-use Rattle.soundness.specs.InWords.{rows, lockStands}
-use Rattle.soundness.specs.InWordsLaws.{locks-stand}
+use Rattle.soundness.specs.InWords.{rows}
+use Rattle.soundness.specs.InWordsLaws.{lockRule, lock-stands, locks-stand}
 use Rattle.soundness.proofs.lock_words.locks_fit.Statement.{statement}
 use Rattle.soundness.proofs.lock_words.locks_fit.Tie as tie
 use borrow.Author.Needs.{needs}
 use native.Mathlib.Omega.{arith}
 
 abbrev Inv-loop : tie.InvT-loop
-Inv-loop files words count i₀ i = (i ≤ count) × (all (lockStands files) (take (word words 0) (rows 5 128 words)) ≡ all (lockStands files) (rest (rows 5 128 words) (word words 0) i))
+Inv-loop files words count i₀ i = (i ≤ count) × (all (lockRule files) (take (word words 0) (rows 5 128 words)) ≡ all (lockRule files) (rest (rows 5 128 words) (word words 0) i))
 
 abbrev μ-loop : tie.MeasureT-loop
 μ-loop files words count i₀ i = count - i
@@ -40,11 +40,12 @@ returns c =
     let w = args .words .now in
     let stands = c .before .lock-stands in
     let long : length (rows 5 128 w) ≡ 128 = length-upTo (recordAt 5 w) 128 in
+    let rule = lock-stands w (loop .i) (args .files .now) (pre .1 .0) (omega arith) (λ k. omega (arith, c .before .before .before .before .before .shared-slice-known2 .given k)) (omega arith) in
     let row = getD-upTo (recordAt 5 w) 128 (loop .i) [] (omega arith) in
-    let fails : lockStands (args .files .now) (getD (rows 5 128 w) (loop .i) []) ≡ false =
-    ap (lockStands (args .files .now)) row ∙ sym (stands .ensures) ∙ not-true (stands .result) (c .if1 .taken)
+    let fails : lockRule (args .files .now) (getD (rows 5 128 w) (loop .i) []) ≡ false =
+    ap (lockRule (args .files .now)) row ∙ sym rule ∙ sym (stands .ensures) ∙ not-true (stands .result) (c .if1 .taken)
     in
-    sym (sym (locks-stand w (args .files .now) (omega arith)) ∙ loop .inv .1 ∙ all-no (rows 5 128 w) (word w 0) (loop .i) [] (omega arith) (omega arith) (lockStands (args .files .now)) fails)
+    sym (sym (locks-stand w (args .files .now)) ∙ loop .inv .1 ∙ all-no (rows 5 128 w) (word w 0) (loop .i) [] (omega arith) (omega arith) (lockRule (args .files .now)) fails)
 
 add-i : tie.Need-add-i Inv-loop μ-loop
 add-i c = omega arith
@@ -60,11 +61,12 @@ loop-again c =
     let w = args .words .now in
     let stands = c .before .lock-stands in
     let long : length (rows 5 128 w) ≡ 128 = length-upTo (recordAt 5 w) 128 in
+    let rule = lock-stands w (loop .i) (args .files .now) (pre .1 .0) (omega arith) (λ k. omega (arith, c .before .before .before .before .before .shared-slice-known2 .given k)) (omega arith) in
     let row = getD-upTo (recordAt 5 w) 128 (loop .i) [] (omega arith) in
-    let holds : lockStands (args .files .now) (getD (rows 5 128 w) (loop .i) []) ≡ true =
-    ap (lockStands (args .files .now)) row ∙ sym (stands .ensures) ∙ not-false (stands .result) (c .if1 .left)
+    let holds : lockRule (args .files .now) (getD (rows 5 128 w) (loop .i) []) ≡ true =
+    ap (lockRule (args .files .now)) row ∙ sym rule ∙ sym (stands .ensures) ∙ not-false (stands .result) (c .if1 .left)
     in
-    (omega arith, loop .inv .1 ∙ all-yes (rows 5 128 w) (word w 0) (loop .i) [] (omega arith) (omega arith) (lockStands (args .files .now)) holds)
+    (omega arith, loop .inv .1 ∙ all-yes (rows 5 128 w) (word w 0) (loop .i) [] (omega arith) (omega arith) (lockRule (args .files .now)) holds)
 
 returns-2 : tie.Need-returns-2 Inv-loop μ-loop
 returns-2 c =
@@ -72,7 +74,7 @@ returns-2 c =
     let pre = c .before .before .before .before .pre in
     let loop = c .before .loop in
     let w = args .words .now in
-    sym (sym (locks-stand w (args .files .now) (omega arith)) ∙ loop .inv .1 ∙ all-end (rows 5 128 w) (word w 0) (lockStands (args .files .now)) (loop .i) (c .loop-test .left))
+    sym (sym (locks-stand w (args .files .now)) ∙ loop .inv .1 ∙ all-end (rows 5 128 w) (word w 0) (lockRule (args .files .now)) (loop .i) (c .loop-test .left))
 
 pub locks-fit-spec : {M : Type 1} → statement M
 locks-fit-spec =

@@ -7,7 +7,7 @@ use lib.Seq.{set-out}
 use Rattle.lists.specs.Walk.{rest, rest-most}
 use Rattle.records.specs.Empty.{noOpen}
 use Rattle.tables.specs.Words.{word, openArray}
-use Rattle.soundness.specs.InWordsLaws.{length-openArray}
+use Rattle.tables.specs.ChangeLaws.{length-openArray}
 use Rattle.soundness.specs.File.{fileOf, tabulate, fileTable, length-fileTable, fileTable-turn}
 use Rattle.soundness.proofs.open_words.file_table.Statement.{statement}
 use Rattle.soundness.proofs.open_words.file_table.Tie as tie

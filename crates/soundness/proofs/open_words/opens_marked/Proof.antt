@@ -72,8 +72,8 @@ returns c =
     let loop = c .before .before .before .before .loop in
     let w = args .words .now in
     let stands = c .before .open-stands in
-    let rule = open-stands (recordAt 6 w (loop .i - 1)) (rest (rows 6 64 w) (word w 0) (loop .i)) (args .codes .now) (loop .files) (omega arith) (loop .inv .1 .keeps) (loop .inv .1 .made) in
-    told-no openLimits 6 64 openOf 64 fidOf (openIn (args .codes .now)) (λ o. o .file) 255 65 w (loop .files)
+    let rule = open-stands w (loop .i - 1) (rest (rows 6 64 w) (word w 0) (loop .i)) (args .codes .now) (loop .files) (pre .1 .0) (omega arith) (omega arith) (loop .inv .1 .keeps) (loop .inv .1 .made) in
+    told-no openLimits 64 openOf 64 fidOf (openIn (args .codes .now)) (λ o. o .file) 255 65 w (loop .files)
     (row-no 6 64 w (loop .i) (loop .files) (loop .inv .1) (c .before .before .before .loop-test .taken) (loop .inv .0) (omega arith)
     (sym rule ∙ sym (stands .ensures) ∙ not-true (stands .result) (c .if1 .taken)))
 
@@ -129,7 +129,7 @@ loop-again c =
     let w = args .words .now in
     let stands = c .before .before .before .open-stands in
     let n = open-numbers w (loop .i - 1) (args .codes .now) (loop .files) (pre .1 .0) (omega arith) (marked-length 6 64 w (loop .inv .1)) (sym (stands .ensures) ∙ not-false (stands .result) (c .before .before .if1 .left)) in
-    let rule = open-stands (recordAt 6 w (loop .i - 1)) (rest (rows 6 64 w) (word w 0) (loop .i)) (args .codes .now) (loop .files) (omega arith) (loop .inv .1 .keeps) (loop .inv .1 .made) in
+    let rule = open-stands w (loop .i - 1) (rest (rows 6 64 w) (word w 0) (loop .i)) (args .codes .now) (loop .files) (pre .1 .0) (omega arith) (omega arith) (loop .inv .1 .keeps) (loop .inv .1 .made) in
     (omega arith, row-yes 6 64 w (loop .i) (loop .files) (loop .inv .1) (c .before .before .before .before .before .loop-test .taken) (loop .inv .0) (omega arith) _ _ (sym rule ∙ sym (stands .ensures) ∙ not-false (stands .result) (c .before .before .if1 .left)) (n .fid-same) (n .file-same) (n .fid-small))
 
 returns-2 : tie.Need-returns-2 Inv-loop μ-loop
@@ -138,7 +138,7 @@ returns-2 c =
     let args = c .before .before .before .before .args in
     let loop = c .before .loop in
     let z : loop .i ≡ 0 = omega arith in
-    told-yes openLimits 6 64 openOf 64 fidOf (openIn (args .codes .now)) (λ o. o .file) 255 65 (args .words .now) (loop .files) (rw z at (loop .inv .1))
+    told-yes openLimits 64 openOf 64 fidOf (openIn (args .codes .now)) (λ o. o .file) 255 65 (args .words .now) (loop .files) (rw z at (loop .inv .1))
 
 pub opens-marked-spec : {M : Type 1} → statement M
 opens-marked-spec =

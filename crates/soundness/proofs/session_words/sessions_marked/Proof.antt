@@ -56,8 +56,8 @@ returns c =
     let loop = c .before .before .before .before .loop in
     let pre = c .before .before .before .before .before .before .before .pre in
     let stands = c .before .session-stands in
-    let fails = session-stands (recordAt 2 w (loop .i - 1)) (rest (rows 2 16 w) (word w 0) (loop .i)) (loop .uids) (loop .inv .1 .keeps) (loop .inv .1 .made) in
-    told-no sessionLimits 2 16 sessionOf 16 uidOf (λ _. true) (λ _. 1) 0 17 w (loop .uids)
+    let fails = session-stands w (loop .i - 1) (rest (rows 2 16 w) (word w 0) (loop .i)) (loop .uids) (pre .0) (omega arith) (loop .inv .1 .keeps) (loop .inv .1 .made) in
+    told-no sessionLimits 16 sessionOf 16 uidOf (λ _. true) (λ _. 1) 0 17 w (loop .uids)
     (row-no 2 16 w (loop .i) (loop .uids) (loop .inv .1) (c .before .before .before .loop-test .taken) (loop .inv .0) (omega arith)
     (sym fails ∙ sym (stands .ensures) ∙ not-true (stands .result) (c .if1 .taken)))
 
@@ -93,7 +93,7 @@ loop-again c =
     let stands = c .before .before .session-stands in
     let stood = sym (stands .ensures) ∙ not-false (stands .result) (c .before .if1 .left) in
     let u = session-uid w (loop .i - 1) (loop .uids) (pre .0) (omega arith) (marked-length 2 16 w (loop .inv .1)) stood in
-    let holds = session-stands (recordAt 2 w (loop .i - 1)) (rest (rows 2 16 w) (word w 0) (loop .i)) (loop .uids) (loop .inv .1 .keeps) (loop .inv .1 .made) in
+    let holds = session-stands w (loop .i - 1) (rest (rows 2 16 w) (word w 0) (loop .i)) (loop .uids) (pre .0) (omega arith) (loop .inv .1 .keeps) (loop .inv .1 .made) in
     (omega arith, row-yes 2 16 w (loop .i) (loop .uids) (loop .inv .1) (c .before .before .before .before .loop-test .taken) (loop .inv .0) (omega arith) _ 1 (sym holds ∙ stood) (u .1) refl (u .0))
 
 returns-2 : tie.Need-returns-2 Inv-loop μ-loop
@@ -102,7 +102,7 @@ returns-2 c =
     let w = c .before .before .before .before .args .words .now in
     let loop = c .before .loop in
     let z : loop .i ≡ 0 = omega arith in
-    told-yes sessionLimits 2 16 sessionOf 16 uidOf (λ _. true) (λ _. 1) 0 17 w (loop .uids) (rw z at (loop .inv .1))
+    told-yes sessionLimits 16 sessionOf 16 uidOf (λ _. true) (λ _. 1) 0 17 w (loop .uids) (rw z at (loop .inv .1))
 
 pub sessions-marked-spec : {M : Type 1} → statement M
 sessions-marked-spec =

@@ -75,8 +75,8 @@ returns c =
     let loop = c .before .before .before .before .loop in
     let w = args .words .now in
     let stands = c .before .tree-stands in
-    let rule = tree-stands (recordAt 3 w (loop .i - 1)) (rest (rows 3 32 w) (word w 0) (loop .i)) (args .uids .now) (loop .codes) (omega arith) (loop .inv .1 .keeps) (loop .inv .1 .made) in
-    told-no treeLimits 3 32 treeOf 32 tidOf (treeIn (args .uids .now)) treeCode 0 33 w (loop .codes)
+    let rule = tree-stands w (loop .i - 1) (rest (rows 3 32 w) (word w 0) (loop .i)) (args .uids .now) (loop .codes) (pre .1 .0) (omega arith) (omega arith) (loop .inv .1 .keeps) (loop .inv .1 .made) in
+    told-no treeLimits 32 treeOf 32 tidOf (treeIn (args .uids .now)) treeCode 0 33 w (loop .codes)
     (row-no 3 32 w (loop .i) (loop .codes) (loop .inv .1) (c .before .before .before .loop-test .taken) (loop .inv .0) (omega arith)
     (sym rule ∙ sym (stands .ensures) ∙ not-true (stands .result) (c .if1 .taken)))
 
@@ -171,7 +171,7 @@ loop-again c =
     let w = args .words .now in
     let stands = c .before .before .before .before .tree-stands in
     let n = tree-numbers w (loop .i - 1) (args .uids .now) (loop .codes) (pre .1 .0) (omega arith) (pre .0) (marked-length 3 32 w (loop .inv .1)) (sym (stands .ensures) ∙ not-false (stands .result) (c .before .before .before .if1 .left)) in
-    let rule = tree-stands (recordAt 3 w (loop .i - 1)) (rest (rows 3 32 w) (word w 0) (loop .i)) (args .uids .now) (loop .codes) (omega arith) (loop .inv .1 .keeps) (loop .inv .1 .made) in
+    let rule = tree-stands w (loop .i - 1) (rest (rows 3 32 w) (word w 0) (loop .i)) (args .uids .now) (loop .codes) (pre .1 .0) (omega arith) (omega arith) (loop .inv .1 .keeps) (loop .inv .1 .made) in
     (omega arith, row-yes 3 32 w (loop .i) (loop .codes) (loop .inv .1) (c .before .before .before .before .before .before .loop-test .taken) (loop .inv .0) (omega arith) _ _ (sym rule ∙ sym (stands .ensures) ∙ not-false (stands .result) (c .before .before .before .if1 .left)) (n .tid-same) (n .code-same) (n .tid-small))
 
 returns-2 : tie.Need-returns-2 Inv-loop μ-loop
@@ -180,7 +180,7 @@ returns-2 c =
     let args = c .before .before .before .before .args in
     let loop = c .before .loop in
     let z : loop .i ≡ 0 = omega arith in
-    told-yes treeLimits 3 32 treeOf 32 tidOf (treeIn (args .uids .now)) treeCode 0 33 (args .words .now) (loop .codes) (rw z at (loop .inv .1))
+    told-yes treeLimits 32 treeOf 32 tidOf (treeIn (args .uids .now)) treeCode 0 33 (args .words .now) (loop .codes) (rw z at (loop .inv .1))
 
 pub trees-marked-spec : {M : Type 1} → statement M
 trees-marked-spec =
