@@ -1,1 +1,2 @@
 pub mod HostCall
+pub mod OnWords

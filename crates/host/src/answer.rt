@@ -28,6 +28,12 @@ pub struct Answer {
     pub tables: Tables,
 }
 
+// The same of a call on the words: the tables after the call are in the words.
+pub struct Outcome {
+    pub number: u8,
+    pub id: u16,
+}
+
 // A refusal: the tables as they were.
 pub(crate) fn refuse(t: Tables, number: u8) -> Answer
     ensures { λ r. ⌜ r ≡ refused number t ⌝ }

@@ -5,4 +5,7 @@ pub mod add;
 pub mod answer;
 pub mod drop;
 pub mod load;
+pub mod open;
+pub mod session;
 pub mod start;
+pub mod tree;

@@ -60,7 +60,7 @@ fn load_number(t: Tables, file: u8, size: usize, memory: usize) -> u8
 }
 
 // The bytes, and zeros behind them.
-fn fill_file(contents: &[u8], room: &mut [u8])
+pub(crate) fn fill_file(contents: &[u8], room: &mut [u8])
     requires { ⌜ length (now contents) ≤ length (now room) ⌝ }
     ensures { λ _. ⌜ now (room .exit) ≡ now (contents .entry) ++ replicate (length (now (room .entry)) - length (now (contents .entry))) 0 ⌝ }
 {
