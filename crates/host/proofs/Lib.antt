@@ -1,2 +1,4 @@
 pub mod Loaded
 pub mod Appending
+pub mod Leaving
+pub mod Emptied

@@ -1,19 +1,19 @@
 -- The bytes of a load, in their room and in the file memory, and what a load that is not refused is known to be.
 -- Assumes nothing.
 use mathlib.Core.Path.{_≡_, refl, sym, ap, _∙_}
-use Prim.Native.Nat.{ℕ, suc, _+_, _-_, _≤_}
+use Prim.Native.Nat.{ℕ, suc, _+_, _-_, _*_, _≤_}
 use mathlib.Core.Bool.{Bool, true, false, cond, not, _||_}
 use mathlib.Core.List.{List, _++_, append-nil}
 use lib.ListN.{length, take, drop, replicate, length-append, length-replicate, length-take, length-drop, drop-of-length-le}
 use lib.Seq.{take-all, take-length, take-at, drop-drop}
 use lib.Dec.{eqb, ltb}
-use borrow.Author.Tests.{eqb-true, ltb-false, not-false}
+use borrow.Author.Tests.{ne-eqb, eqb-true, ltb-false, not-false}
 use native.Mathlib.Omega.{arith}
 use Rattle.lists.specs.Put.{put}
 use Rattle.lists.specs.Truth.{neither-holds}
 use Rattle.records.specs.declared.Tables.{Tables}
 use Rattle.soundness.specs.Sound.{sound}
-use Rattle.host.specs.HostCall.{loadNumber}
+use Rattle.host.specs.HostCall.{refused, done, loadNumber, withSize, loadFile, loadMemory}
 
 -- bytes copied to the front of a room, and the part behind them cleared
 pub copied-cleared : (s d l e : List ℕ) (n : ℕ) → length s ≤ length d → n ≡ length s → l ≡ take (length s) s ++ drop (length s) d
@@ -61,3 +61,15 @@ loadable t file size memory e =
       known-file = ltb-false 15 file (n .0);
       fitting = ltb-false 4096 size (n .1);
     }
+
+-- a load with a whole file memory, by its refusal
+module _ (t : Tables) (file : ℕ) (bytes memory : List ℕ) (k : ℕ) (full : length memory ≡ 65536) (e : k ≡ loadNumber t file (length bytes) 65536) where
+  pub load-refused : (k ≡ 0 → ⊥) → (loadFile t file bytes memory ≡ refused k t) × (loadMemory t file bytes memory ≡ memory)
+  unfolding loadFile loadMemory
+  load-refused n = rw (full, sym e, ne-eqb k 0 n) (refl, refl)
+
+  pub load-done : k ≡ 0
+      → (loadFile t file bytes memory ≡ done 0 (withSize t file (length bytes)))
+      × (loadMemory t file bytes memory ≡ put memory (file * 4096) (bytes ++ replicate (4096 - length bytes) 0))
+  unfolding loadFile loadMemory
+  load-done z = rw (full, sym e, z) (refl, refl)

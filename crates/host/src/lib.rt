@@ -3,7 +3,10 @@
 
 pub mod add;
 pub mod answer;
+pub mod connection;
 pub mod drop;
+pub mod empty;
+pub mod file;
 pub mod load;
 pub mod open;
 pub mod session;

@@ -1,0 +1,65 @@
+-- What a call leaves in each of its ends: refused, or done.
+-- Assumes nothing.
+use mathlib.Core.Path.{_≡_, refl, sym, ap, _∙_}
+use Prim.Native.Nat.{ℕ, _+_, _<_, _≤_}
+use mathlib.Core.Bool.{Bool, true, false, not, _&&_}
+use mathlib.Core.List.{List, map}
+use native.Mathlib.Omega.{arith}
+use lib.ListN.{length, drop}
+use lib.Seq.{getD-take, getD-drop}
+use Rattle.lists.specs.Truth.{both-hold, test-cases}
+use Rattle.lists.specs.Walk.{all}
+use Rattle.records.specs.declared.Tables.{Tables}
+use Rattle.records.specs.Held.{sessionsOf, treesOf, opensOf, locksOf}
+use Rattle.numbers.specs.Number.{numbered}
+use Rattle.numbers.specs.Column.{uidOf, tidOf, fidOf}
+use Rattle.soundness.specs.Sound.{sound, soundRecords, soundLocks, withinRoom, fileOk}
+use Rattle.removal.specs.Filter.{Numbered}
+use Rattle.tables.specs.Words.{word, part, tablesOf, inUseFit}
+use Rattle.host.specs.declared.answer.Answer.{Answer}
+use Rattle.host.specs.HostCall.{refused, done}
+use Rattle.host.specs.OnWords.{onWords, Left}
+
+-- the first word of a part, as code reads it
+pub first-word : (w : List ℕ) (from n : ℕ) → 0 < n → word (part w from n) 0 ≡ word w from
+first-word w from n h =
+    let here : from + 0 ≡ from = omega arith in
+    getD-take n (drop from w) 0 0 h ∙ getD-drop from w 0 0 ∙ ap (word w) here
+
+-- ---- how a call ends
+
+pub left-refused : (w : List ℕ) (n : ℕ) (a : Answer) → a ≡ refused n (tablesOf w) → Left a w w (record { number = n; id = 0 })
+unfolding refused
+left-refused w n a e =
+    record {
+      row = rw e;
+      given = rw e;
+      tables = rw e;
+      stays = λ _. refl;
+      fit = λ f. f;
+    }
+
+pub left-done : (w v : List ℕ) (id : ℕ) (a : Answer) (t : Tables) → a ≡ done id t → tablesOf v ≡ t → (inUseFit w ≡ true → inUseFit v ≡ true)
+    → Left a w v (record { number = 0; id = id })
+unfolding done
+left-done w v id a t e held fit =
+    record {
+      row = rw e;
+      given = rw e;
+      tables = rw e held;
+      stays = λ n. absurd (n refl);
+      fit = fit;
+    }
+
+-- ---- what sound tables are known for
+
+pub sound-numbered : (t : Tables) → sound t ≡ true → Numbered t
+unfolding sound soundRecords
+sound-numbered t e =
+    let a = both-hold (withinRoom (t .nsessions) (t .ntrees) (t .nopens) (t .nlocks)) _ e in
+    let b = both-hold (all fileOk (t .files)) _ (a .1) in
+    let c = both-hold (soundRecords (sessionsOf t) (treesOf t) (opensOf t)) (soundLocks (opensOf t) (locksOf t)) (b .1) in
+    let d = both-hold (numbered 16 (map uidOf (sessionsOf t))) _ (c .0) in
+    let f = both-hold (numbered 32 (map tidOf (treesOf t))) _ (d .1) in
+    let g = both-hold (numbered 64 (map fidOf (opensOf t))) _ (f .1) in
+    record { uids = d .0; tids = f .0; fids = g .0 }

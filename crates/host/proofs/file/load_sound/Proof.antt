@@ -1,0 +1,116 @@
+-- `host::file::load_sound` meets its contract: a load that is not refused fits its room, the file's part of the memory is what was
+-- filled, and one size is written.
+-- Assumes nothing.
+use borrow.Author.Needs.{needs}
+use mathlib.Core.Path.{_≡_, refl, sym, ap, _∙_}
+use Prim.Native.Nat.{_+_, _*_, _<_}
+use native.Mathlib.Omega.{arith}
+use lib.ListN.{length, length-take, length-drop}
+use Rattle.records.specs.Held.{withFiles}
+use Rattle.tables.specs.Words.{tablesOf}
+use Rattle.tables.specs.PartLaws.{lent, length-part}
+use Rattle.tables.specs.WholeLaws.{tables-files, fit-files}
+use Rattle.host.specs.HostCall.{withSize, loadFile}
+use Rattle.host.proofs.Loaded.{loadable, load-refused, load-done, filled-memory}
+use Rattle.host.proofs.Leaving.{left-refused, left-done}
+use Rattle.host.proofs.file.load_sound.Statement.{statement}
+use Rattle.host.proofs.file.load_sound.Tie as tie
+
+load-number-requires : tie.Need-load-number-requires
+load-number-requires c κs = search needs
+
+same-length : tie.Need-same-length
+same-length c = search needs
+
+returns : tie.Need-returns
+returns c =
+    let w = c .before .before .before .before .before .before .args .words .now in
+    let e = load-refused (tablesOf w) (c .before .before .before .before .before .before .args .file) (c .before .before .before .before .before .before .args .contents .now) (c .before .before .before .before .before .before .args .memory .now) (c .before .load-number .result) (c .before .before .before .before .before .before .pre .1 .1) (c .before .load-number .ensures) (c .if1 .taken) in
+    (left-refused w (c .before .load-number .result) (loadFile (tablesOf w) (c .before .before .before .before .before .before .args .file) (c .before .before .before .before .before .before .args .contents .now) (c .before .before .before .before .before .before .args .memory .now)) (e .0), sym (e .1))
+
+mul-from : tie.Need-mul-from
+mul-from c = search needs
+
+add-to : tie.Need-add-to
+add-to c = search needs
+
+sub-fill-file : tie.Need-sub-fill-file
+sub-fill-file c = search needs
+
+part-fill-file-start : tie.Need-part-fill-file-start
+part-fill-file-start c = search needs
+
+part-fill-file-end : tie.Need-part-fill-file-end
+part-fill-file-end c =
+    let l = loadable (tablesOf (c .before .before .before .before .before .before .args .words .now)) (c .before .before .before .before .before .before .args .file) (length (c .before .before .before .before .before .before .args .contents .now)) 65536 (sym (c .before .load-number .ensures) ∙ c .if1 .left) in
+    let whole : length (c .before .before .before .before .before .before .args .memory .now) ≡ 65536 = c .before .before .before .before .before .before .pre .1 .1 in
+    let f = l .known-file in
+    omega arith
+
+fill-file-requires : tie.Need-fill-file-requires
+fill-file-requires c κs =
+    let l = loadable (tablesOf (c .before .before .before .before .before .before .before .args .words .now)) (c .before .before .before .before .before .before .before .args .file) (length (c .before .before .before .before .before .before .before .args .contents .now)) 65536 (sym (c .before .before .load-number .ensures) ∙ c .before .if1 .left) in
+    let whole : length (c .before .before .before .before .before .before .before .args .memory .now) ≡ 65536 = c .before .before .before .before .before .before .before .pre .1 .1 in
+    let f = l .known-file in
+    let s = l .fitting in
+    rw (length-take, length-drop) (omega arith)
+
+sub-put-size : tie.Need-sub-put-size
+sub-put-size c = search needs
+
+part-put-size-start : tie.Need-part-put-size-start
+part-put-size-start c = search needs
+
+part-put-size-end : tie.Need-part-put-size-end
+part-put-size-end c = search needs
+
+put-size-requires : tie.Need-put-size-requires
+put-size-requires c κs =
+    let w = c .before .before .before .before .before .before .before .before .before .before .before .args .words .now in
+    let full : length w ≡ 1172 = c .before .before .before .before .before .before .before .before .before .before .before .pre .0 in
+    let l = loadable (tablesOf w) (c .before .before .before .before .before .before .before .before .before .before .before .args .file) (length (c .before .before .before .before .before .before .before .before .before .before .before .args .contents .now)) 65536 (sym (c .before .before .before .before .before .before .load-number .ensures) ∙ c .before .before .before .before .before .if1 .left) in
+    let f = l .known-file in
+    (length-part w 1156 16 (omega arith), omega arith)
+
+same-length-2 : tie.Need-same-length-2
+same-length-2 c = search needs
+
+same-length-3 : tie.Need-same-length-3
+same-length-3 c = search needs
+
+returns-2 : tie.Need-returns-2
+unfolding tablesOf withSize
+returns-2 c =
+    let args = c .before .before .before .before .before .before .before .before .before .before .before .before .before .before .args in
+    let w = args .words .now in
+    let full : length w ≡ 1172 = c .before .before .before .before .before .before .before .before .before .before .before .before .before .before .pre .0 in
+    let e = c .before .before .put-size .last .0 in
+    let long : length e ≡ 16 = c .before .before .put-size .kept .0 ∙ length-part w 1156 16 (omega arith) in
+    let l = loadable (tablesOf w) (args .file) (length (args .contents .now)) 65536 (sym (c .before .before .before .before .before .before .before .before .before .load-number .ensures) ∙ c .before .before .before .before .before .before .before .before .if1 .left) in
+    let whole : length (args .memory .now) ≡ 65536 = c .before .before .before .before .before .before .before .before .before .before .before .before .before .before .pre .1 .1 in
+    let f = l .known-file in
+    let d = load-done (tablesOf w) (args .file) (args .contents .now) (args .memory .now) (c .before .before .before .before .before .before .before .before .before .load-number .result) (c .before .before .before .before .before .before .before .before .before .before .before .before .before .before .pre .1 .1) (c .before .before .before .before .before .before .before .before .before .load-number .ensures) (c .before .before .before .before .before .before .before .before .if1 .left) in (
+      left-done w (lent w 1156 16 e) 0 (loadFile (tablesOf w) (args .file) (args .contents .now) (args .memory .now)) (withSize (tablesOf w) (args .file) (length (args .contents .now))) (d .0) (tables-files w e full long ∙ ap (withFiles (tablesOf w)) (c .before .before .put-size .ensures)) (fit-files w e full long),
+      filled-memory (args .memory .now) (c .before .before .before .before .before .before .fill-file .last .1 .0) (args .contents .now) (args .file * 4096) (args .file * 4096 + 4096) refl (omega arith) (l .fitting) (c .before .before .before .before .before .before .fill-file .ensures) ∙ sym (d .1),
+    )
+
+pub load-sound-spec : {M : Type 1} → statement M
+load-sound-spec =
+    tie.close
+    (tie.spec
+    load-number-requires
+    same-length
+    returns
+    mul-from
+    add-to
+    sub-fill-file
+    part-fill-file-start
+    part-fill-file-end
+    fill-file-requires
+    sub-put-size
+    part-put-size-start
+    part-put-size-end
+    put-size-requires
+    same-length-2
+    same-length-3
+    returns-2)

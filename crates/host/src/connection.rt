@@ -1,0 +1,26 @@
+// A connection dropped: its sessions go from the words, each with what hangs on it. "Dropping an unknown connection is 0 and changes
+// nothing."
+
+use crate::answer::DONE;
+use crate::answer::Outcome;
+use removal::Gone;
+use removal::sweep::remove_named;
+ghost use mathlib.Core.Path.{_≡_};
+ghost use mathlib.Core.Bool.{true};
+ghost use lib.ListN.{length};
+ghost use Rattle.tables.specs.Words.{tablesOf};
+ghost use Rattle.soundness.specs.Sound.{sound};
+ghost use Rattle.host.specs.HostCall.{dropConnection};
+ghost use Rattle.host.specs.OnWords.{Left};
+
+// A connection dropped from sound tables.
+fn drop_sound(words: &mut [u64], connection: u32) -> Outcome
+    requires { ⌜ (length (now words) ≡ 1172) × (sound (tablesOf (now words)) ≡ true) ⌝ }
+    ensures { λ r. ⌜ Left (dropConnection (tablesOf (now (words .entry))) connection) (now (words .entry)) (now (words .exit)) r ⌝ }
+{
+    remove_named(words, Gone::Connection(connection));
+    Outcome {
+        number: DONE,
+        id: 0,
+    }
+}

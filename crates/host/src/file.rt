@@ -1,0 +1,75 @@
+// A file loaded, its size in the words: "A load sets the size and puts zeros after the loaded bytes, up to 4,096."
+
+use crate::answer::DONE;
+use crate::answer::FILE_OPEN;
+use crate::answer::OUT_OF_RANGE;
+use crate::answer::Outcome;
+use crate::load::fill_file;
+use tables::file::put_size;
+use tables::open::open_at;
+ghost use mathlib.Core.Path.{_≡_};
+ghost use mathlib.Core.Bool.{true};
+ghost use Prim.Native.Nat.{_≤_};
+ghost use lib.ListN.{length};
+ghost use Rattle.lists.specs.Walk.{any};
+ghost use Rattle.tables.specs.Words.{word, tablesOf};
+ghost use Rattle.tables.specs.Written.{opensIn};
+ghost use Rattle.soundness.specs.Sound.{sound};
+ghost use Rattle.host.specs.HostCall.{isOf, loadNumber, loadFile, loadMemory};
+ghost use Rattle.host.specs.OnWords.{Left};
+
+// Whether an open in use is of the file.
+fn some_open_of(words: &[u64], file: u8) -> bool
+    requires { ⌜ (length (now words) ≡ 385) × (word (now words) 0 ≤ 64) ⌝ }
+    ensures { λ r. ⌜ r ≡ any (isOf file) (opensIn (now (words .entry))) ⌝ }
+{
+    let n = words[0] as usize;
+    let mut i: usize = 0;
+    while i < n {
+        let o = open_at(words, i);
+        if o.file == file {
+            return true;
+        }
+        i += 1;
+    }
+    false
+}
+
+// Why a load into sound tables and a whole file memory is refused, 0 where it is not.
+fn load_number(words: &[u64], file: u8, size: usize) -> u8
+    requires { ⌜ (length (now words) ≡ 1172) × (sound (tablesOf (now words)) ≡ true) ⌝ }
+    ensures { λ r. ⌜ r ≡ loadNumber (tablesOf (now (words .entry))) file size 65536 ⌝ }
+{
+    if 15 < file {
+        return OUT_OF_RANGE;
+    }
+    if 4096 < size {
+        return OUT_OF_RANGE;
+    }
+    if some_open_of(&words[130..515], file) {
+        return FILE_OPEN;
+    }
+    DONE
+}
+
+// A load into sound tables and a whole file memory.
+fn load_sound(words: &mut [u64], file: u8, contents: &[u8], memory: &mut [u8]) -> Outcome
+    requires { ⌜ (length (now words) ≡ 1172) × ((sound (tablesOf (now words)) ≡ true) × (length (now memory) ≡ 65536)) ⌝ }
+    ensures { λ r. ⌜ Left (loadFile (tablesOf (now (words .entry))) file (now (contents .entry)) (now (memory .entry))) (now (words .entry)) (now (words .exit)) r ⌝ }
+    ensures { λ _. ⌜ now (memory .exit) ≡ loadMemory (tablesOf (now (words .entry))) file (now (contents .entry)) (now (memory .entry)) ⌝ }
+{
+    let size = contents.len();
+    let number = load_number(words, file, size);
+    if number != DONE {
+        return Outcome { number, id: 0 };
+    }
+    let at = file as usize;
+    let from = at * 4096;
+    let to = from + 4096;
+    fill_file(contents, &mut memory[from..to]);
+    put_size(&mut words[1156..1172], at, size);
+    Outcome {
+        number: DONE,
+        id: 0,
+    }
+}
