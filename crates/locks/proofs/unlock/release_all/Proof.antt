@@ -64,7 +64,7 @@ returns c = (
     count = λ e. absurd (false≢true e);
     missing =
         λ _. ahead-here (c .before .before .before .before .before .before .before .loop .inv .2) (omega arith)
-        (λ rs. release-stop _ _ _ rs _ (rw (← (c .before .before .before .before .before .range-at .ensures), ← (c .before .before .before .ask-of .ensures)) (sym (c .enum-told .given .1) ∙ c .before .before .first-answer .ensures)));
+        (λ rs. release-stop _ _ _ _ (c .before .before .before .before .before .range-at .ensures) (c .before .before .before .ask-of .ensures) (c .before .before .first-answer .ensures) rs (c .enum-told .given .1));
   },
   c .before .before .before .before .before .before .before .loop .inv .3,
 )
@@ -95,7 +95,7 @@ loop-again c =
           (
           λ rs.
           rw (gone .1 .0, left-list left below (gone .0))
-          (release-more _ _ _ rs _ place (rw (← (c .before .before .before .before .before .before .before .before .before .before .range-at .ensures), ← (c .before .before .before .before .before .before .before .before .ask-of .ensures)) (sym (c .before .before .before .before .before .place .given .1) ∙ c .before .before .before .before .before .before .before .first-answer .ensures)))
+          (release-more _ _ _ _ (c .before .before .before .before .before .before .before .before .before .before .range-at .ensures) (c .before .before .before .before .before .before .before .before .ask-of .ensures) (c .before .before .before .before .before .before .before .first-answer .ensures) rs (c .before .before .before .before .before .place .given .1))
           ),
       λ f. gone .1 .1 (loop .inv .3 f),
     )
