@@ -5,6 +5,7 @@ mod by_number;
 mod file;
 pub mod file_table;
 mod file_words;
+pub mod find_tree;
 mod lock;
 mod lock_words;
 mod open;

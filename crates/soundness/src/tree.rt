@@ -48,7 +48,7 @@ pub(crate) fn right_permits(right: u8, access: u8) -> bool
 }
 
 // Whether the tree is the open's own and permits its access.
-fn holding(o: Open, t: Tree) -> bool
+pub(crate) fn holding(o: Open, t: Tree) -> bool
     ensures { λ r. ⌜ r ≡ holdsOpen o t ⌝ }
 {
     if t.tid != o.tid {
@@ -61,7 +61,7 @@ fn holding(o: Open, t: Tree) -> bool
 }
 
 // Whether the tree has that TID and is of that session.
-fn tree_is(t: Tree, tid: u16, uid: u16) -> bool
+pub(crate) fn tree_is(t: Tree, tid: u16, uid: u16) -> bool
     ensures { λ r. ⌜ r ≡ isTree tid uid t ⌝ }
 {
     if t.tid != tid {
