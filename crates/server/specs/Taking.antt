@@ -38,6 +38,7 @@ use Rattle.invariants.specs.Sound.{Good}
 use Rattle.invariants.specs.ReplySize.{length-header}
 use Rattle.invariants.specs.ReplyRoom.{chain-room}
 use Rattle.message.specs.declared.link.Link.{Link}
+use Rattle.tables.specs.Words.{inUseFit}
 use Rattle.reply.specs.Links.{linkFor}
 use Rattle.reply.specs.BlockLaws.{length-of-block}
 use Rattle.server.specs.Step.{statusAfter, goesOn}
@@ -141,6 +142,11 @@ module _ {c : Caller} {s first : List ℕ} {t₀ : Tables} {memory₀ : List ℕ
         let inside = placed s at b command e .inside in
         let ahead = placed s at b command e .ahead command′ at′ (goes-next a (b .next) command′ at′ more) in
         omega arith
+
+-- the words as a turn leaves them
+pub record Kept (before after : List ℕ) : Type 0 where
+  pub long : length after ≡ 1172
+  pub fit : inUseFit before ≡ true → inUseFit after ≡ true
 
 -- a block written at the front of the room left stands behind the others
 pub block-laid : (room e memory : List ℕ) (place : ℕ) (a : Answer) (link : Link) (n : Next) (size : ℕ) → size ≡ answerSize a → link ≡ linkFor n (place + size)

@@ -20,38 +20,35 @@ use message::caller::Caller;
 use message::link::Link;
 use message::refusal::Refusal;
 use message::refusal::status_of;
-use records::Tables;
 use reply::block::write_block;
 use reply::header::write_header;
-use soundness::sound::is_sound;
+use requests::sound::is_sound;
 ghost use mathlib.Core.Path.{_≡_};
+ghost use mathlib.Core.Bool.{true};
 ghost use Rattle.message.specs.Caller.{callerOf};
 ghost use Prim.Native.Nat.{_≤_};
 ghost use lib.ListN.{length};
+ghost use Rattle.records.specs.declared.Tables.{Tables};
 ghost use Rattle.message.specs.Refusal.{statusOf};
-ghost use Rattle.message.specs.Message.{served, onlyStatus, answered, replied, take-message};
+ghost use Rattle.message.specs.Message.{served, onlyStatus, answered, replied};
 ghost use Rattle.invariants.specs.Sound.{Good};
-ghost use Rattle.server.specs.TakenOf.{takenOf, refusal};
+ghost use Rattle.tables.specs.Words.{tablesOf, inUseFit};
+ghost use Rattle.server.specs.TakenOf.{takenOf, refusal, takenInPlace};
 
 // Row 1 of document 01's table "What a call returns"; `host::answer` has the others.
 pub const DROPPED: u8 = 1;
 
-// The row, the reply's length (0 where none was written), and the tables after the call.
+// The row, and the reply's length (0 where none was written). The tables are left in the words.
 pub struct Taken {
     pub number: u8,
     pub length: usize,
-    pub tables: Tables,
 }
 
 // A refusal by number: nothing is written.
-fn refuse_call(number: u8, tables: Tables) -> Taken
-    ensures { λ r. ⌜ r ≡ refusal number tables ⌝ }
+fn refuse_call(number: u8) -> Taken
+    ensures { λ r. ⌜ r ≡ refusal number ⌝ }
 {
-    Taken {
-        number,
-        length: 0,
-        tables,
-    }
+    Taken { number, length: 0 }
 }
 
 // "2/22 header command not served".
@@ -82,12 +79,12 @@ fn caller_of(connection: u32, s: &[u8]) -> Caller
     }
 }
 
-// A message refused as a whole: nothing is carried out.
-fn refuse_message(s: &[u8], why: Refusal, tables: Tables, memory: &[u8], room: &mut [u8]) -> Taken
+// A message refused as a whole: nothing is carried out, whatever the tables are.
+fn refuse_message(s: &[u8], why: Refusal, memory: &[u8], room: &mut [u8]) -> Taken
     requires { ⌜ 35 ≤ length (now s) ⌝ }
     requires { ⌜ length (now memory) ≡ 65536 ⌝ }
     requires { ⌜ 12292 ≤ length (now room) ⌝ }
-    ensures { λ r. ⌜ takenOf r (now (memory .entry)) (now (room .exit)) ≡ replied (now (s .entry)) (now (room .entry)) (onlyStatus (statusOf why) tables (now (memory .entry))) ⌝ }
+    ensures { λ r. ⌜ ((t : Tables) → takenOf r t (now (memory .entry)) (now (room .exit)) ≡ replied (now (s .entry)) (now (room .entry)) (onlyStatus (statusOf why) t (now (memory .entry)))) ⌝ }
 {
     write_block(
         Answer::Refused(why),
@@ -100,7 +97,6 @@ fn refuse_message(s: &[u8], why: Refusal, tables: Tables, memory: &[u8], room: &
     Taken {
         number: DONE,
         length: 35,
-        tables,
     }
 }
 
@@ -108,56 +104,58 @@ fn refuse_message(s: &[u8], why: Refusal, tables: Tables, memory: &[u8], room: &
 fn answer_message(
     connection: u32,
     s: &[u8],
-    tables: Tables,
+    words: &mut [u64],
     memory: &mut [u8],
     room: &mut [u8],
 ) -> Taken
-    requires { ⌜ Good tables ⌝ }
+    requires { ⌜ length (now words) ≡ 1172 ⌝ }
+    requires { ⌜ Good (tablesOf (now words)) ⌝ }
     requires { ⌜ 35 ≤ length (now s) ⌝ }
     requires { ⌜ length (now s) ≤ 8192 ⌝ }
     requires { ⌜ length (now memory) ≡ 65536 ⌝ }
     requires { ⌜ 12292 ≤ length (now room) ⌝ }
-    ensures { λ r. ⌜ takenOf r (now (memory .exit)) (now (room .exit)) ≡ replied (now (s .entry)) (now (room .entry)) (answered connection (now (s .entry)) tables (now (memory .entry))) ⌝ }
+    ensures { λ r. ⌜ takenOf r (tablesOf (now (words .exit))) (now (memory .exit)) (now (room .exit)) ≡ replied (now (s .entry)) (now (room .entry)) (answered connection (now (s .entry)) (tablesOf (now (words .entry))) (now (memory .entry))) ⌝ }
+    ensures { λ _. ⌜ (inUseFit (now (words .entry)) ≡ true → inUseFit (now (words .exit)) ≡ true) ⌝ }
 {
     let command = wire::byte_at(s, 4);
     if !is_served(command) {
-        return refuse_message(s, Refusal::NotServed, tables, memory, room);
+        return refuse_message(s, Refusal::NotServed, memory, room);
     }
     let Chain::Sentence(_) = read_chain(s, command, 32) else {
-        return refuse_message(s, Refusal::NotSentence, tables, memory, room);
+        return refuse_message(s, Refusal::NotSentence, memory, room);
     };
-    let ended = run_chain(caller_of(connection, s), s, tables, memory, room);
+    let ended = run_chain(caller_of(connection, s), s, words, memory, room);
     write_header(s, ended.status, room);
-    let left = ended.tables;
     Taken {
         number: DONE,
         length: ended.length,
-        tables: left,
     }
 }
 
 // One request message with its connection number. The reply is written at the start of the room; bytes past
-// its length stay as they were.
+// its length stay as they were. "A refusal of this table writes nothing at all": it leaves every word too.
 pub fn take_message(
     connection: u32,
     s: &[u8],
-    tables: Tables,
+    words: &mut [u64; 1172],
     memory: &mut [u8],
     room: &mut [u8],
 ) -> Taken
-    ensures { λ r. ⌜ takenOf r (now (memory .exit)) (now (room .exit)) ≡ take-message connection (now (s .entry)) tables (now (memory .entry)) (now (room .entry)) ⌝ }
+    ensures { λ r. ⌜ takenOf r (tablesOf (now (words .exit))) (now (memory .exit)) (now (room .exit)) ≡ takenInPlace connection (now (s .entry)) (now (words .entry)) (now (memory .entry)) (now (room .entry)) ⌝ }
+    ensures { λ r. ⌜ ((r .number ≡ 0 → ⊥) → now (words .exit) ≡ now (words .entry)) ⌝ }
+    ensures { λ _. ⌜ (inUseFit (now (words .entry)) ≡ true → inUseFit (now (words .exit)) ≡ true) ⌝ }
 {
     if room.len() < 12292 {
-        return refuse_call(WRONG_ROOM, tables);
+        return refuse_call(WRONG_ROOM);
     }
     if memory.len() != 65536 {
-        return refuse_call(WRONG_ROOM, tables);
+        return refuse_call(WRONG_ROOM);
     }
-    if !is_sound(tables) {
-        return refuse_call(NOT_SOUND, tables);
+    if !is_sound(words) {
+        return refuse_call(NOT_SOUND);
     }
     if is_dropped(s) {
-        return refuse_call(DROPPED, tables);
+        return refuse_call(DROPPED);
     }
-    answer_message(connection, s, tables, memory, room)
+    answer_message(connection, s, words, memory, room)
 }

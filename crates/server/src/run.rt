@@ -5,18 +5,14 @@ use crate::step::status_after;
 use chain::block::Next;
 use chain::block::Parsed;
 use chain::message_reader::block_at;
-use commands::perform::is_transfer;
-use commands::perform::perform_block;
-use commands::perform::transfer_block;
 use message::answer::Answer;
 use message::caller::Caller;
 use message::refusal::Refusal;
 use message::refusal::Status;
-use records::File;
-use records::Tables;
 use reply::block::block_size;
 use reply::block::link_to;
 use reply::block::write_block;
+use requests::perform::perform_block;
 ghost use mathlib.Core.Path.{_≡_};
 ghost use Prim.Native.Nat.{_+_, _≤_};
 ghost use mathlib.Core.Bool.{true};
@@ -26,15 +22,15 @@ ghost use Rattle.chain.specs.Chain.{blocks};
 ghost use Rattle.message.specs.Message.{runChain};
 ghost use Rattle.message.specs.Given.{inside, blockOf, answerSize};
 ghost use Rattle.invariants.specs.Sound.{Good};
+ghost use Rattle.tables.specs.Words.{tablesOf, inUseFit};
 ghost use Rattle.reply.specs.Links.{linkFor};
 ghost use Rattle.server.specs.Going.{Finished};
 ghost use Rattle.server.specs.Taking.{readable};
 
-// How a chain ended: the status for the header, where the reply ends, and the tables left.
+// How a chain ended: the status for the header, and where the reply ends.
 pub(crate) struct Ended {
     pub status: Status,
     pub length: usize,
-    pub tables: Tables,
 }
 
 // The reply block of an answer, written into the room left after the one before; where it ends. The block's
@@ -59,23 +55,23 @@ fn add_block(answer: Answer, next: Next, place: usize, memory: &[u8], room: &mut
     end
 }
 
-// The chain of a message that is a sentence. READ and WRITE hand back no tables, only the size that they set:
-// the tables are long to copy.
+// The chain of a message that is a sentence, carried out on the words.
 pub(crate) fn run_chain(
     c: Caller,
     s: &[u8],
-    tables: Tables,
+    words: &mut [u64],
     memory: &mut [u8],
     room: &mut [u8],
 ) -> Ended
-    requires { ⌜ Good tables ⌝ }
+    requires { ⌜ length (now words) ≡ 1172 ⌝ }
+    requires { ⌜ Good (tablesOf (now words)) ⌝ }
     requires { ⌜ length (now memory) ≡ 65536 ⌝ }
     requires { ⌜ length (now s) ≤ 8192 ⌝ }
     requires { ⌜ 12292 ≤ length (now room) ⌝ }
     requires { ⌜ readable (blocks (now s)) ≡ true ⌝ }
-    ensures { λ r. ⌜ Finished (now (room .entry)) (runChain c (now (s .entry)) (blocks (now (s .entry))) tables (now (memory .entry))) (r .status) (r .length) (r .tables) (now (memory .exit)) (now (room .exit)) ⌝ }
+    ensures { λ r. ⌜ Finished (now (room .entry)) (runChain c (now (s .entry)) (blocks (now (s .entry))) (tablesOf (now (words .entry))) (now (memory .entry))) (r .status) (r .length) (tablesOf (now (words .exit))) (now (memory .exit)) (now (room .exit)) ⌝ }
+    ensures { λ _. ⌜ (inUseFit (now (words .entry)) ≡ true → inUseFit (now (words .exit)) ≡ true) ⌝ }
 {
-    let mut t = tables;
     let mut command = wire::byte_at(s, 4);
     let mut at: usize = 32;
     let mut place: usize = 32;
@@ -84,28 +80,15 @@ pub(crate) fn run_chain(
             return Ended {
                 status: status_after(Answer::Refused(Refusal::NotSentence)),
                 length: place,
-                tables: t,
             };
         };
-        let mut answer = Answer::Plain;
-        let body = b.body;
-        if is_transfer(body) {
-            let moved = transfer_block(c, t, s, b, memory);
-            let file = moved.file;
-            t.files[file] = File { size: moved.size };
-            answer = moved.answer;
-        } else {
-            let p = perform_block(c, t, s, b);
-            t = p.tables;
-            answer = p.answer;
-        }
+        let answer = perform_block(c, words, s, b, memory);
         let next = b.next;
         place = add_block(answer, next, place, memory, room);
         let Next::Follow(then, from) = goes_on(answer, next) else {
             return Ended {
                 status: status_after(answer),
                 length: place,
-                tables: t,
             };
         };
         command = then;

@@ -12,6 +12,7 @@ use Rattle.chain.specs.Chain.{blocksFrom, blocks}
 use Rattle.chain.specs.Judged.{judged}
 use Rattle.message.specs.Caller.{callerOf}
 use Rattle.message.specs.Message.{served, runChain, replied}
+use Rattle.tables.specs.Words.{tablesOf}
 use Rattle.server.specs.TakenOf.{takenOf}
 use Rattle.server.specs.Taking.{readable-here, run-fits, finish, answered-not-served, answered-none, answered-run}
 
@@ -32,10 +33,12 @@ same-length-2 c = search needs
 
 returns : tie.Need-returns
 returns c =
-    let args = c .before .before .before .before .before .before .before .before .before .before .before .args in
+    let args = c .before .before .before .before .before .before .before .before .before .before .before .before .args in
     let byte-at = c .before .before .before .before .before .before .before .byte-at in
-    let is-served = c .before .before .before .before .before .before .is-served in
-    c .before .before .refuse-message .ensures ∙ ap (replied (args .s .now) (args .room .now)) (sym (answered-not-served (args .connection) (args .s .now) (args .tables) (args .memory .now) (sym (is-served .ensures ∙ ap served (byte-at .ensures)) ∙ not-true (is-served .result) (c .before .before .before .before .before .if1 .taken))))
+    let is-served = c .before .before .before .before .before .before .is-served in (
+      c .before .before .refuse-message .ensures (tablesOf (args .words .now)) ∙ ap (replied (args .s .now) (args .room .now)) (sym (answered-not-served (args .connection) (args .s .now) (tablesOf (args .words .now)) (args .memory .now) (sym (is-served .ensures ∙ ap served (byte-at .ensures)) ∙ not-true (is-served .result) (c .before .before .before .before .before .if1 .taken)))),
+      λ f. f,
+    )
 
 read-chain-requires : tie.Need-read-chain-requires
 read-chain-requires c κs = search needs
@@ -57,32 +60,34 @@ same-length-4 c = search needs
 
 returns-2 : tie.Need-returns-2
 returns-2 c =
-    let args = c .before .before .before .before .before .before .before .before .before .before .before .before .before .before .args in
+    let args = c .before .before .before .before .before .before .before .before .before .before .before .before .before .before .before .args in
     let byte-at = c .before .before .before .before .before .before .before .before .before .before .byte-at in
     let is-served = c .before .before .before .before .before .before .before .before .before .is-served in
     let if1 = c .before .before .before .before .before .before .before .before .if1 in
-    let read-chain = c .before .before .before .before .before .before .before .read-chain in
-    c .before .before .refuse-message2 .ensures ∙ ap (replied (args .s .now) (args .room .now)) (sym (answered-none (args .connection) (args .s .now) (args .tables) (args .memory .now) (sym (is-served .ensures ∙ ap served (byte-at .ensures)) ∙ not-false (is-served .result) (if1 .left)) (ap (λ (n : ℕ). judged (blocksFrom (args .s .now) n 32)) (sym (byte-at .ensures)) ∙ sym (read-chain .ensures) ∙ c .before .before .before .before .before .enum-told2 .given .1)))
+    let read-chain = c .before .before .before .before .before .before .before .read-chain in (
+      c .before .before .refuse-message2 .ensures (tablesOf (args .words .now)) ∙ ap (replied (args .s .now) (args .room .now)) (sym (answered-none (args .connection) (args .s .now) (tablesOf (args .words .now)) (args .memory .now) (sym (is-served .ensures ∙ ap served (byte-at .ensures)) ∙ not-false (is-served .result) (if1 .left)) (ap (λ (n : ℕ). judged (blocksFrom (args .s .now) n 32)) (sym (byte-at .ensures)) ∙ sym (read-chain .ensures) ∙ c .before .before .before .before .before .enum-told2 .given .1))),
+      λ f. f,
+    )
 
 caller-of-requires : tie.Need-caller-of-requires
 caller-of-requires c κs = search needs
 
 run-chain-requires : tie.Need-run-chain-requires
 run-chain-requires c κs =
-    let pre = c .before .before .before .before .before .before .before .before .before .before .before .before .pre in
-    let args = c .before .before .before .before .before .before .before .before .before .before .before .before .args in
-    let byte-at = c .before .before .before .before .before .before .before .before .byte-at in
-    let read-chain = c .before .before .before .before .before .read-chain in
-    let enum-told = c .before .before .before .enum-told in
-    (pre .0, (pre .1 .1 .1 .0, (pre .1 .1 .0, (pre .1 .1 .1 .1, readable-here (args .s .now) (read-chain .result) (enum-told .given .0 .0) (ap (λ (n : ℕ). judged (blocksFrom (args .s .now) n 32)) (sym (byte-at .ensures)) ∙ sym (read-chain .ensures)) (enum-told .given .1)))))
+    let pre = c .before .before .before .before .before .before .before .before .before .before .before .before .before .before .pre in
+    let args = c .before .before .before .before .before .before .before .before .before .before .before .before .before .before .args in
+    let byte-at = c .before .before .before .before .before .before .before .before .before .byte-at in
+    let read-chain = c .before .before .before .before .before .before .read-chain in
+    let enum-told = c .before .before .before .before .enum-told in
+    (pre .0, (pre .1 .0, (pre .1 .1 .1 .1 .0, (pre .1 .1 .1 .0, (pre .1 .1 .1 .1 .1, readable-here (args .s .now) (read-chain .result) (enum-told .given .0 .0) (ap (λ (n : ℕ). judged (blocksFrom (args .s .now) n 32)) (sym (byte-at .ensures)) ∙ sym (read-chain .ensures)) (enum-told .given .1))))))
 
 write-header-requires : tie.Need-write-header-requires
 write-header-requires c κs =
-    let pre = c .before .before .before .before .before .before .before .before .before .before .before .before .before .before .before .before .before .before .pre in
-    let args = c .before .before .before .before .before .before .before .before .before .before .before .before .before .before .before .before .before .before .args in
-    let long : 35 ≤ length (args .s .now) = pre .1 .0 in
-    let enough : 12292 ≤ length (args .room .now) = pre .1 .1 .1 .1 in
-    let kept = c .before .before .before .before .before .run-chain .kept .1 .1 .1 .1 .0 in
+    let pre = c .before .before .before .before .before .before .before .before .before .before .before .before .before .before .before .before .before .before .before .before .before .before .pre in
+    let args = c .before .before .before .before .before .before .before .before .before .before .before .before .before .before .before .before .before .before .before .before .before .before .args in
+    let long : 35 ≤ length (args .s .now) = pre .1 .1 .0 in
+    let enough : 12292 ≤ length (args .room .now) = pre .1 .1 .1 .1 .1 in
+    let kept = c .before .before .before .before .before .before .before .run-chain .kept .1 .1 .1 .1 .0 in
     (omega arith, omega arith)
 
 same-length-5 : tie.Need-same-length-5
@@ -91,24 +96,29 @@ same-length-5 c = search needs
 same-length-6 : tie.Need-same-length-6
 same-length-6 c = search needs
 
+same-length-7 : tie.Need-same-length-7
+same-length-7 c = search needs
+
 returns-3 : tie.Need-returns-3
 unfolding takenOf
 returns-3 c =
-    let pre = c .before .before .before .before .before .before .before .before .before .before .before .before .before .before .before .before .before .before .before .before .before .before .pre in
-    let args = c .before .before .before .before .before .before .before .before .before .before .before .before .before .before .before .before .before .before .before .before .before .before .args in
-    let byte-at = c .before .before .before .before .before .before .before .before .before .before .before .before .before .before .before .before .before .before .byte-at in
-    let is-served = c .before .before .before .before .before .before .before .before .before .before .before .before .before .before .before .before .before .is-served in
-    let if1 = c .before .before .before .before .before .before .before .before .before .before .before .before .before .before .before .before .if1 in
-    let caller-of = c .before .before .before .before .before .before .before .before .before .before .before .before .caller-of in
-    let run-chain = c .before .before .before .before .before .before .before .before .before .run-chain in
-    let write-header = c .before .before .before .write-header in
-    let f = rw (caller-of .ensures) at (run-chain .ensures) in
-    let g = run-fits (callerOf (args .connection) (args .s .now)) (args .s .now) (args .tables) (args .memory .now) (pre .0) (pre .1 .1 .0) in
-    let long : 35 ≤ length (args .s .now) = pre .1 .0 in
-    let enough : 12292 ≤ length (args .room .now) = pre .1 .1 .1 .1 in
-    finish (args .s .now) (args .room .now) (runChain (callerOf (args .connection) (args .s .now)) (args .s .now) (blocks (args .s .now)) (args .tables) (args .memory .now)) (run-chain .result .status) (run-chain .result .length) (run-chain .result .tables) (run-chain .last .1 .1 .1 .0) (run-chain .last .1 .1 .1 .1 .0) (write-header .last .1 .1 .0) f
-    (write-header .ensures) (omega arith) (omega arith)
-    ∙ ap (replied (args .s .now) (args .room .now)) (sym (answered-run (args .connection) (args .s .now) (args .tables) (args .memory .now) (sym (is-served .ensures ∙ ap served (byte-at .ensures)) ∙ not-false (is-served .result) (if1 .left))))
+    let pre = c .before .before .before .before .before .before .before .before .before .before .before .before .before .before .before .before .before .before .before .before .before .before .before .before .before .pre in
+    let args = c .before .before .before .before .before .before .before .before .before .before .before .before .before .before .before .before .before .before .before .before .before .before .before .before .before .args in
+    let byte-at = c .before .before .before .before .before .before .before .before .before .before .before .before .before .before .before .before .before .before .before .before .byte-at in
+    let is-served = c .before .before .before .before .before .before .before .before .before .before .before .before .before .before .before .before .before .before .before .is-served in
+    let if1 = c .before .before .before .before .before .before .before .before .before .before .before .before .before .before .before .before .before .before .if1 in
+    let caller-of = c .before .before .before .before .before .before .before .before .before .before .before .before .before .before .caller-of in
+    let run-chain = c .before .before .before .before .before .before .before .before .before .before .run-chain in
+    let write-header = c .before .before .write-header in
+    let f = rw (caller-of .ensures) at (run-chain .ensures .0) in
+    let g = run-fits (callerOf (args .connection) (args .s .now)) (args .s .now) (tablesOf (args .words .now)) (args .memory .now) (pre .1 .0) (pre .1 .1 .1 .0) in
+    let long : 35 ≤ length (args .s .now) = pre .1 .1 .0 in
+    let enough : 12292 ≤ length (args .room .now) = pre .1 .1 .1 .1 .1 in (
+      finish (args .s .now) (args .room .now) (runChain (callerOf (args .connection) (args .s .now)) (args .s .now) (blocks (args .s .now)) (tablesOf (args .words .now)) (args .memory .now)) (run-chain .result .status) (run-chain .result .length) (tablesOf (run-chain .last .1 .1 .0)) (run-chain .last .1 .1 .1 .0) (run-chain .last .1 .1 .1 .1 .0) (write-header .last .1 .1 .0) f
+          (write-header .ensures) (omega arith) (omega arith)
+          ∙ ap (replied (args .s .now) (args .room .now)) (sym (answered-run (args .connection) (args .s .now) (tablesOf (args .words .now)) (args .memory .now) (sym (is-served .ensures ∙ ap served (byte-at .ensures)) ∙ not-false (is-served .result) (if1 .left)))),
+      run-chain .ensures .1,
+    )
 
 pub answer-message-spec : {M : Type 1} → statement M
 answer-message-spec =
@@ -132,4 +142,5 @@ answer-message-spec =
     write-header-requires
     same-length-5
     same-length-6
+    same-length-7
     returns-3)

@@ -46,6 +46,7 @@ same-length c = search needs
 returns : tie.Need-returns
 unfolding takenOf onlyStatus blockOf refusedBlock
 returns c =
+    λ t.
     let pre = c .before .before .before .before .before .before .before .before .before .before .before .before .pre in
     let args = c .before .before .before .before .before .before .before .before .before .before .before .before .args in
     let write-block = c .before .before .before .before .before .before .before .write-block in
@@ -53,7 +54,7 @@ returns c =
     let write-header = c .before .before .write-header in
     let long : 35 ≤ length (args .s .now) = pre .0 in
     let enough : 12292 ≤ length (args .room .now) = pre .1 .1 in
-    finish (args .s .now) (args .room .now) (onlyStatus (statusOf (args .why)) (args .tables) (args .memory .now)) (statusOf (args .why)) 35 (args .tables) (args .memory .now) (put (args .room .now) 32 refusedBlock) (write-header .last .1 .1 .0) (refused-finished (args .room .now) (statusOf (args .why)) (args .tables) (args .memory .now))
+    finish (args .s .now) (args .room .now) (onlyStatus (statusOf (args .why)) t (args .memory .now)) (statusOf (args .why)) 35 t (args .memory .now) (put (args .room .now) 32 refusedBlock) (write-header .last .1 .1 .0) (refused-finished (args .room .now) (statusOf (args .why)) t (args .memory .now))
     (write-header .ensures
     ∙ ap (λ (x : List ℕ). put x 0 (replyHeader (args .s .now) (status-of .result)))
     (put-part (args .room .now) refusedBlock (write-block .last .1 .1 .1 .1 .0) 32 (length (args .room .now)) (omega arith) (omega arith) (write-block .ensures))
