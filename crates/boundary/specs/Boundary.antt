@@ -1,6 +1,6 @@
--- The calls as the host makes them, on words and not on tables. Words that do not fit are refused with 4 (tables not
--- sound); otherwise a call is the core's own on the tables that the words hold. A call that is done leaves the words
--- of the tables left, and the number given out; one that is refused leaves everything as it was. Assumes nothing.
+-- The calls as the host makes them, on the words that it lends. A word in use that its field cannot hold is refused with 4 (tables
+-- not sound); otherwise a call is the core's own on the tables that the words hold. A call that is done leaves words that hold the
+-- tables left, and the number given out; one that is refused leaves everything as it was. Assumes nothing.
 use mathlib.Core.Path.{_≡_}
 use Prim.Native.Nat.{ℕ}
 use mathlib.Core.Bool.{Bool, true, cond, not, _&&_, _||_}
@@ -11,31 +11,29 @@ use Rattle.records.specs.declared.Tables.{Tables}
 use Rattle.soundness.specs.Sound.{sound}
 use Rattle.host.specs.declared.answer.Answer.{Answer}
 use Rattle.host.specs.HostCall.{addSession, addTree, addOpen, loadFile, loadMemory, dropConnection}
-use Rattle.message.specs.Message.{Taken, take-message}
-use Rattle.words.specs.Words.{fits, unpacked, packed}
+use Rattle.message.specs.Message.{Taken, notTaken, take-message}
+use Rattle.tables.specs.Words.{inUseFit, tablesOf}
 
--- words that no call answers with 4: they fit, and the tables that they hold are sound
+-- words that no call answers with 4: those in use fit, and the tables that they hold are sound
 unfoldable pub ready : List ℕ → Bool
-ready w = fits w && sound (unpacked w)
+ready w = inUseFit w && sound (tablesOf w)
 
 -- what a call on w that returns r leaves for the next one: the words out, where the core left the tables t
 pub record ForNext (w out : List ℕ) (r : ℕ) (t : Tables) : Type 0 where
   -- of a call that is done, the words hold the core's tables, whole
-  pub held : r ≡ 0 → unpacked out ≡ t
+  pub held : r ≡ 0 → tablesOf out ≡ t
+  -- document 01, "What a call returns": "A refusal of this table writes nothing at all"
+  pub kept : (r ≡ 0 → ⊥) → out ≡ w
   -- document 01, "Tables and room": "Every call on sound tables leaves sound tables"
   pub again : ready w ≡ true → ready out ≡ true
 
 -- the number returned, where the core answers a
 unfoldable pub numberOf : List ℕ → Answer → ℕ
-numberOf w a = cond (fits w) (a .number) 4
+numberOf w a = cond (inUseFit w) (a .number) 4
 
 -- the call is done
 unfoldable pub isDone : List ℕ → Answer → Bool
-isDone w a = fits w && eqb (a .number) 0
-
--- the words after the call
-unfoldable pub wordsAfter : List ℕ → Answer → List ℕ
-wordsAfter w a = cond (isDone w a) (packed (a .tables)) w
+isDone w a = inUseFit w && eqb (a .number) 0
 
 -- the out-parameter after the call
 unfoldable pub idAfter : ℕ → List ℕ → Answer → ℕ
@@ -44,19 +42,19 @@ idAfter id w a = cond (isDone w a) (a .id) id
 -- ---- what the core answers, on words
 
 unfoldable pub sessionAdded : List ℕ → ℕ → Answer
-sessionAdded w connection = addSession (unpacked w) connection
+sessionAdded w connection = addSession (tablesOf w) connection
 
 unfoldable pub treeAdded : List ℕ → ℕ → ℕ → Answer
-treeAdded w uid right = addTree (unpacked w) uid right
+treeAdded w uid right = addTree (tablesOf w) uid right
 
 unfoldable pub openAdded : List ℕ → ℕ → ℕ → ℕ → ℕ → ℕ → Answer
-openAdded w uid tid process file access = addOpen (unpacked w) uid tid process file access
+openAdded w uid tid process file access = addOpen (tablesOf w) uid tid process file access
 
 unfoldable pub connectionDropped : List ℕ → ℕ → Answer
-connectionDropped w connection = dropConnection (unpacked w) connection
+connectionDropped w connection = dropConnection (tablesOf w) connection
 
 unfoldable pub fileLoaded : List ℕ → ℕ → List ℕ → List ℕ → Answer
-fileLoaded w file contents memory = loadFile (unpacked w) file contents memory
+fileLoaded w file contents memory = loadFile (tablesOf w) file contents memory
 
 -- a load: file memory that is not 65,536 bytes is refused before the words are looked at
 unfoldable pub loadNumberOf : List ℕ → ℕ → List ℕ → List ℕ → ℕ
@@ -64,36 +62,21 @@ loadNumberOf w file contents memory = cond (not (eqb (length memory) 65536)) 2 (
 
 unfoldable pub memoryAfter : List ℕ → ℕ → List ℕ → List ℕ → List ℕ
 memoryAfter w file contents memory =
-    cond (isDone w (fileLoaded w file contents memory)) (loadMemory (unpacked w) file contents memory) memory
+    cond (isDone w (fileLoaded w file contents memory)) (loadMemory (tablesOf w) file contents memory) memory
 
 -- ---- a message
 
--- what the core gives, on words
-unfoldable pub messageTaken : ℕ → List ℕ → List ℕ → List ℕ → List ℕ → Taken
-messageTaken connection s w memory room = take-message connection s (unpacked w) memory room
-
--- reply room under 12,292 bytes, or file memory not 65,536, is refused before the words are looked at
+-- reply room under 12,292 bytes, or file memory not 65,536
 unfoldable pub wrongRoom : List ℕ → List ℕ → Bool
 wrongRoom memory room = ltb (length room) 12292 || not (eqb (length memory) 65536)
 
--- all that a message call leaves: the number, the words, the file memory, the reply room, and the reply's length in
--- the out-parameter
-pub record Left : Type 0 where
-  pub number : ℕ
-  pub words : List ℕ
-  pub memory : List ℕ
-  pub room : List ℕ
-  pub length : ℕ
+-- a message taken over words, the numbers in the order 2, 4, 1: a word in use that its field cannot hold is "tables not sound";
+-- words in use that fit are tables, and demand 2's definition says the rest
+unfoldable pub messageTaken : ℕ → List ℕ → List ℕ → List ℕ → List ℕ → Taken
+messageTaken connection s w memory room =
+    cond (wrongRoom memory room) (notTaken 2 (tablesOf w) memory room)
+    (cond (inUseFit w) (take-message connection s (tablesOf w) memory room) (notTaken 4 (tablesOf w) memory room))
 
-abbrev pub left : ℕ → List ℕ → List ℕ → List ℕ → ℕ → Left
-left number words memory room length = record { number = number; words = words; memory = memory; room = room; length = length }
-
--- the core's answer: a refusal leaves everything as it was
-unfoldable pub leftBy : Taken → List ℕ → List ℕ → List ℕ → ℕ → Left
-leftBy k w memory room before =
-    cond (eqb (k .number) 0) (left 0 (packed (k .tables)) (k .memory) (k .room) (k .length)) (left (k .number) w memory room before)
-
-unfoldable pub messageLeft : ℕ → List ℕ → List ℕ → List ℕ → List ℕ → ℕ → Left
-messageLeft connection s w memory room before =
-    cond (wrongRoom memory room) (left 2 w memory room before)
-    (cond (fits w) (leftBy (messageTaken connection s w memory room) w memory room before) (left 4 w memory room before))
+-- the reply's length goes to the out-parameter, where a reply was written
+unfoldable pub lengthAfter : ℕ → Taken → ℕ
+lengthAfter before k = cond (eqb (k .number) 0) (k .length) before

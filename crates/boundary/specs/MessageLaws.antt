@@ -1,66 +1,20 @@
--- What a message call leaves in each of its ends: the room is wrong, the words do not fit, the core refuses, the core is
--- done. Assumes nothing.
-use mathlib.Core.Path.{_≡_, refl, sym, ap, _∙_}
+-- What a message call gives over words, in each of its rows, and what it leaves for the next call. Assumes nothing.
+use mathlib.Core.Path.{_≡_, refl}
 use Prim.Native.Nat.{ℕ, _<_, _≤_}
-use mathlib.Core.Bool.{Bool, true, false, cond, not, _||_}
+use mathlib.Core.Bool.{Bool, true, false, cond, not, _&&_, _||_}
 use mathlib.Core.List.{List}
 use lib.ListN.{length}
 use lib.Dec.{eqb, ltb}
 use borrow.Author.Tests.{eq-eqb, ne-eqb, lt-ltb, le-ltb}
-use Rattle.lists.specs.Truth.{holds-second}
+use Rattle.lists.specs.Truth.{holds-second, both-hold}
 use Rattle.records.specs.declared.Tables.{Tables}
 use Rattle.soundness.specs.Sound.{sound}
 use Rattle.chain.specs.Header.{dropped}
 use Rattle.message.specs.Message.{Taken, notTaken, replied, answered, take-message}
-use Rattle.invariants.specs.Shaped.{Shaped}
 use Rattle.invariants.specs.Fit.{take-message-good}
-use Rattle.words.specs.Words.{fits, packed, unpacked, sessionIn, treeIn, openIn, lockIn, fileIn}
-use Rattle.words.specs.Turns.{length-upTo}
-use Rattle.boundary.specs.BoundaryLaws.{done-next}
-use Rattle.boundary.specs.Boundary.{ForNext, Left, left, leftBy, wrongRoom, messageTaken, messageLeft}
-
--- the five parts of what is left, and what it is for the next call
-pub left-is : (number : ℕ) (words memory room : List ℕ) (n : ℕ) (l : Left) {w : List ℕ} {t : Tables} → left number words memory room n ≡ l → ForNext w words number t
-    → (number ≡ l .number) × ((words ≡ l .words) × ((memory ≡ l .memory) × ((room ≡ l .room) × ((n ≡ l .length) × ForNext w words number t))))
-left-is number words memory room n l e next = (
-  ap (λ (x : Left). x .number) e,
-  (
-    ap (λ (x : Left). x .words) e,
-    (
-      ap (λ (x : Left). x .memory) e,
-      (ap (λ (x : Left). x .room) e, (ap (λ (x : Left). x .length) e, next)),
-    ),
-  ),
-)
-
--- the tables that words hold have arrays of their room
-unpacked-shaped : (w : List ℕ) → Shaped (unpacked w)
-unfolding unpacked
-unpacked-shaped w =
-    record {
-      sessions16 = length-upTo (sessionIn w) 16;
-      trees32 = length-upTo (treeIn w) 32;
-      opens64 = length-upTo (openIn w) 64;
-      locks128 = length-upTo (lockIn w) 128;
-      files16 = length-upTo (fileIn w) 16;
-    }
-
-keeps : (memory room : List ℕ) (a b c : Bool) (x y z r : Taken) → (x .memory ≡ memory) × (x .room ≡ room) → (y .memory ≡ memory) × (y .room ≡ room)
-    → (z .memory ≡ memory) × (z .room ≡ room) → r .number ≡ 0 → (cond a x (cond b y (cond c z r)) .number ≡ 0 → ⊥)
-    → (cond a x (cond b y (cond c z r)) .memory ≡ memory) × (cond a x (cond b y (cond c z r)) .room ≡ room)
-keeps memory room true b c x y z r p q s e h = p
-keeps memory room false true c x y z r p q s e h = q
-keeps memory room false false true x y z r p q s e h = s
-keeps memory room false false false x y z r p q s e h = absurd (h e)
-
--- the core leaves the file memory and the reply room where it refuses
-pub core-keeps : (connection : ℕ) (s : List ℕ) (t : Tables) (memory room : List ℕ) → (take-message connection s t memory room .number ≡ 0 → ⊥)
-    → (take-message connection s t memory room .memory ≡ memory) × (take-message connection s t memory room .room ≡ room)
-unfolding take-message notTaken replied
-core-keeps connection s t memory room h =
-    keeps memory room (ltb (length room) 12292 || not (eqb (length memory) 65536)) (not (sound t)) (dropped s)
-    (notTaken 2 t memory room) (notTaken 4 t memory room) (notTaken 1 t memory room) (replied s room (answered connection s t memory))
-    (refl, refl) (refl, refl) (refl, refl) refl h
+use Rattle.tables.specs.Words.{tablesOf, inUseFit}
+use Rattle.boundary.specs.BoundaryLaws.{words-good, ready-of}
+use Rattle.boundary.specs.Boundary.{ready, ForNext, wrongRoom, messageTaken}
 
 pub room-short : (memory room : List ℕ) → length room < 12292 → wrongRoom memory room ≡ true
 unfolding wrongRoom
@@ -74,35 +28,77 @@ pub room-right : (memory room : List ℕ) → 12292 ≤ length room → length m
 unfolding wrongRoom
 room-right memory room h e = rw (le-ltb (length room) 12292 h, eq-eqb (length memory) 65536 e)
 
-module _ (connection : ℕ) (s w memory room : List ℕ) (before : ℕ) where
-  pub wrong-left : wrongRoom memory room ≡ true → left 2 w memory room before ≡ messageLeft connection s w memory room before
-  unfolding messageLeft
-  wrong-left e = rw e
+-- ---- the rows, in the order 2, 4, 1
+
+module _ (connection : ℕ) (s w memory room : List ℕ) where
+  -- "reply room under 12,292 bytes, or file memory not 65,536"
+  pub row-room : wrongRoom memory room ≡ true → notTaken 2 (tablesOf w) memory room ≡ messageTaken connection s w memory room
+  unfolding messageTaken
+  row-room e = rw e
 
   module _ (right : wrongRoom memory room ≡ false) where
-    pub unfit-left : fits w ≡ false → left 4 w memory room before ≡ messageLeft connection s w memory room before
-    unfolding messageLeft
-    unfit-left e = rw (right, e)
+    -- "tables not sound"
+    unsound-by : (fit : Bool) → inUseFit w ≡ fit → (fit && sound (tablesOf w)) ≡ false
+        → notTaken 4 (tablesOf w) memory room ≡ messageTaken connection s w memory room
+    unfolding messageTaken take-message wrongRoom
+    unsound-by true f e = rw (right, f, e)
+    unsound-by false f e = rw (right, f)
 
-    module _ (e : fits w ≡ true) (k : Taken) (same : k ≡ take-message connection s (unpacked w) memory room) where
-      pub refused-left : (k .number ≡ 0 → ⊥) → left (k .number) w (k .memory) (k .room) before ≡ messageLeft connection s w memory room before
-      unfolding messageLeft messageTaken leftBy
-      refused-left n =
-          let m : take-message connection s (unpacked w) memory room .number ≡ 0 → ⊥ = λ z. n (ap (λ (x : Taken). x .number) same ∙ z) in
-          let kept = core-keeps connection s (unpacked w) memory room m in
-          let f : eqb (take-message connection s (unpacked w) memory room .number) 0 ≡ false = ne-eqb _ _ m in
-          rw (right, e, f, same, kept .0, kept .1)
+    pub row-sound : (inUseFit w && sound (tablesOf w)) ≡ false → notTaken 4 (tablesOf w) memory room ≡ messageTaken connection s w memory room
+    row-sound e = unsound-by (inUseFit w) refl e
 
-      -- the words out are as `pack` leaves them
-      module _ (z : k .number ≡ 0) (out : List ℕ) (p : (out ≡ packed (k .tables)) × ((fits out ≡ true) × (unpacked out ≡ k .tables))) where
-        pub done-left : left 0 out (k .memory) (k .room) (k .length) ≡ messageLeft connection s w memory room before
-        unfolding messageLeft messageTaken leftBy
-        done-left =
-            let m : take-message connection s (unpacked w) memory room .number ≡ 0 = ap (λ (x : Taken). x .number) (sym same) ∙ z in
-            ap (λ (l : List ℕ). left 0 l (k .memory) (k .room) (k .length)) (p .0) ∙ rw (right, e, m, same)
+    module _ (fit : (inUseFit w && sound (tablesOf w)) ≡ true) where
+      -- "message dropped"
+      pub row-dropped : dropped s ≡ true → notTaken 1 (tablesOf w) memory room ≡ messageTaken connection s w memory room
+      unfolding messageTaken take-message wrongRoom
+      row-dropped d = let b = both-hold (inUseFit w) (sound (tablesOf w)) fit in rw (right, b .0, b .1, d)
 
-        pub done-message : ForNext w out 0 (messageTaken connection s w memory room .tables)
-        unfolding messageTaken
-        done-message =
-            done-next w out (take-message connection s (unpacked w) memory room .tables) (p .1 .0) (p .1 .1 ∙ ap (λ (x : Taken). x .tables) same)
-            (λ h. take-message-good connection s (unpacked w) memory room (record { sound = h; shaped = unpacked-shaped w }) .sound)
+      -- a message fit to be answered
+      pub row-answered : dropped s ≡ false → replied s room (answered connection s (tablesOf w) memory) ≡ messageTaken connection s w memory room
+      unfolding messageTaken take-message wrongRoom
+      row-answered d = let b = both-hold (inUseFit w) (sound (tablesOf w)) fit in rw (right, b .0, b .1, d)
+
+-- ---- words in use that fit, and such as do not
+
+over-words : (row : Bool) (x y z : Taken) → cond row x (cond true (cond row x y) z) ≡ cond row x y
+over-words true x y z = refl
+over-words false x y z = refl
+
+-- demand 2's definition, on the tables that the words hold
+pub message-fit : (connection : ℕ) (s w memory room : List ℕ) → inUseFit w ≡ true
+    → messageTaken connection s w memory room ≡ take-message connection s (tablesOf w) memory room
+unfolding messageTaken take-message wrongRoom
+message-fit connection s w memory room e =
+    rw e (over-words (ltb (length room) 12292 || not (eqb (length memory) 65536)) (notTaken 2 (tablesOf w) memory room) _ (notTaken 4 (tablesOf w) memory room))
+
+-- 2 where row 2 applies, else 4, and nothing changes
+pub message-unfit : (connection : ℕ) (s w memory room : List ℕ) → inUseFit w ≡ false
+    → messageTaken connection s w memory room ≡ cond (wrongRoom memory room) (notTaken 2 (tablesOf w) memory room) (notTaken 4 (tablesOf w) memory room)
+unfolding messageTaken
+message-unfit connection s w memory room e = rw e
+
+-- ---- for the next call
+
+unfit-tables : (w memory room : List ℕ) (row : Bool) → sound (tablesOf w) ≡ true
+    → sound (cond row (notTaken 2 (tablesOf w) memory room) (notTaken 4 (tablesOf w) memory room) .tables) ≡ true
+unfolding notTaken
+unfit-tables w memory room true e = e
+unfit-tables w memory room false e = e
+
+module _ (connection : ℕ) (s w memory room : List ℕ) where
+  keeps-by : (fit : Bool) → inUseFit w ≡ fit → sound (tablesOf w) ≡ true → sound (messageTaken connection s w memory room .tables) ≡ true
+  keeps-by true f e = rw (message-fit connection s w memory room f) (take-message-good connection s (tablesOf w) memory room (words-good w e) .sound)
+  keeps-by false f e = rw (message-unfit connection s w memory room f) (unfit-tables w memory room (wrongRoom memory room) e)
+
+  -- the words out, as the call leaves them
+  pub message-next : (out : List ℕ) (r : ℕ) → tablesOf out ≡ messageTaken connection s w memory room .tables → ((r ≡ 0 → ⊥) → out ≡ w)
+      → (inUseFit w ≡ true → inUseFit out ≡ true) → ForNext w out r (messageTaken connection s w memory room .tables)
+  unfolding ready
+  message-next out r t kept f =
+      record {
+        held = λ _. t;
+        kept = kept;
+        again = λ h.
+            let b = both-hold (inUseFit w) (sound (tablesOf w)) h in
+            ready-of out (messageTaken connection s w memory room .tables) (f (b .0)) t (keeps-by (inUseFit w) refl (b .1));
+      }

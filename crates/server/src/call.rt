@@ -33,7 +33,8 @@ ghost use Rattle.message.specs.Refusal.{statusOf};
 ghost use Rattle.message.specs.Message.{served, onlyStatus, answered, replied};
 ghost use Rattle.invariants.specs.Sound.{Good};
 ghost use Rattle.tables.specs.Words.{tablesOf, inUseFit};
-ghost use Rattle.server.specs.TakenOf.{takenOf, refusal, takenInPlace};
+ghost use Rattle.boundary.specs.Boundary.{messageTaken};
+ghost use Rattle.server.specs.TakenOf.{takenOf, refusal};
 
 // Row 1 of document 01's table "What a call returns"; `host::answer` has the others.
 pub const DROPPED: u8 = 1;
@@ -141,7 +142,7 @@ pub fn take_message(
     memory: &mut [u8],
     room: &mut [u8],
 ) -> Taken
-    ensures { λ r. ⌜ takenOf r (tablesOf (now (words .exit))) (now (memory .exit)) (now (room .exit)) ≡ takenInPlace connection (now (s .entry)) (now (words .entry)) (now (memory .entry)) (now (room .entry)) ⌝ }
+    ensures { λ r. ⌜ takenOf r (tablesOf (now (words .exit))) (now (memory .exit)) (now (room .exit)) ≡ messageTaken connection (now (s .entry)) (now (words .entry)) (now (memory .entry)) (now (room .entry)) ⌝ }
     ensures { λ r. ⌜ ((r .number ≡ 0 → ⊥) → now (words .exit) ≡ now (words .entry)) ⌝ }
     ensures { λ _. ⌜ (inUseFit (now (words .entry)) ≡ true → inUseFit (now (words .exit)) ≡ true) ⌝ }
 {

@@ -7,8 +7,12 @@ use mathlib.Core.Path.{refl, sym, _∙_}
 use native.Mathlib.Omega.{arith}
 use borrow.Author.Tests.{not-true, not-false}
 use Rattle.message.specs.Message.{answered}
-use Rattle.tables.specs.Words.{tablesOf}
-use Rattle.server.specs.Rows.{refusal-taken, answered-number, words-good, row-room, row-memory, row-sound, row-dropped, row-answered, kept-length}
+use Rattle.soundness.specs.Sound.{sound}
+use Rattle.tables.specs.Words.{tablesOf, inUseFit}
+use Rattle.lists.specs.Truth.{both-hold}
+use Rattle.boundary.specs.BoundaryLaws.{words-good}
+use Rattle.boundary.specs.MessageLaws.{room-short, memory-wrong, room-right, row-room, row-sound, row-dropped, row-answered}
+use Rattle.server.specs.Rows.{refusal-taken, answered-number, kept-length}
 
 refuse-call-requires : tie.Need-refuse-call-requires
 refuse-call-requires c κs = search needs
@@ -16,7 +20,7 @@ refuse-call-requires c κs = search needs
 returns : tie.Need-returns
 returns c =
     let args = c .before .before .before .before .before .args in (
-      refusal-taken (c .refuse-call .result) 2 (tablesOf (args .words .now)) (args .memory .now) (args .room .now) (c .refuse-call .ensures) ∙ row-room (args .connection) (args .s .now) (args .words .now) (args .memory .now) (args .room .now) (c .before .if1 .taken),
+      refusal-taken (c .refuse-call .result) 2 (tablesOf (args .words .now)) (args .memory .now) (args .room .now) (c .refuse-call .ensures) ∙ row-room (args .connection) (args .s .now) (args .words .now) (args .memory .now) (args .room .now) (room-short (args .memory .now) (args .room .now) (c .before .if1 .taken)),
       (λ _. refl, λ f. f),
     )
 
@@ -26,7 +30,7 @@ refuse-call-requires-2 c κs = search needs
 returns-2 : tie.Need-returns-2
 returns-2 c =
     let args = c .before .before .before .before .before .before .args in (
-      refusal-taken (c .refuse-call2 .result) 2 (tablesOf (args .words .now)) (args .memory .now) (args .room .now) (c .refuse-call2 .ensures) ∙ row-memory (args .connection) (args .s .now) (args .words .now) (args .memory .now) (args .room .now) (omega arith) (c .before .if2 .taken),
+      refusal-taken (c .refuse-call2 .result) 2 (tablesOf (args .words .now)) (args .memory .now) (args .room .now) (c .refuse-call2 .ensures) ∙ row-room (args .connection) (args .s .now) (args .words .now) (args .memory .now) (args .room .now) (memory-wrong (args .memory .now) (args .room .now) (c .before .if2 .taken)),
       (λ _. refl, λ f. f),
     )
 
@@ -39,7 +43,7 @@ refuse-call-requires-3 c κs = search needs
 returns-3 : tie.Need-returns-3
 returns-3 c =
     let args = c .before .before .before .before .before .before .before .before .before .before .args in (
-      refusal-taken (c .refuse-call3 .result) 4 (tablesOf (args .words .now)) (args .memory .now) (args .room .now) (c .refuse-call3 .ensures) ∙ row-sound (args .connection) (args .s .now) (args .words .now) (args .memory .now) (args .room .now) (omega arith) (c .before .before .before .before .before .if2 .left) (sym (c .before .before .is-sound .ensures) ∙ not-true (c .before .before .is-sound .result) (c .before .if3 .taken)),
+      refusal-taken (c .refuse-call3 .result) 4 (tablesOf (args .words .now)) (args .memory .now) (args .room .now) (c .refuse-call3 .ensures) ∙ row-sound (args .connection) (args .s .now) (args .words .now) (args .memory .now) (args .room .now) (room-right (args .memory .now) (args .room .now) (omega arith) (c .before .before .before .before .before .if2 .left)) (sym (c .before .before .is-sound .ensures) ∙ not-true (c .before .before .is-sound .result) (c .before .if3 .taken)),
       (λ _. refl, λ f. f),
     )
 
@@ -53,7 +57,7 @@ returns-4 : tie.Need-returns-4
 returns-4 c =
     let args = c .before .before .before .before .before .before .before .before .before .before .before .before .args in
     let is-sound = c .before .before .before .before .is-sound in (
-      refusal-taken (c .refuse-call4 .result) 1 (tablesOf (args .words .now)) (args .memory .now) (args .room .now) (c .refuse-call4 .ensures) ∙ row-dropped (args .connection) (args .s .now) (args .words .now) (args .memory .now) (args .room .now) (omega arith) (c .before .before .before .before .before .before .before .if2 .left) (sym (is-sound .ensures) ∙ not-false (is-sound .result) (c .before .before .before .if3 .left)) (sym (c .before .before .is-dropped .ensures) ∙ c .before .if4 .taken),
+      refusal-taken (c .refuse-call4 .result) 1 (tablesOf (args .words .now)) (args .memory .now) (args .room .now) (c .refuse-call4 .ensures) ∙ row-dropped (args .connection) (args .s .now) (args .words .now) (args .memory .now) (args .room .now) (room-right (args .memory .now) (args .room .now) (omega arith) (c .before .before .before .before .before .before .before .if2 .left)) (sym (is-sound .ensures) ∙ not-false (is-sound .result) (c .before .before .before .if3 .left)) (sym (c .before .before .is-dropped .ensures) ∙ c .before .if4 .taken),
       (λ _. refl, λ f. f),
     )
 
@@ -63,7 +67,7 @@ answer-message-requires c κs =
     let is-sound = c .before .before .before .before .before .before .is-sound in
     let n = kept-length (args .s .now) (sym (c .before .before .before .before .is-dropped .ensures) ∙ c .before .before .before .if4 .left) in
     let fit = sym (is-sound .ensures) ∙ not-false (is-sound .result) (c .before .before .before .before .before .if3 .left) in
-    (search needs, (words-good (args .words .now) fit, (n .0, (n .1, (c .before .before .before .before .before .before .before .before .before .if2 .left, omega arith)))))
+    (search needs, (words-good (args .words .now) (both-hold (inUseFit (args .words .now)) (sound (tablesOf (args .words .now))) fit .1), (n .0, (n .1, (c .before .before .before .before .before .before .before .before .before .if2 .left, omega arith)))))
 
 same-length : tie.Need-same-length
 same-length c = search needs
@@ -79,7 +83,7 @@ returns-5 c =
     let fit = sym (is-sound .ensures) ∙ not-false (is-sound .result) (c .before .before .before .before .before .before .before .before .before .before .if3 .left) in
     let kept = sym (c .before .before .before .before .before .before .before .before .before .is-dropped .ensures) ∙ c .before .before .before .before .before .before .before .before .if4 .left in
     let taken = c .before .before .before .before .answer-message in (
-      taken .ensures .0 ∙ row-answered (args .connection) (args .s .now) (args .words .now) (args .memory .now) (args .room .now) (omega arith) (if2 .left) fit kept,
+      taken .ensures .0 ∙ row-answered (args .connection) (args .s .now) (args .words .now) (args .memory .now) (args .room .now) (room-right (args .memory .now) (args .room .now) (omega arith) (if2 .left)) fit kept,
       (
         λ n. absurd (n (answered-number (taken .result) (tablesOf (taken .last .1 .1 .0)) (args .s .now) (taken .last .1 .1 .1 .0) (args .room .now) (taken .last .1 .1 .1 .1 .0) (answered (args .connection) (args .s .now) (tablesOf (args .words .now)) (args .memory .now)) (taken .ensures .0))),
         taken .ensures .1,
