@@ -16,8 +16,8 @@ use Rattle.chain.specs.Header.{dropped}
 use Rattle.message.specs.Message.{Taken, notTaken, replied, answered, take-message}
 use Rattle.claims.specs.HostReasons.{SessionReason, session-unsound, session-full, session-done, TreeReason, tree-unsound, tree-range, tree-nobody, tree-full, tree-done, OpenReason, open-unsound, open-range, open-nowhere, open-exceeds, open-full, open-done, LoadReason, load-memory, load-unsound, load-range, load-opened, load-done, DropReason, drop-unsound, drop-done, addSession-reason, addTree-reason, addOpen-reason, loadFile-reason, dropConnection-reason}
 use Rattle.invariants.specs.GivenCases.{cond-case}
-use Rattle.words.specs.Words.{fits, unpacked}
-use Rattle.boundary.specs.Boundary.{ready, numberOf, sessionAdded, treeAdded, openAdded, connectionDropped, fileLoaded, loadNumberOf, messageTaken, wrongRoom, Left, left, leftBy, messageLeft}
+use Rattle.tables.specs.Words.{inUseFit, tablesOf}
+use Rattle.boundary.specs.Boundary.{ready, numberOf, sessionAdded, treeAdded, openAdded, connectionDropped, fileLoaded, loadNumberOf, messageTaken, wrongRoom}
 
 -- a call answers another number than 4
 abbrev Takes : ℕ → Type 0
@@ -71,9 +71,9 @@ module _ (t : Tables) (s : sound t ≡ true) where
 -- ---- the calls, on ready words
 
 module _ (w : List ℕ) (h : ready w ≡ true) where
-  ready-says : (fits w ≡ true) × (sound (unpacked w) ≡ true)
+  ready-says : (inUseFit w ≡ true) × (sound (tablesOf w) ≡ true)
   unfolding ready
-  ready-says = both-hold (fits w) (sound (unpacked w)) h
+  ready-says = both-hold (inUseFit w) (sound (tablesOf w)) h
 
   number-takes : (a : Answer) → Takes (a .number) → Takes (numberOf w a)
   unfolding numberOf
@@ -81,30 +81,28 @@ module _ (w : List ℕ) (h : ready w ≡ true) where
 
   pub session-ready : (connection : ℕ) → numberOf w (sessionAdded w connection) ≡ 4 → ⊥
   unfolding sessionAdded
-  session-ready connection = number-takes _ (session-takes (unpacked w) (ready-says .1) (addSession-reason (unpacked w) connection))
+  session-ready connection = number-takes _ (session-takes (tablesOf w) (ready-says .1) (addSession-reason (tablesOf w) connection))
 
   pub tree-ready : (uid right : ℕ) → numberOf w (treeAdded w uid right) ≡ 4 → ⊥
   unfolding treeAdded
-  tree-ready uid right = number-takes _ (tree-takes (unpacked w) (ready-says .1) (addTree-reason (unpacked w) uid right))
+  tree-ready uid right = number-takes _ (tree-takes (tablesOf w) (ready-says .1) (addTree-reason (tablesOf w) uid right))
 
   pub open-ready : (uid tid process file access : ℕ) → numberOf w (openAdded w uid tid process file access) ≡ 4 → ⊥
   unfolding openAdded
-  open-ready uid tid process file access = number-takes _ (open-takes (unpacked w) (ready-says .1) (addOpen-reason (unpacked w) uid tid process file access))
+  open-ready uid tid process file access = number-takes _ (open-takes (tablesOf w) (ready-says .1) (addOpen-reason (tablesOf w) uid tid process file access))
 
   pub drop-ready : (connection : ℕ) → numberOf w (connectionDropped w connection) ≡ 4 → ⊥
   unfolding connectionDropped
-  drop-ready connection = number-takes _ (drop-takes (unpacked w) (ready-says .1) (dropConnection-reason (unpacked w) connection))
+  drop-ready connection = number-takes _ (drop-takes (tablesOf w) (ready-says .1) (dropConnection-reason (tablesOf w) connection))
 
   pub load-ready : (file : ℕ) (contents memory : List ℕ) → loadNumberOf w file contents memory ≡ 4 → ⊥
   unfolding loadNumberOf fileLoaded
   load-ready file contents memory =
       cond-case Takes (not (eqb (length memory) 65536)) 2 _ (λ _ e. omega arith)
-      (λ _. number-takes _ (load-takes (unpacked w) (ready-says .1) (loadFile-reason (unpacked w) file contents memory)))
+      (λ _. number-takes _ (load-takes (tablesOf w) (ready-says .1) (loadFile-reason (tablesOf w) file contents memory)))
 
-  pub message-ready : (connection : ℕ) (m memory room : List ℕ) (before : ℕ) → messageLeft connection m w memory room before .number ≡ 4 → ⊥
-  unfolding messageLeft messageTaken leftBy
-  message-ready connection m memory room before =
-      cond-case (λ (l : Left). Takes (l .number)) (wrongRoom memory room) (left 2 w memory room before) _ (λ _ e. omega arith)
-      (λ _. rw (ready-says .0)
-      (cond-case (λ (l : Left). Takes (l .number)) (eqb (take-message connection m (unpacked w) memory room .number) 0) _ _ (λ _ e. omega arith)
-      (λ _. message-takes (unpacked w) (ready-says .1) connection m memory room)))
+  pub message-ready : (connection : ℕ) (m memory room : List ℕ) → messageTaken connection m w memory room .number ≡ 4 → ⊥
+  unfolding messageTaken notTaken
+  message-ready connection m memory room =
+      cond-case (λ (k : Taken). Takes (k .number)) (wrongRoom memory room) (notTaken 2 (tablesOf w) memory room) _ (λ _ e. omega arith)
+      (λ _. rw (ready-says .0) (message-takes (tablesOf w) (ready-says .1) connection m memory room))
