@@ -1,0 +1,86 @@
+-- The open that a command names, or why it names none: the definition's order, as one answer. Assumes nothing.
+use mathlib.Core.Path.{_≡_, refl}
+use Prim.Native.Nat.{ℕ, _≤_}
+use native.Mathlib.Omega.{arith}
+use mathlib.Core.Bool.{Bool, true, false, cond}
+use mathlib.Core.List.{List}
+use lib.ListN.{getD}
+use Rattle.lists.specs.Walk.{any, found}
+use Rattle.lists.specs.declared.Found.{Found}
+use Rattle.lists.specs.declared.Found.the-variants.{At, Nothing}
+use Rattle.records.specs.declared.Open.{Open}
+use Rattle.records.specs.declared.Tables.{Tables}
+use Rattle.records.specs.Empty.{noOpen}
+use Rattle.records.specs.Held.{sessionsOf, treesOf, opensOf}
+use Rattle.soundness.specs.Lookup.{isTree}
+use Rattle.invariants.specs.SoundParts.{sound-says}
+use Rattle.message.specs.declared.caller.Caller.{Caller}
+use Rattle.message.specs.declared.answer.Performed.{Performed}
+use Rattle.message.specs.declared.refusal.Refusal.{Refusal}
+use Rattle.message.specs.declared.refusal.Refusal.the-variants.{NoSession, NoTree, NoOpen}
+use Rattle.message.specs.Command.{Given, refused, isSession, withSession, withTree, isOpen, openAt, withOpen}
+use Rattle.message.specs.Given.{Gives}
+use Rattle.invariants.specs.Sound.{Good, open-file}
+use Rattle.requests.specs.declared.who.Reached.{Reached}
+use Rattle.requests.specs.declared.who.Reached.the-variants.{Open as Named, Refused}
+use Rattle.requests.specs.Leaves.{refusal, gives-refused}
+
+unfoldable pub reachedAt : Found → List Open → Reached
+reachedAt (At k) opens = Named (getD opens k noOpen)
+reachedAt Nothing opens = Refused NoOpen
+
+unfoldable pub reached : Caller → Tables → ℕ → Reached
+reached c t fid =
+    cond (any (isSession c) (sessionsOf t))
+    (cond (any (isTree (c .tid) (c .uid)) (treesOf t)) (reachedAt (found (isOpen c fid) (opensOf t)) (opensOf t)) (Refused NoTree))
+    (Refused NoSession)
+
+unfoldable pub onReached : Reached → (Open → Given) → Given
+onReached (Named o) next = next o
+onReached (Refused why) next = refused why
+
+who-case : (b d : Bool) (x : Given) (y : Reached) (next : Open → Given) → x ≡ onReached y next
+    → cond b (cond d x (refused NoTree)) (refused NoSession) ≡ onReached (cond b (cond d y (Refused NoTree)) (Refused NoSession)) next
+unfolding onReached
+who-case true true x y next e = e
+who-case true false x y next e = refl
+who-case false d x y next e = refl
+
+at-case : (f : Found) (opens : List Open) (next : Open → Given) → openAt f opens next ≡ onReached (reachedAt f opens) next
+unfolding openAt reachedAt onReached
+at-case (At k) opens next = refl
+at-case Nothing opens next = refl
+
+-- a command on an open goes by this answer
+pub with-reached : (c : Caller) (t : Tables) (fid : ℕ) (next : Open → Given) → withOpen c t fid next ≡ onReached (reached c t fid) next
+unfolding withOpen withTree withSession reached
+with-reached c t fid next =
+    who-case (any (isSession c) (sessionsOf t)) (any (isTree (c .tid) (c .uid)) (treesOf t)) (openAt (found (isOpen c fid) (opensOf t)) (opensOf t) next)
+    (reachedAt (found (isOpen c fid) (opensOf t)) (opensOf t)) next (at-case (found (isOpen c fid) (opensOf t)) (opensOf t) next)
+
+at-file : (f : Found) (opens : List Open) (o : Open) → ((k : ℕ) → f ≡ At k → getD opens k noOpen .file ≤ 15) → reachedAt f opens ≡ Named o → o .file ≤ 15
+unfolding reachedAt
+at-file (At k) opens o h e = let same : getD opens k noOpen ≡ o = cc in rw same at (h k refl)
+at-file Nothing opens o h e = let never : _≡_ {A = ℕ} 0 1 = cc in absurd (omega arith)
+
+who-file : (b d : Bool) (y : Reached) (o : Open) → (y ≡ Named o → o .file ≤ 15) → cond b (cond d y (Refused NoTree)) (Refused NoSession) ≡ Named o → o .file ≤ 15
+who-file true true y o h e = h e
+who-file true false y o h e = let never : _≡_ {A = ℕ} 0 1 = cc in absurd (omega arith)
+who-file false d y o h e = let never : _≡_ {A = ℕ} 0 1 = cc in absurd (omega arith)
+
+-- the open's file is one of the 16
+pub reached-file : (c : Caller) (t : Tables) (fid : ℕ) (o : Open) → Good t → reached c t fid ≡ Named o → o .file ≤ 15
+unfolding reached
+reached-file c t fid o g e =
+    who-file (any (isSession c) (sessionsOf t)) (any (isTree (c .tid) (c .uid)) (treesOf t)) (reachedAt (found (isOpen c fid) (opensOf t)) (opensOf t)) o
+    (at-file (found (isOpen c fid) (opensOf t)) (opensOf t) o (λ k h. open-file c t fid k h (sound-says t (g .sound)))) e
+
+-- a command on an open that is not reached, and on one that is
+module _ (c : Caller) (t : Tables) (fid : ℕ) (m : List ℕ) (p : Performed) (next : Open → Given) where
+  pub not-reached : (why : Refusal) → reached c t fid ≡ Refused why → p ≡ refusal why t → Gives (withOpen c t fid next) t m p m
+  unfolding onReached
+  not-reached why e q = rw (with-reached c t fid next, e) (gives-refused why refl q)
+
+  pub is-reached : (left : List ℕ) (o : Open) → reached c t fid ≡ Named o → Gives (next o) t m p left → Gives (withOpen c t fid next) t m p left
+  unfolding onReached
+  is-reached left o e g = rw (with-reached c t fid next, e) g

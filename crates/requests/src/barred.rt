@@ -1,0 +1,48 @@
+// The lock in the way of a read or a write, and the size of its file.
+
+use lists::Found;
+use locks::types::Ask;
+use locks::types::Purpose;
+use locks::walk::first_answer;
+use message::caller::Caller;
+use soundness::open_words::file_table;
+use tables::file::size_at;
+ghost use mathlib.Core.Path.{_≡_};
+ghost use Prim.Native.Nat.{_≤_};
+ghost use lib.ListN.{length};
+ghost use Rattle.tables.specs.Words.{tablesOf};
+ghost use Rattle.message.specs.Command.{askOf, barring};
+ghost use Rattle.message.specs.Contents.{sizeOf};
+ghost use Rattle.invariants.specs.Sound.{Good};
+
+// "Locks: process from the range; reads and writes: from the header."
+pub(crate) fn ask_of(c: Caller, fid: u16, offset: u64, count: u16, purpose: Purpose) -> Ask
+    ensures { λ r. ⌜ r ≡ askOf c fid offset count purpose ⌝ }
+{
+    Ask {
+        fid,
+        process: c.process,
+        offset,
+        length: count as u64,
+        purpose,
+    }
+}
+
+// The first listed lock in the way: 1/33.
+pub(crate) fn first_bar(words: &[u64], q: Ask) -> Found
+    requires { ⌜ length (now words) ≡ 1172 ⌝ }
+    requires { ⌜ Good (tablesOf (now words)) ⌝ }
+    ensures { λ r. ⌜ r ≡ barring (tablesOf (now (words .entry))) q ⌝ }
+{
+    let files = file_table(&words[130..515]);
+    first_answer(&files, &words[515..1156], q)
+}
+
+// A file's size.
+pub(crate) fn file_size(words: &[u64], file: u8) -> usize
+    requires { ⌜ length (now words) ≡ 1172 ⌝ }
+    requires { ⌜ file ≤ 15 ⌝ }
+    ensures { λ r. ⌜ r ≡ sizeOf (tablesOf (now (words .entry))) file ⌝ }
+{
+    size_at(&words[1156..1172], file as usize)
+}

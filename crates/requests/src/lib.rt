@@ -1,0 +1,5 @@
+// One command of a message carried out on the words of the tables and on the file memory (document 01, "Refusals on the
+// wire" and "Locks, reads and writes"): `perform::perform_block`. The definitions are message/specs/Command.antt's.
+
+mod barred;
+mod who;
