@@ -1,3 +1,5 @@
 pub mod Told
 pub mod Leaves
 pub mod Reach
+pub mod Steps
+pub mod ReadPart

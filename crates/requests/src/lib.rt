@@ -2,4 +2,5 @@
 // wire" and "Locks, reads and writes"): `perform::perform_block`. The definitions are message/specs/Command.antt's.
 
 mod barred;
+mod reading;
 mod who;

@@ -1,0 +1,62 @@
+-- What LOCKING, READ and WRITE do once it is known who asks: the parts of message/specs/Command.antt's definitions, and that these
+-- are those. Assumes nothing.
+use mathlib.Core.Path.{_≡_, refl}
+use Prim.Native.Nat.{ℕ}
+use mathlib.Core.Bool.{cond}
+use mathlib.Core.List.{List}
+use lib.Dec.{eqb}
+use Rattle.records.specs.declared.Open.{Open}
+use Rattle.records.specs.declared.Tables.{Tables}
+use Rattle.records.specs.Held.{opensOf}
+use Rattle.locks.specs.Request.{locking}
+use Rattle.locks.specs.declared.types.Purpose.the-variants.{Read as Reading, Write as Writing}
+use Rattle.soundness.specs.File.{fileOf}
+use Rattle.chain.specs.declared.block.LockingFields.{LockingFields}
+use Rattle.chain.specs.declared.block.ReadFields.{ReadFields}
+use Rattle.chain.specs.declared.block.WriteFields.{WriteFields}
+use Rattle.message.specs.declared.caller.Caller.{Caller}
+use Rattle.message.specs.Contents.{readBytes, written, resized}
+use Rattle.message.specs.declared.refusal.Refusal.the-variants.{NoAccess, LockType, NoSpace}
+use Rattle.message.specs.Command.{Given, refused, done, read, wrote, withOpen, servedType, requestOf, lockingAfter, doLocking, askOf, unlessBarred, barring, doRead, endsPast, doWrite}
+
+-- ---- LOCKING
+
+unfoldable pub lockOpen : Tables → List ℕ → LockingFields → List ℕ → Given
+lockOpen t memory f area =
+    cond (servedType (f .kind))
+    (lockingAfter t memory (locking (fileOf (opensOf t)) (t .locks) (t .nlocks) (requestOf f) area))
+    (refused LockType)
+
+pub locking-steps : (c : Caller) (t : Tables) (memory : List ℕ) (f : LockingFields) (area : List ℕ)
+    → doLocking c t memory f area ≡ withOpen c t (f .fid) (λ o. lockOpen t memory f area)
+unfolding doLocking lockOpen
+locking-steps c t memory f area = refl
+
+-- ---- READ
+
+unfoldable pub readOpen : Caller → Tables → List ℕ → ReadFields → Open → Given
+readOpen c t memory f o =
+    cond (eqb (o .access) 1) (refused NoAccess)
+    (unlessBarred (barring t (askOf c (f .fid) (f .offset) (f .max) Reading))
+    (done t memory (read (readBytes t memory (o .file) (f .offset) (f .max)))))
+
+pub read-steps : (c : Caller) (t : Tables) (memory : List ℕ) (f : ReadFields) → doRead c t memory f ≡ withOpen c t (f .fid) (readOpen c t memory f)
+unfolding doRead readOpen
+read-steps c t memory f = refl
+
+-- ---- WRITE
+
+unfoldable pub writeFree : Tables → List ℕ → WriteFields → ℕ → List ℕ → Given
+writeFree t memory f file bytes =
+    cond (endsPast (f .offset) (f .count)) (refused NoSpace)
+    (done (resized t file (f .offset) (f .count)) (written t memory file (f .offset) bytes) (wrote (f .count)))
+
+unfoldable pub writeOpen : Caller → Tables → List ℕ → WriteFields → List ℕ → Open → Given
+writeOpen c t memory f bytes o =
+    cond (eqb (o .access) 0) (refused NoAccess)
+    (unlessBarred (barring t (askOf c (f .fid) (f .offset) (f .count) Writing)) (writeFree t memory f (o .file) bytes))
+
+pub write-steps : (c : Caller) (t : Tables) (memory : List ℕ) (f : WriteFields) (bytes : List ℕ)
+    → doWrite c t memory f bytes ≡ withOpen c t (f .fid) (writeOpen c t memory f bytes)
+unfolding doWrite writeOpen writeFree
+write-steps c t memory f bytes = refl
