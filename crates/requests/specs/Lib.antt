@@ -3,3 +3,4 @@ pub mod Leaves
 pub mod Reach
 pub mod Steps
 pub mod ReadPart
+pub mod WritePart

@@ -4,3 +4,4 @@
 mod barred;
 mod reading;
 mod who;
+mod writing;

@@ -1,0 +1,66 @@
+-- `requests::writing::do_write` meets its contract: the open is reached first, then the file is written.
+-- Assumes nothing.
+use borrow.Author.Needs.{needs}
+use mathlib.Core.Path.{refl, sym, _∙_}
+use Rattle.tables.specs.Words.{tablesOf}
+use Rattle.requests.specs.Leaves.{refusal}
+use Rattle.requests.specs.Reach.{reached-file, not-reached, is-reached}
+use Rattle.requests.specs.Steps.{write-steps}
+use Rattle.requests.proofs.writing.do_write.Statement.{statement}
+use Rattle.requests.proofs.writing.do_write.Tie as tie
+
+reach-open-requires : tie.Need-reach-open-requires
+reach-open-requires c κs = search needs
+
+enum-known-at : tie.Need-enum-known-at
+enum-known-at c = search needs
+
+write-open-requires : tie.Need-write-open-requires
+write-open-requires c κs =
+    let pre = c .before .before .before .before .before .before .before .before .before .before .pre in
+    let args = c .before .before .before .before .before .before .before .before .before .before .args in
+    (pre .0, (pre .1 .0, (reached-file (args .c) (tablesOf (args .words .now)) (args .f .fid) (c .before .before .before .at .given .0 .0) (pre .1 .0) (sym (c .before .before .before .before .before .reach-open .ensures) ∙ c .before .before .before .at .given .1), (pre .1 .1 .0, pre .1 .1 .1))))
+
+enum-known-at-2 : tie.Need-enum-known-at-2
+enum-known-at-2 c = search needs
+
+same-length : tie.Need-same-length
+same-length c = search needs
+
+same-length-2 : tie.Need-same-length-2
+same-length-2 c = search needs
+
+returns : tie.Need-returns
+returns c =
+    let args = c .before .before .before .before .before .before .before .before .before .before .before .before .before .before .before .args in
+    let t = tablesOf (args .words .now) in (
+      rw (write-steps (args .c) t (args .memory .now) (args .f) (args .source .now))
+          (is-reached (args .c) t (args .f .fid) (args .memory .now) _ _ _ _ (sym (c .before .before .before .before .before .before .before .before .before .before .reach-open .ensures) ∙ c .before .before .before .before .before .before .before .before .at .given .1) (c .before .before .before .before .write-open .ensures .0)),
+      c .before .before .before .before .write-open .ensures .1,
+    )
+
+same-length-3 : tie.Need-same-length-3
+same-length-3 c = search needs
+
+returns-2 : tie.Need-returns-2
+returns-2 c =
+    let args = c .before .before .before .before .before .before .before .before .args in
+    let t = tablesOf (args .words .now) in (
+      rw (write-steps (args .c) t (args .memory .now) (args .f) (args .source .now))
+          (not-reached (args .c) t (args .f .fid) (args .memory .now) (refusal _ t) _ _ (sym (c .before .before .before .reach-open .ensures) ∙ c .before .at2 .given .1) refl),
+      λ h. h,
+    )
+
+pub do-write-spec : {M : Type 1} → statement M
+do-write-spec =
+    tie.close
+    (tie.spec
+    reach-open-requires
+    enum-known-at
+    write-open-requires
+    enum-known-at-2
+    same-length
+    same-length-2
+    returns
+    same-length-3
+    returns-2)
