@@ -1,5 +1,6 @@
 pub mod Told
 pub mod Leaves
+pub mod LockPart
 pub mod Reach
 pub mod Steps
 pub mod ReadPart
