@@ -5,3 +5,4 @@ pub mod Reach
 pub mod Steps
 pub mod ReadPart
 pub mod WritePart
+pub mod Numbers

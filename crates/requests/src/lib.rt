@@ -2,6 +2,7 @@
 // wire" and "Locks, reads and writes"): `perform::perform_block`. The definitions are message/specs/Command.antt's.
 
 mod barred;
+mod leaving;
 mod locking;
 mod reading;
 mod who;
