@@ -5,4 +5,5 @@ pub mod Reach
 pub mod Steps
 pub mod ReadPart
 pub mod WritePart
+pub mod BlockPart
 pub mod Numbers

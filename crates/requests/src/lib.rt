@@ -4,6 +4,7 @@
 mod barred;
 mod leaving;
 mod locking;
+pub mod perform;
 mod reading;
 mod who;
 mod writing;

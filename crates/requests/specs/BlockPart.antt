@@ -1,0 +1,107 @@
+-- Where a block's bytes and a write's data stand in the message: what the reader says of a block that it yields.
+-- Assumes nothing.
+use mathlib.Core.Path.{_≡_, refl, ap, _∙_}
+use Prim.Native.Nat.{ℕ, _+_, _-_, _*_, _≤_}
+use native.Mathlib.Omega.{arith}
+use mathlib.Core.Bool.{Bool, true, false, cond, _&&_, _||_}
+use mathlib.Core.List.{List}
+use lib.ListN.{length, take, drop}
+use lib.Dec.{leb, eqb}
+use borrow.Author.Tests.{leb-true}
+use Rattle.lists.specs.Truth.{both-hold, chosen}
+use Rattle.chain.specs.Layout.{CLOSE, PROCESS_EXIT, LOCKING, READ, WRITE, TREE_DISCONNECT, LOGOFF, wordCount, byteArea, byteCount, blockEnd, unlockCount, lockCount, lockType, dataLength, dataOffset}
+use Rattle.chain.specs.Parse.{shaped, isLarge, lockingFits, dataInside, writeFits, linkFits, linkAt, answer, parseLocking, parseRead, parseWrite, parseClose, parseLogoff, parseEmpty, parse}
+use Rattle.chain.specs.ParseLaws.{shaped-words, locking-inside, write-inside}
+use Rattle.locks.specs.Wire.{rangeSize}
+use Rattle.chain.specs.declared.block.Body.{Body}
+use Rattle.chain.specs.declared.block.Body.the-variants.{Locking, Read, Write, Close, Logoff, TreeDisconnect, ProcessExit}
+use Rattle.chain.specs.declared.block.Next.{Next}
+use Rattle.chain.specs.declared.block.Block.{Block}
+use Rattle.chain.specs.declared.block.LockingFields.{LockingFields}
+use Rattle.chain.specs.declared.block.WriteFields.{WriteFields}
+use Rattle.chain.specs.declared.block.Parsed.{Parsed}
+use Rattle.chain.specs.declared.block.Parsed.the-variants.{Whole, Malformed}
+
+-- a LOCKING block of that place and length
+pub record LockingPart (s : List ℕ) (at size : ℕ) : Type 0 where
+  pub area : byteArea s at ≡ at + 19
+  pub end : at + size ≡ blockEnd s at
+  pub inside : blockEnd s at ≤ length s
+
+-- a WRITE block with those fields
+pub record WritePart (s : List ℕ) (at : ℕ) (f : WriteFields) : Type 0 where
+  pub from : f .from ≡ dataOffset s at
+  pub count : f .count ≡ dataLength s at
+  pub inside : dataOffset s at + dataLength s at ≤ length s
+
+unfoldable pub Part : List ℕ → ℕ → ℕ → Body → Type 0
+Part s at size (Locking f) = LockingPart s at size
+Part s at size (Read f) = _≡_ {A = ℕ} 0 0
+Part s at size (Write f) = WritePart s at f
+Part s at size (Close fid) = _≡_ {A = ℕ} 0 0
+Part s at size Logoff = _≡_ {A = ℕ} 0 0
+Part s at size TreeDisconnect = _≡_ {A = ℕ} 0 0
+Part s at size ProcessExit = _≡_ {A = ℕ} 0 0
+
+-- a block is yielded only where it fits
+module _ (s : List ℕ) (command at : ℕ) where
+  yielded : (fits : Bool) (body : Body) (next : Next) (b : Block) → (fits ≡ true → Part s at (blockEnd s at - at) body)
+      → answer s command at fits body next ≡ Whole b → Part s at (b .length) (b .body)
+  unfolding answer
+  yielded true body next b h e =
+      let same : record { command = command; at = at; length = blockEnd s at - at; body = body; next = next } ≡ b = cc in
+      rw (← same) (h refl)
+  yielded false body next b h e = let never : _≡_ {A = ℕ} 0 1 = cc in absurd (omega arith)
+
+module _ (s : List ℕ) (at : ℕ) where
+  locking-part : lockingFits s at ≡ true → LockingPart s at (blockEnd s at - at)
+  unfolding lockingFits
+  locking-part e =
+      let words : wordCount s at ≡ 8 =
+      shaped-words s at 8
+      (both-hold (shaped s at 8) (eqb (byteCount s at) ((unlockCount s at + lockCount s at) * rangeSize (isLarge (lockType s at)))) e .0) in
+      record { area = omega arith; end = omega arith; inside = locking-inside s at e }
+
+  write-part : writeFits s at ≡ true → (f : WriteFields) → f .from ≡ dataOffset s at → f .count ≡ dataLength s at → WritePart s at f
+  unfolding writeFits dataInside
+  write-part e f from count =
+      let both = both-hold (shaped s at 12 || shaped s at 14) (leb (byteArea s at) (dataOffset s at) && leb (dataOffset s at + dataLength s at) (blockEnd s at)) e in
+      let last : dataOffset s at + dataLength s at ≤ blockEnd s at =
+      leb-true (dataOffset s at + dataLength s at) (blockEnd s at)
+      (both-hold (leb (byteArea s at) (dataOffset s at)) (leb (dataOffset s at + dataLength s at) (blockEnd s at)) (both .1) .1) in
+      let whole : blockEnd s at ≤ length s = write-inside s at e in
+      record { from = from; count = count; inside = omega arith }
+
+  -- whatever its command
+  pub block-part : (command : ℕ) (b : Block) → parse s command at ≡ Whole b → Part s at (b .length) (b .body)
+  unfolding parse parseLocking parseRead parseWrite parseClose parseLogoff parseEmpty Part
+  block-part command b e =
+      chosen (eqb command LOCKING) _ _ (Whole b)
+      (yielded s LOCKING at (lockingFits s at && linkFits s LOCKING at) _ (linkAt s at) b (λ h. locking-part (both-hold (lockingFits s at) (linkFits s LOCKING at) h .0)))
+      (chosen (eqb command READ) _ _ (Whole b) (yielded s READ at _ _ (linkAt s at) b (λ h. refl))
+      (chosen (eqb command WRITE) _ _ (Whole b)
+      (yielded s WRITE at (writeFits s at && linkFits s WRITE at) _ (linkAt s at) b (λ h. write-part (both-hold (writeFits s at) (linkFits s WRITE at) h .0) _ refl refl))
+      (chosen (eqb command CLOSE) _ _ (Whole b) (yielded s CLOSE at _ _ _ b (λ h. refl))
+      (chosen (eqb command LOGOFF) _ _ (Whole b) (yielded s LOGOFF at _ Logoff (linkAt s at) b (λ h. refl))
+      (chosen (eqb command TREE_DISCONNECT) _ _ (Whole b) (yielded s TREE_DISCONNECT at _ TreeDisconnect _ b (λ h. refl))
+      (chosen (eqb command PROCESS_EXIT) _ Malformed (Whole b) (yielded s PROCESS_EXIT at _ ProcessExit _ b (λ h. refl))
+      (λ z. let never : _≡_ {A = ℕ} 0 1 = cc in absurd (omega arith))))))))
+      e
+
+-- a LOCKING block's byte area, as a part of the message
+pub area-part : (s : List ℕ) (at size : ℕ) → LockingPart s at size
+    → take (byteCount s at) (drop (byteArea s at) s) ≡ take (at + size - (at + 19)) (drop (at + 19) s)
+area-part s at size p =
+    let area = p .area in
+    let end = p .end in
+    let count : byteCount s at ≡ at + size - (at + 19) = omega arith in
+    ap (λ (n : ℕ). take n (drop (byteArea s at) s)) count ∙ ap (λ (n : ℕ). take (at + size - (at + 19)) (drop n s)) area
+
+-- what the reader says of a LOCKING block, and of a WRITE block
+pub locking-told : (s : List ℕ) (b : Block) (f : LockingFields) → parse s (b .command) (b .at) ≡ Whole b → b .body ≡ Locking f → LockingPart s (b .at) (b .length)
+unfolding Part
+locking-told s b f e q = let p : Part s (b .at) (b .length) (Locking f) = rw q at (block-part s (b .at) (b .command) b e) in p
+
+pub write-told : (s : List ℕ) (b : Block) (f : WriteFields) → parse s (b .command) (b .at) ≡ Whole b → b .body ≡ Write f → WritePart s (b .at) f
+unfolding Part
+write-told s b f e q = let p : Part s (b .at) (b .length) (Write f) = rw q at (block-part s (b .at) (b .command) b e) in p
