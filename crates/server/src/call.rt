@@ -22,7 +22,7 @@ use message::refusal::Refusal;
 use message::refusal::status_of;
 use reply::block::write_block;
 use reply::header::write_header;
-use requests::sound::is_sound;
+use soundness::whole::is_sound;
 ghost use mathlib.Core.Path.{_≡_};
 ghost use mathlib.Core.Bool.{true};
 ghost use Rattle.message.specs.Caller.{callerOf};
