@@ -1,3 +1,4 @@
 pub mod Number
 pub mod Column
-pub mod InWords
+pub mod ByNumber
+pub mod ColumnWords

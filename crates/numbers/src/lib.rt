@@ -2,5 +2,5 @@
 // (document 01, "Tables and room").
 
 pub mod column;
-pub mod in_words;
+pub mod column_words;
 pub mod number;

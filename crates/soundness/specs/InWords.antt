@@ -13,7 +13,7 @@ use Rattle.records.specs.declared.Tree.{Tree}
 use Rattle.records.specs.declared.Open.{Open}
 use Rattle.numbers.specs.Number.{numberOk, numbered}
 use Rattle.tables.specs.Words.{word, upTo, recordAt, arrayOf, within, tableFits}
-use Rattle.soundness.specs.ByNumber.{numberFree}
+use Rattle.numbers.specs.ByNumber.{numberFree}
 
 -- the words of each of the n records of a table, k to a record
 abbrev pub rows : ℕ → ℕ → List ℕ → List (List ℕ)

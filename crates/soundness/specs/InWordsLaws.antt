@@ -1,47 +1,35 @@
 -- What is tested in the words is what the rules say of the records that the words hold.
 -- Assumes nothing.
-use mathlib.Core.Path.{_≡_, refl, sym, ap, _∙_, fun-ext}
+use mathlib.Core.Path.{_≡_, refl, sym, ap, _∙_}
 use Prim.Native.Nat.{ℕ, zero, suc, min, _+_, _*_, _%_, _≤_, _<_}
-use native.Mathlib.Nat.{mod-eq-of-lt}
 use native.Mathlib.Decide.{decLe, decLt}
 use native.Mathlib.Omega.{arith}
-use mathlib.Core.Bool.{Bool, true, false, cond, not, _&&_, _||_}
-use mathlib.Core.List.{List, [], _∷_, _++_, map}
-use lib.ListN.{length, take, drop, getD, set, length-take, List·getD-eq-default}
-use lib.Seq.{ext-getD, getD-take}
+use mathlib.Core.Bool.{Bool, true, false, cond, not, _&&_}
+use mathlib.Core.List.{List, [], _∷_, map}
+use lib.ListN.{length, take, getD, List·getD-eq-default}
 use lib.Dec.{leb, ltb, eqb}
-use borrow.Author.Tests.{leb-true, leb-false, ltb-true, le-leb, lt-leb, lt-ltb, le-ltb, eq-eqb, ne-eqb, eqb-true}
-use Rattle.lists.specs.Truth.{both-hold, hold-both, same-truth, test-cases}
-use Rattle.lists.specs.Walk.{any, all, allTails}
+use borrow.Author.Tests.{leb-true, le-leb, lt-leb, lt-ltb, le-ltb, ne-eqb}
+use Rattle.lists.specs.Truth.{both-hold}
+use Rattle.lists.specs.Walk.{all, allTails}
+use Rattle.lists.specs.Stored.{take-most}
 use Rattle.locks.specs.Answer.{fileIn}
 use Rattle.locks.specs.Range.{passesEnd}
 use Rattle.records.specs.Empty.{noLock}
-use Rattle.records.specs.declared.Session.{Session}
-use Rattle.records.specs.declared.Tree.{Tree}
-use Rattle.records.specs.declared.Open.{Open}
-use Rattle.records.specs.declared.Lock.{Lock}
-use Rattle.numbers.specs.Number.{contains, numberOk, numbered}
+use Rattle.numbers.specs.Number.{numberOk, numbered}
 use Rattle.numbers.specs.Column.{uidOf, tidOf, fidOf}
-use Rattle.tables.specs.Words.{word, upTo, recordAt, arrayOf, within, recordsFit, tableFits, sessionOf, treeOf, openOf, lockOf, lockArray, sessionLimits, treeLimits, openLimits, lockLimits}
+use Rattle.numbers.specs.ColumnWords.{map-upTo, take-upTo}
+use Rattle.tables.specs.Words.{word, recordAt, arrayOf, within, recordsFit, tableFits, sessionOf, treeOf, openOf, lockOf, treeArray, lockArray, sessionLimits, treeLimits, openLimits, lockLimits}
+use Rattle.tables.specs.Written.{treesIn}
+use Rattle.tables.specs.ChangeLaws.{length-treeArray}
 use Rattle.tables.specs.PartLaws.{row, part-row}
-use Rattle.tables.specs.ArrayLaws.{length-upTo, getD-upTo, record-at}
-use Rattle.soundness.specs.Sound.{treeOk, permits, holdsOpen, openOk}
+use Rattle.tables.specs.ArrayLaws.{record-at}
 use Rattle.soundness.specs.LockFits.{lockFits}
-use Rattle.soundness.specs.ByNumber.{last-false, uncut, entry, byNumber, numberFree, free-number, byNumber-serves}
-use Rattle.soundness.specs.InWords.{rows, inOrder, tableInOrder, marked, sessionStands, codeOf, treeCode, treeIn, treeStands, codeHolds, holdsAt, openIn, openStands, lockStands}
+use Rattle.numbers.specs.ByNumber.{last-false, uncut, entry, byNumber, free-number}
+use Rattle.soundness.specs.InWords.{rows, inOrder, tableInOrder, marked, sessionStands, treeCode, treeIn, treeStands, codeHolds, holdsAt, openIn, openStands, lockStands}
 
 -- ---- lists of values of a function, and of its first ones
 
 module _ {A B : Type 0} (f : A → B) where
-  map-append : (xs ys : List A) → map f (xs ++ ys) ≡ map f xs ++ map f ys
-  map-append [] ys = refl
-  map-append (x ∷ xs) ys = ap (λ (l : List B). f x ∷ l) (map-append xs ys)
-
-  map-upTo : (g : ℕ → A) (n : ℕ) → map f (upTo g n) ≡ upTo (λ i. f (g i)) n
-  unfolding upTo
-  map-upTo g zero = refl
-  map-upTo g (suc n) = map-append (upTo g n) (g n ∷ []) ∙ ap (λ (l : List B). l ++ (f (g n) ∷ [])) (map-upTo g n)
-
   map-take : (n : ℕ) (xs : List A) → map f (take n xs) ≡ take n (map f xs)
   map-take zero xs = refl
   map-take (suc n) [] = refl
@@ -62,16 +50,6 @@ module _ {A B : Type 0} (f : A → B) where
   unfolding entry
   entry-map key value none [] k = refl
   entry-map key value none (x ∷ xs) k = ap (cond (eqb (key (f x)) k) (value (f x))) (entry-map key value none xs k)
-
-take-upTo : {A : Type 0} (g : ℕ → A) (c n : ℕ) → upTo g (min c n) ≡ take c (upTo g n)
-take-upTo g c n =
-    ext-getD (g 0) (upTo g (min c n)) (take c (upTo g n))
-    (length-upTo g (min c n) ∙ sym (length-take c (upTo g n) ∙ ap (min c) (length-upTo g n)))
-    (λ i h.
-    let inside : i < min c n = rw (length-upTo g (min c n)) at h in
-    let left : i < c = omega arith in
-    let right : i < n = omega arith in
-    getD-upTo g (min c n) i (g 0) inside ∙ sym (getD-take c (upTo g n) i (g 0) left ∙ getD-upTo g n i (g 0) right))
 
 module _ {A : Type 0} (f : List ℕ → A) (k n : ℕ) (w : List ℕ) where
   -- the records in use, from their words
@@ -321,3 +299,7 @@ locks-stand w files =
 pub lock-row : (w : List ℕ) (i : ℕ) → i < 128 → length w ≡ 641 → getD (lockArray w) i noLock ≡ lockOf (row w (1 + 5 * i) 5)
 unfolding lockArray
 lock-row w i h long = record-at lockOf 5 128 w i noLock h long
+
+-- a count cut to the table's room
+pub trees-in-use : (w : List ℕ) (n : ℕ) → n ≡ min (word w 0) 32 → treesIn w ≡ take n (treeArray w)
+trees-in-use w n e = sym (ap (λ (m : ℕ). take m (treeArray w)) e ∙ take-most (treeArray w) (word w 0) 32 (length-treeArray w))

@@ -3,7 +3,6 @@ pub mod Lookup
 pub mod Sound
 pub mod LockFits
 pub mod SoundLaws
-pub mod ByNumber
 pub mod InWords
 pub mod InWordsLaws
 pub mod RowWalk

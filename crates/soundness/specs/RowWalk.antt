@@ -1,18 +1,18 @@
 -- The walk over the words of a table's records, from the last in use to the first: a turn, and what it says at the end.
 -- Assumes nothing.
-use mathlib.Core.Path.{_≡_, refl, sym, ap, _∙_}
-use Prim.Native.Nat.{ℕ, suc, _+_, _-_, _≤_, _<_}
+use mathlib.Core.Path.{_≡_, sym, ap, _∙_}
+use Prim.Native.Nat.{ℕ, _-_, _≤_, _<_}
 use native.Mathlib.Omega.{arith}
-use mathlib.Core.Bool.{Bool, true, false, false≢true, _&&_}
+use mathlib.Core.Bool.{Bool, true, false, false≢true}
 use mathlib.Core.List.{List, []}
 use lib.ListN.{length, take, getD, set}
-use lib.Dec.{leb, ltb, eqb}
+use lib.Dec.{leb, ltb}
 use borrow.Author.Tests.{ltb-true}
 use Rattle.lists.specs.Truth.{both-hold}
 use Rattle.lists.specs.Walk.{allTails, rest}
 use Rattle.tables.specs.Words.{word, recordAt, arrayOf}
 use Rattle.tables.specs.ArrayLaws.{length-upTo, getD-upTo, upTo-same}
-use Rattle.soundness.specs.ByNumber.{entry, byNumber, length-byNumber, numberFree, Marked, marked-yes, marked-no}
+use Rattle.numbers.specs.ByNumber.{entry, byNumber, length-byNumber, numberFree, Marked, marked-yes, marked-no}
 use Rattle.soundness.specs.InWords.{rows, inOrder, tableInOrder, Told}
 use Rattle.soundness.specs.InWordsLaws.{records-rows, table-in-order, entry-map}
 

@@ -21,27 +21,18 @@ use Rattle.records.specs.declared.Open.{Open}
 use Rattle.records.specs.declared.Lock.{Lock}
 use Rattle.numbers.specs.Number.{contains, numberOk, numbered}
 use Rattle.numbers.specs.Column.{uidOf, tidOf, fidOf}
-use Rattle.tables.specs.Words.{word, part, arrayOf, tablesOf, inUseFit, tableFits, fileArray, sessionArray, treeArray, openArray, lockArray, sessionOf, treeOf, openOf, sessionLimits, treeLimits, openLimits, lockLimits}
+use Rattle.tables.specs.Words.{word, part, arrayOf, tablesOf, inUseFit, tableFits, fileArray, sessionArray, treeArray, openArray, sessionOf, treeOf, openOf, sessionLimits, treeLimits, openLimits, lockLimits}
 use Rattle.tables.specs.Written.{sessionsIn, treesIn, opensIn, locksIn}
 use Rattle.soundness.specs.File.{fileOf}
 use Rattle.soundness.specs.Sound.{withinRoom, fileOk, treeOk, permits, holdsOpen, openOk, lockOk, agreeAll, soundRecords, soundLocks, sound}
 use Rattle.soundness.specs.SoundLaws.{fits-is-ok}
 use Rattle.soundness.specs.LockFits.{lockFits}
-use Rattle.soundness.specs.ByNumber.{last-false, entry, byNumber, byNumber-serves}
+use Rattle.numbers.specs.ByNumber.{last-false, entry, entry-mark, byNumber, byNumber-serves}
 use Rattle.soundness.specs.InWords.{tableInOrder, codeOf, treeCode, treeIn, codeHolds, openIn}
 use Rattle.soundness.specs.InWordsLaws.{code-none}
 use Rattle.soundness.specs.AgreeLaws.{inBounds}
 
 -- ---- sessions: a UID is marked exactly if it is in use
-
-mark : (b : Bool) (e : ℕ) (c : Bool) → eqb e 1 ≡ c → eqb (cond b 1 e) 1 ≡ (b || c)
-mark true e c q = refl
-mark false e c q = q
-
-entry-mark : (ss : List Session) (k : ℕ) → eqb (entry uidOf (λ _. 1) 0 ss k) 1 ≡ contains k (map uidOf ss)
-unfolding entry contains any
-entry-mark [] k = refl
-entry-mark (s ∷ ss) k = mark (eqb (s .uid) k) (entry uidOf (λ _. 1) 0 ss k) (contains k (map uidOf ss)) (entry-mark ss k)
 
 pub uids-serve : (ss : List Session) (uids : List ℕ) → numbered 16 (map uidOf ss) ≡ true → uids ≡ byNumber uidOf (λ _. 1) 0 17 ss
     → treeIn uids ≡ treeOk (map uidOf ss)
@@ -52,7 +43,7 @@ uids-serve ss uids e q =
     ap (λ (b : Bool). leb (t .right) 1 && b)
     (ap (λ (l : List ℕ). eqb (getD l (t .uid) 0) 1) q
     ∙ ap (λ (x : ℕ). eqb x 1) (byNumber-serves uidOf (λ _. 1) 0 16 ss (t .uid) e)
-    ∙ entry-mark ss (t .uid)))
+    ∙ entry-mark uidOf ss (t .uid)))
 
 -- ---- trees: the code of a TID tells whether its tree holds an open
 

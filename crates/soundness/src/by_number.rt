@@ -1,7 +1,7 @@
 // Tables by number: one entry for each UID, TID or FID.
 
 ghost use mathlib.Core.Path.{_≡_};
-ghost use Rattle.soundness.specs.ByNumber.{numberFree};
+ghost use Rattle.numbers.specs.ByNumber.{numberFree};
 ghost use Rattle.soundness.specs.InWords.{marked};
 
 // Whether a number is one of the table's, from 1 on, and nothing stands there yet.

@@ -69,8 +69,8 @@ fn both_shared(shared: bool, flag: u64) -> bool
     flag % 2 == 1
 }
 
-// Whether the lock, which ends with byte `last`, and the record at a place may stand together: most are shared both, or lie
-// apart, which the words tell as they stand.
+// Whether the lock, which ends with byte `last`, and the record at a place may stand together. Of 128 locks there are 8,128
+// pairs, and most lie apart or are shared both, which the words tell as they stand.
 fn agrees_at(files: &[u8; 65], words: &[u64], l: Lock, last: u64, j: usize) -> bool
     requires { ⌜ (length (now words) ≡ 641) × (j < 128) ⌝ }
     requires { ⌜ (0 < l .length) × (last ≡ l .offset + (l .length - 1)) ⌝ }
@@ -78,11 +78,11 @@ fn agrees_at(files: &[u8; 65], words: &[u64], l: Lock, last: u64, j: usize) -> b
     ensures { λ r. ⌜ r ≡ agree (fileIn (now (files .entry))) l (getD (lockArray (now (words .entry))) j noLock) ⌝ }
 {
     let at = 1 + 5 * j;
-    if both_shared(l.shared, words[at + 4]) {
-        return true;
-    }
     let first = words[at + 2];
     if last < first {
+        return true;
+    }
+    if both_shared(l.shared, words[at + 4]) {
         return true;
     }
     let count = words[at + 3];

@@ -10,7 +10,7 @@ ghost use Rattle.numbers.specs.Column.{fidOf};
 ghost use Rattle.tables.specs.Words.{word, recordAt, openOf, openLimits};
 ghost use Rattle.tables.specs.Written.{opensIn};
 ghost use Rattle.soundness.specs.File.{fileTable};
-ghost use Rattle.soundness.specs.ByNumber.{byNumber};
+ghost use Rattle.numbers.specs.ByNumber.{byNumber};
 ghost use Rattle.soundness.specs.InWords.{tableInOrder, Told, holdsAt, openIn, openStands};
 
 // Whether the opens in use are sound and, if so, the file of each FID, 255 for none.

@@ -8,7 +8,7 @@ ghost use lib.ListN.{length};
 ghost use Rattle.numbers.specs.Column.{uidOf};
 ghost use Rattle.tables.specs.Words.{word, recordAt, sessionOf, sessionLimits};
 ghost use Rattle.tables.specs.Written.{sessionsIn};
-ghost use Rattle.soundness.specs.ByNumber.{byNumber};
+ghost use Rattle.numbers.specs.ByNumber.{byNumber};
 ghost use Rattle.soundness.specs.InWords.{tableInOrder, Told, sessionStands};
 
 // Whether the sessions in use are sound and, if so, which UIDs they have: 1 for each.

@@ -1,14 +1,22 @@
-// Trees, in the words of their table: the rules of soundness.
+// Trees, in the words of their table: the rules of soundness, and whether a tree holds an open.
 
 use crate::by_number::is_marked;
 use crate::by_number::number_free;
+use crate::tree::holding;
+use crate::tree::tree_is;
+use numbers::number::at_most;
+use records::Open;
+use tables::tree::tree_at;
 ghost use mathlib.Core.Path.{_≡_};
 ghost use Prim.Native.Nat.{_<_, _≤_};
 ghost use lib.ListN.{length};
+ghost use Rattle.lists.specs.Walk.{any};
 ghost use Rattle.numbers.specs.Column.{tidOf};
 ghost use Rattle.tables.specs.Words.{word, recordAt, treeOf, treeLimits};
 ghost use Rattle.tables.specs.Written.{treesIn};
-ghost use Rattle.soundness.specs.ByNumber.{byNumber};
+ghost use Rattle.soundness.specs.Sound.{holdsOpen};
+ghost use Rattle.soundness.specs.Lookup.{isTree};
+ghost use Rattle.numbers.specs.ByNumber.{byNumber};
 ghost use Rattle.soundness.specs.InWords.{tableInOrder, Told, treeCode, treeIn, treeStands};
 
 // Whether the trees in use are sound and, if so, the UID and the right of each TID as one number, 0 for none.
@@ -53,4 +61,36 @@ pub(crate) fn trees_marked(uids: &[u8; 17], words: &[u64]) -> Trees
         codes[tid] = (2 * words[at + 1] + 1 + words[at + 2]) as u8;
     }
     Trees { sound: true, codes }
+}
+
+// Whether a tree in use holds the open.
+pub fn some_tree_holds(words: &[u64], o: Open) -> bool
+    requires { ⌜ length (now words) ≡ 97 ⌝ }
+    ensures { λ r. ⌜ r ≡ any (holdsOpen o) (treesIn (now (words .entry))) ⌝ }
+{
+    let count = at_most(words[0] as usize, 32);
+    let mut i: usize = 0;
+    while i < count {
+        if holding(o, tree_at(words, i)) {
+            return true;
+        }
+        i += 1;
+    }
+    false
+}
+
+// Whether a tree in use has that TID and is of that session.
+pub fn some_tree_is(words: &[u64], tid: u16, uid: u16) -> bool
+    requires { ⌜ length (now words) ≡ 97 ⌝ }
+    ensures { λ r. ⌜ r ≡ any (isTree tid uid) (treesIn (now (words .entry))) ⌝ }
+{
+    let count = at_most(words[0] as usize, 32);
+    let mut i: usize = 0;
+    while i < count {
+        if tree_is(tree_at(words, i), tid, uid) {
+            return true;
+        }
+        i += 1;
+    }
+    false
 }

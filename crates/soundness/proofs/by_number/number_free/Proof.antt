@@ -1,7 +1,7 @@
 -- `soundness::by_number::number_free` meets its contract: the tests are those of the definition, in its order.
 -- Assumes nothing.
 use borrow.Author.Tests.{le-leb, lt-leb, lt-ltb, le-ltb}
-use Rattle.soundness.specs.ByNumber.{numberFree}
+use Rattle.numbers.specs.ByNumber.{numberFree}
 use borrow.Author.Needs.{needs}
 use Rattle.soundness.proofs.by_number.number_free.Statement.{statement}
 use Rattle.soundness.proofs.by_number.number_free.Tie as tie

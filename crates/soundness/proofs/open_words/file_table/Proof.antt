@@ -1,8 +1,8 @@
 -- `soundness::open_words::file_table` meets its contract: each turn puts one open more in front of those the table is made of.
 -- Assumes nothing.
-use mathlib.Core.Path.{_≡_, sym, ap, _∙_}
-use Prim.Native.Nat.{min, _≤_, _-_}
-use lib.ListN.{length, getD, set}
+use mathlib.Core.Path.{_≡_, sym, _∙_}
+use Prim.Native.Nat.{min, _≤_}
+use lib.ListN.{length}
 use lib.Seq.{set-out}
 use Rattle.lists.specs.Walk.{rest, rest-most}
 use Rattle.records.specs.Empty.{noOpen}

@@ -12,7 +12,7 @@ use Rattle.lists.specs.Walk.{rest}
 use Rattle.numbers.specs.Column.{fidOf}
 use Rattle.tables.specs.Words.{word, upTo, recordAt, openOf, openArray, openLimits}
 use Rattle.tables.specs.PartLaws.{part-row}
-use Rattle.soundness.specs.ByNumber.{entry, byNumber, numberFree, uncut, Marked, marked-start}
+use Rattle.numbers.specs.ByNumber.{entry, byNumber, numberFree, uncut, Marked, marked-start}
 use Rattle.soundness.specs.InWords.{rows, openIn, openStands}
 use Rattle.soundness.specs.InWordsLaws.{rowFid, rowFile, openRule, open-stands}
 use Rattle.soundness.specs.RowWalk.{free-inside, marked-length, row-yes, row-no, told-yes, told-no}

@@ -11,7 +11,7 @@ use Rattle.lists.specs.Walk.{rest}
 use Rattle.numbers.specs.Column.{uidOf}
 use Rattle.tables.specs.Words.{word, upTo, recordAt, sessionOf, sessionArray, sessionLimits}
 use Rattle.tables.specs.PartLaws.{part-row}
-use Rattle.soundness.specs.ByNumber.{entry, byNumber, numberFree, uncut, Marked, marked-start}
+use Rattle.numbers.specs.ByNumber.{entry, byNumber, numberFree, uncut, Marked, marked-start}
 use Rattle.soundness.specs.InWords.{rows, sessionStands}
 use Rattle.soundness.specs.InWordsLaws.{rowUid, sessionRule, session-stands}
 use Rattle.soundness.specs.RowWalk.{free-inside, marked-length, row-yes, row-no, told-yes, told-no}

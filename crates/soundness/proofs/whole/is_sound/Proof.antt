@@ -10,7 +10,7 @@ use Rattle.tables.specs.Words.{word, part}
 use Rattle.tables.specs.Written.{sessionsIn, treesIn, opensIn}
 use Rattle.tables.specs.PartLaws.{length-part}
 use Rattle.soundness.specs.SoundLaws.{room as room-of}
-use Rattle.soundness.specs.ByNumber.{length-byNumber}
+use Rattle.numbers.specs.ByNumber.{length-byNumber}
 use Rattle.soundness.specs.InWords.{treeCode}
 use Rattle.soundness.specs.WholeLaws.{counts, sound-words, trees-judged, opens-judged, locks-judged}
 use borrow.Author.Needs.{needs}

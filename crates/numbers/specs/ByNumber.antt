@@ -9,13 +9,14 @@ use native.Mathlib.Omega.{arith}
 use mathlib.Core.Bool.{Bool, true, false, cond, not, _&&_, _||_}
 use mathlib.Core.List.{List, [], _∷_, map}
 use lib.ListN.{length, take, drop, getD, set, List·getD-eq-default}
+use lib.Seq.{ext-getD}
 use lib.Dec.{leb, ltb, eqb}
 use borrow.Author.Tests.{leb-true, le-leb, lt-leb, lt-ltb, le-ltb, eq-eqb, ne-eqb}
 use Rattle.lists.specs.Truth.{both-hold}
 use Rattle.lists.specs.Walk.{any, allTails, rest, rest-cons, rest-none}
 use Rattle.tables.specs.Words.{upTo}
-use Rattle.tables.specs.ArrayLaws.{length-upTo, getD-upTo, upTo-set, upTo-same}
+use Rattle.tables.specs.ArrayLaws.{length-upTo, getD-upTo, upTo-set}
 use Rattle.numbers.specs.Number.{contains, numberOk, numbered}
 
 pub last-false : (b : Bool) → b && false ≡ false
 last-false true = refl
@@ -56,6 +57,16 @@ module _ {A : Type 0} (key value : A → ℕ) (none : ℕ) where
       upTo-set (entry key value none xs) (entry key value none (x ∷ xs)) n (key x) (value x) h
       (rw (eq-eqb (key x) (key x) refl))
       (λ j e. rw (ne-eqb (key x) j (λ q. e (sym q))))
+
+  -- one whose number is past the table sets none
+  pub byNumber-past : (n : ℕ) (x : A) (xs : List A) → n ≤ key x → byNumber key value none n (x ∷ xs) ≡ byNumber key value none n xs
+  unfolding entry
+  byNumber-past n x xs h =
+      ext-getD 0 (byNumber key value none n (x ∷ xs)) (byNumber key value none n xs)
+      (length-byNumber n (x ∷ xs) ∙ sym (length-byNumber n xs))
+      (λ j k.
+      let inside : j < n = rw (length-byNumber n (x ∷ xs)) at k in
+      byNumber-at n (x ∷ xs) j 0 inside ∙ rw (ne-eqb (key x) j (λ q. let z : ⊥ = omega arith in z)) (sym (byNumber-at n xs j 0 inside)))
 
   -- a number above those in use has no record
   entry-above : (limit : ℕ) (xs : List A) (k : ℕ) → numbered limit (map key xs) ≡ true → limit < k → entry key value none xs k ≡ none
@@ -120,6 +131,17 @@ module _ {A : Type 0} (key value : A → ℕ) (none : ℕ) where
               let wide : number ≤ 65535 = leb-true number 65535 w in
               rw (uncut number 65535 wide) (lt-leb number limit (omega arith)))))
         ]
+
+-- ---- a table of marks, 1 for each number in use
+
+mark : (b : Bool) (e : ℕ) (c : Bool) → eqb e 1 ≡ c → eqb (cond b 1 e) 1 ≡ (b || c)
+mark true e c q = refl
+mark false e c q = q
+
+pub entry-mark : {A : Type 0} (key : A → ℕ) (xs : List A) (k : ℕ) → eqb (entry key (λ _. 1) 0 xs k) 1 ≡ contains k (map key xs)
+unfolding entry contains any
+entry-mark key [] k = refl
+entry-mark key (x ∷ xs) k = mark (eqb (key x) k) (entry key (λ _. 1) 0 xs k) (contains k (map key xs)) (entry-mark key xs k)
 
 -- ---- the walk that makes a table
 
