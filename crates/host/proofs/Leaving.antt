@@ -1,11 +1,11 @@
 -- What a call leaves in each of its ends: refused, or done.
 -- Assumes nothing.
-use mathlib.Core.Path.{_≡_, refl, sym, ap, _∙_}
-use Prim.Native.Nat.{ℕ, _+_, _<_, _≤_}
-use mathlib.Core.Bool.{Bool, true, false, not, _&&_}
+use mathlib.Core.Path.{_≡_, refl, ap, _∙_}
+use Prim.Native.Nat.{ℕ, _+_, _<_}
+use mathlib.Core.Bool.{true, false, _&&_}
 use mathlib.Core.List.{List, map}
 use native.Mathlib.Omega.{arith}
-use lib.ListN.{length, drop}
+use lib.ListN.{drop}
 use lib.Seq.{getD-take, getD-drop}
 use Rattle.lists.specs.Truth.{both-hold, test-cases}
 use Rattle.lists.specs.Walk.{all}
@@ -17,7 +17,8 @@ use Rattle.soundness.specs.Sound.{sound, soundRecords, soundLocks, withinRoom, 
 use Rattle.removal.specs.Filter.{Numbered}
 use Rattle.tables.specs.Words.{word, part, tablesOf, inUseFit}
 use Rattle.host.specs.declared.answer.Answer.{Answer}
-use Rattle.host.specs.HostCall.{refused, done}
+use Rattle.host.specs.declared.answer.Outcome.{Outcome}
+use Rattle.host.specs.HostCall.{refused, done, dropConnection}
 use Rattle.host.specs.OnWords.{onWords, Left}
 
 -- the first word of a part, as code reads it
@@ -51,6 +52,23 @@ left-done w v id a t e held fit =
       fit = fit;
     }
 
+-- ---- a call on words, by whether they are words of sound tables
+
+pub on-unsound : (w : List ℕ) (a : Answer) → (inUseFit w && sound (tablesOf w)) ≡ false → (sound (tablesOf w) ≡ false → a ≡ refused 4 (tablesOf w))
+    → onWords w a ≡ refused 4 (tablesOf w)
+unfolding onWords
+on-unsound w a e says =
+    test-cases (inUseFit w)
+    (λ f. let s : sound (tablesOf w) ≡ false = rw f at e in rw f (says s))
+    (λ f. rw f)
+
+pub on-sound : (w : List ℕ) (a : Answer) → (inUseFit w && sound (tablesOf w)) ≡ true → onWords w a ≡ a
+unfolding onWords
+on-sound w a e = rw (both-hold (inUseFit w) (sound (tablesOf w)) e .0)
+
+pub left-same : (a b : Answer) (w v : List ℕ) (r : Outcome) → b ≡ a → Left a w v r → Left b w v r
+left-same a b w v r e l = rw e l
+
 -- ---- what sound tables are known for
 
 pub sound-numbered : (t : Tables) → sound t ≡ true → Numbered t
@@ -63,3 +81,9 @@ sound-numbered t e =
     let f = both-hold (numbered 32 (map tidOf (treesOf t))) _ (d .1) in
     let g = both-hold (numbered 64 (map fidOf (opensOf t))) _ (f .1) in
     record { uids = d .0; tids = f .0; fids = g .0 }
+
+-- ---- a connection dropped
+
+pub connection-unsound : (t : Tables) (connection : ℕ) → sound t ≡ false → dropConnection t connection ≡ refused 4 t
+unfolding dropConnection
+connection-unsound t connection e = rw e

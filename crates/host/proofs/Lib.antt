@@ -2,3 +2,4 @@ pub mod Loaded
 pub mod Appending
 pub mod Leaving
 pub mod Emptied
+pub mod Adding

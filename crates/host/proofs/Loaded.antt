@@ -2,18 +2,21 @@
 -- Assumes nothing.
 use mathlib.Core.Path.{_≡_, refl, sym, ap, _∙_}
 use Prim.Native.Nat.{ℕ, suc, _+_, _-_, _*_, _≤_}
-use mathlib.Core.Bool.{Bool, true, false, cond, not, _||_}
+use mathlib.Core.Bool.{Bool, true, false, cond, not, _&&_, _||_}
 use mathlib.Core.List.{List, _++_, append-nil}
 use lib.ListN.{length, take, drop, replicate, length-append, length-replicate, length-take, length-drop, drop-of-length-le}
 use lib.Seq.{take-all, take-length, take-at, drop-drop}
 use lib.Dec.{eqb, ltb}
-use borrow.Author.Tests.{ne-eqb, eqb-true, ltb-false, not-false}
+use borrow.Author.Tests.{eq-eqb, ne-eqb, eqb-true, ltb-false, not-false}
 use native.Mathlib.Omega.{arith}
 use Rattle.lists.specs.Put.{put}
-use Rattle.lists.specs.Truth.{neither-holds}
+use Rattle.lists.specs.Truth.{neither-holds, both-hold, test-cases}
 use Rattle.records.specs.declared.Tables.{Tables}
 use Rattle.soundness.specs.Sound.{sound}
+use Rattle.tables.specs.Words.{tablesOf, inUseFit}
 use Rattle.host.specs.HostCall.{refused, done, loadNumber, withSize, loadFile, loadMemory}
+use Rattle.host.specs.OnWords.{onWords, loadOnWords, memoryOnWords}
+use Rattle.host.proofs.Leaving.{on-unsound, on-sound}
 
 -- bytes copied to the front of a room, and the part behind them cleared
 pub copied-cleared : (s d l e : List ℕ) (n : ℕ) → length s ≤ length d → n ≡ length s → l ≡ take (length s) s ++ drop (length s) d
@@ -73,3 +76,50 @@ module _ (t : Tables) (file : ℕ) (bytes memory : List ℕ) (k : ℕ) (full : l
       × (loadMemory t file bytes memory ≡ put memory (file * 4096) (bytes ++ replicate (4096 - length bytes) 0))
   unfolding loadFile loadMemory
   load-done z = rw (full, sym e, z) (refl, refl)
+
+-- tables that are not sound
+module _ (t : Tables) (file : ℕ) (bytes memory : List ℕ) (full : length memory ≡ 65536) (e : sound t ≡ false) where
+  load-not-sound : loadFile t file bytes memory ≡ refused 4 t
+  unfolding loadFile loadNumber
+  load-not-sound = rw (full, e)
+
+  memory-not-sound : loadMemory t file bytes memory ≡ memory
+  unfolding loadMemory loadNumber
+  memory-not-sound = rw (full, e)
+
+cond-same : (b : Bool) (x : List ℕ) → cond b x x ≡ x
+cond-same true x = refl
+cond-same false x = refl
+
+-- ---- a load on words
+
+module _ (w : List ℕ) (file : ℕ) (bytes memory : List ℕ) where
+  pub load-wrong-room : (length memory ≡ 65536 → ⊥)
+      → (loadOnWords w file bytes memory ≡ refused 2 (tablesOf w)) × (memoryOnWords w file bytes memory ≡ memory)
+  unfolding loadOnWords memoryOnWords loadMemory loadNumber
+  load-wrong-room h =
+      let e : eqb (length memory) 65536 ≡ false = ne-eqb (length memory) 65536 h in
+      (rw e, rw e (cond-same (inUseFit w) memory))
+
+  module _ (full : length memory ≡ 65536) where
+    whole-room : loadOnWords w file bytes memory ≡ onWords w (loadFile (tablesOf w) file bytes memory)
+    unfolding loadOnWords
+    whole-room = rw (eq-eqb (length memory) 65536 full)
+
+    pub load-unsound : (inUseFit w && sound (tablesOf w)) ≡ false
+        → (loadOnWords w file bytes memory ≡ refused 4 (tablesOf w)) × (memoryOnWords w file bytes memory ≡ memory)
+    unfolding memoryOnWords
+    load-unsound e = (
+      whole-room ∙ on-unsound w (loadFile (tablesOf w) file bytes memory) e (load-not-sound (tablesOf w) file bytes memory full),
+      test-cases (inUseFit w)
+          (λ f. let s : sound (tablesOf w) ≡ false = rw f at e in rw f (memory-not-sound (tablesOf w) file bytes memory full s))
+          (λ f. rw f),
+    )
+
+    pub load-on-sound : (inUseFit w && sound (tablesOf w)) ≡ true
+        → (loadOnWords w file bytes memory ≡ loadFile (tablesOf w) file bytes memory) × (memoryOnWords w file bytes memory ≡ loadMemory (tablesOf w) file bytes memory)
+    unfolding memoryOnWords
+    load-on-sound e = (
+      whole-room ∙ on-sound w (loadFile (tablesOf w) file bytes memory) e,
+      rw (both-hold (inUseFit w) (sound (tablesOf w)) e .0),
+    )

@@ -2,9 +2,12 @@
 
 use crate::answer::DONE;
 use crate::answer::FILE_OPEN;
+use crate::answer::NOT_SOUND;
 use crate::answer::OUT_OF_RANGE;
 use crate::answer::Outcome;
+use crate::answer::WRONG_ROOM;
 use crate::load::fill_file;
+use soundness::whole::is_sound;
 use tables::file::put_size;
 use tables::open::open_at;
 ghost use mathlib.Core.Path.{_≡_};
@@ -16,7 +19,7 @@ ghost use Rattle.tables.specs.Words.{word, tablesOf};
 ghost use Rattle.tables.specs.Written.{opensIn};
 ghost use Rattle.soundness.specs.Sound.{sound};
 ghost use Rattle.host.specs.HostCall.{isOf, loadNumber, loadFile, loadMemory};
-ghost use Rattle.host.specs.OnWords.{Left};
+ghost use Rattle.host.specs.OnWords.{loadOnWords, memoryOnWords, Left};
 
 // Whether an open in use is of the file.
 fn some_open_of(words: &[u64], file: u8) -> bool
@@ -72,4 +75,24 @@ fn load_sound(words: &mut [u64], file: u8, contents: &[u8], memory: &mut [u8]) -
         number: DONE,
         id: 0,
     }
+}
+
+// The bytes of a file that has no open, put into the file memory.
+pub fn load_file(words: &mut [u64; 1172], file: u8, contents: &[u8], memory: &mut [u8]) -> Outcome
+    ensures { λ r. ⌜ Left (loadOnWords (now (words .entry)) file (now (contents .entry)) (now (memory .entry))) (now (words .entry)) (now (words .exit)) r ⌝ }
+    ensures { λ _. ⌜ now (memory .exit) ≡ memoryOnWords (now (words .entry)) file (now (contents .entry)) (now (memory .entry)) ⌝ }
+{
+    if memory.len() != 65536 {
+        return Outcome {
+            number: WRONG_ROOM,
+            id: 0,
+        };
+    }
+    if !is_sound(words) {
+        return Outcome {
+            number: NOT_SOUND,
+            id: 0,
+        };
+    }
+    load_sound(words, file, contents, memory)
 }

@@ -1,13 +1,27 @@
 // An open added in the words.
 
+use crate::answer::DONE;
+use crate::answer::EXCEEDS_RIGHT;
+use crate::answer::FULL;
+use crate::answer::NO_SUCH;
+use crate::answer::NOT_SOUND;
+use crate::answer::OUT_OF_RANGE;
+use crate::answer::Outcome;
+use numbers::column_words::free_fid;
 use records::Open;
+use soundness::tree_words::some_tree_holds;
+use soundness::tree_words::some_tree_is;
+use soundness::whole::is_sound;
 use tables::open::put_open;
 ghost use mathlib.Core.Path.{_≡_};
+ghost use mathlib.Core.Bool.{true};
 ghost use Prim.Native.Nat.{_<_};
 ghost use lib.ListN.{length};
 ghost use Rattle.records.specs.Empty.{noOpen};
-ghost use Rattle.tables.specs.Words.{word, openArray, openLimits};
-ghost use Rattle.host.specs.OnWords.{Appended};
+ghost use Rattle.tables.specs.Words.{word, openArray, openLimits, tablesOf};
+ghost use Rattle.soundness.specs.Sound.{sound};
+ghost use Rattle.host.specs.HostCall.{addOpen};
+ghost use Rattle.host.specs.OnWords.{onWords, Left, Appended};
 
 // An open behind those in use.
 fn append_open(words: &mut [u64], o: Open)
@@ -17,4 +31,75 @@ fn append_open(words: &mut [u64], o: Open)
     let count = words[0] as usize;
     put_open(words, count, o);
     words[0] = (count + 1) as u64;
+}
+
+// An open in sound tables.
+fn add_sound(words: &mut [u64], uid: u16, tid: u16, process: u32, file: u8, access: u8) -> Outcome
+    requires { ⌜ (length (now words) ≡ 1172) × (sound (tablesOf (now words)) ≡ true) ⌝ }
+    ensures { λ r. ⌜ Left (addOpen (tablesOf (now (words .entry))) uid tid process file access) (now (words .entry)) (now (words .exit)) r ⌝ }
+{
+    if 15 < file {
+        return Outcome {
+            number: OUT_OF_RANGE,
+            id: 0,
+        };
+    }
+    if 2 < access {
+        return Outcome {
+            number: OUT_OF_RANGE,
+            id: 0,
+        };
+    }
+    if !some_tree_is(&words[33..130], tid, uid) {
+        return Outcome {
+            number: NO_SUCH,
+            id: 0,
+        };
+    }
+    let fid = free_fid(&words[130..515]);
+    let o = Open {
+        fid,
+        uid,
+        tid,
+        process,
+        file,
+        access,
+    };
+    if !some_tree_holds(&words[33..130], o) {
+        return Outcome {
+            number: EXCEEDS_RIGHT,
+            id: 0,
+        };
+    }
+    if 64 <= words[130] {
+        return Outcome {
+            number: FULL,
+            id: 0,
+        };
+    }
+    append_open(&mut words[130..515], o);
+    Outcome {
+        number: DONE,
+        id: fid,
+    }
+}
+
+// An open of a file through a tree of a session; the number given out is its FID.
+pub fn add_open(
+    words: &mut [u64; 1172],
+    uid: u16,
+    tid: u16,
+    process: u32,
+    file: u8,
+    access: u8,
+) -> Outcome
+    ensures { λ r. ⌜ Left (onWords (now (words .entry)) (addOpen (tablesOf (now (words .entry))) uid tid process file access)) (now (words .entry)) (now (words .exit)) r ⌝ }
+{
+    if !is_sound(words) {
+        return Outcome {
+            number: NOT_SOUND,
+            id: 0,
+        };
+    }
+    add_sound(words, uid, tid, process, file, access)
 }

@@ -34,21 +34,24 @@ part-some-open-of-end c = search needs
 some-open-of-requires : tie.Need-some-open-of-requires
 unfolding tablesOf
 some-open-of-requires c κs =
+    let pre = c .before .before .before .before .pre in
     let w = c .before .before .before .before .args .words .now in
-    let full : length w ≡ 1172 = c .before .before .before .before .pre .0 in
-    (length-part w 130 385 (omega arith), sound-room (tablesOf w) (c .before .before .before .before .pre .1) .opens-fit)
+    let full : length w ≡ 1172 = pre .0 in
+    (length-part w 130 385 (omega arith), sound-room (tablesOf w) (pre .1) .opens-fit)
 
 returns-3 : tie.Need-returns-3
 unfolding loadNumber
 returns-3 c =
-    let w = c .before .before .before .before .before .before .args .words .now in
-    rw (c .before .before .before .before .before .before .pre .1, le-ltb 15 (c .before .before .before .before .before .before .args .file) (c .before .before .before .before .if1 .left), le-ltb 4096 (c .before .before .before .before .before .before .args .size) (c .before .before .before .if2 .left), ap (any (isOf (c .before .before .before .before .before .before .args .file))) (opens-in w) ∙ sym (c .before .some-open-of .ensures) ∙ c .if3 .taken)
+    let args = c .before .before .before .before .before .before .args in
+    let w = args .words .now in
+    rw (c .before .before .before .before .before .before .pre .1, le-ltb 15 (args .file) (c .before .before .before .before .if1 .left), le-ltb 4096 (args .size) (c .before .before .before .if2 .left), ap (any (isOf (args .file))) (opens-in w) ∙ sym (c .before .some-open-of .ensures) ∙ c .if3 .taken)
 
 returns-4 : tie.Need-returns-4
 unfolding loadNumber
 returns-4 c =
-    let w = c .before .before .before .before .before .before .args .words .now in
-    rw (c .before .before .before .before .before .before .pre .1, le-ltb 15 (c .before .before .before .before .before .before .args .file) (c .before .before .before .before .if1 .left), le-ltb 4096 (c .before .before .before .before .before .before .args .size) (c .before .before .before .if2 .left), ap (any (isOf (c .before .before .before .before .before .before .args .file))) (opens-in w) ∙ sym (c .before .some-open-of .ensures) ∙ c .if3 .left)
+    let args = c .before .before .before .before .before .before .args in
+    let w = args .words .now in
+    rw (c .before .before .before .before .before .before .pre .1, le-ltb 15 (args .file) (c .before .before .before .before .if1 .left), le-ltb 4096 (args .size) (c .before .before .before .if2 .left), ap (any (isOf (args .file))) (opens-in w) ∙ sym (c .before .some-open-of .ensures) ∙ c .if3 .left)
 
 pub load-number-spec : {M : Type 1} → statement M
 load-number-spec =

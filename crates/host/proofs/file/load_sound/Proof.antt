@@ -3,7 +3,7 @@
 -- Assumes nothing.
 use borrow.Author.Needs.{needs}
 use mathlib.Core.Path.{_≡_, refl, sym, ap, _∙_}
-use Prim.Native.Nat.{_+_, _*_, _<_}
+use Prim.Native.Nat.{_+_, _*_}
 use native.Mathlib.Omega.{arith}
 use lib.ListN.{length, length-take, length-drop}
 use Rattle.records.specs.Held.{withFiles}
@@ -24,9 +24,11 @@ same-length c = search needs
 
 returns : tie.Need-returns
 returns c =
-    let w = c .before .before .before .before .before .before .args .words .now in
-    let e = load-refused (tablesOf w) (c .before .before .before .before .before .before .args .file) (c .before .before .before .before .before .before .args .contents .now) (c .before .before .before .before .before .before .args .memory .now) (c .before .load-number .result) (c .before .before .before .before .before .before .pre .1 .1) (c .before .load-number .ensures) (c .if1 .taken) in
-    (left-refused w (c .before .load-number .result) (loadFile (tablesOf w) (c .before .before .before .before .before .before .args .file) (c .before .before .before .before .before .before .args .contents .now) (c .before .before .before .before .before .before .args .memory .now)) (e .0), sym (e .1))
+    let args = c .before .before .before .before .before .before .args in
+    let load-number = c .before .load-number in
+    let w = args .words .now in
+    let e = load-refused (tablesOf w) (args .file) (args .contents .now) (args .memory .now) (load-number .result) (c .before .before .before .before .before .before .pre .1 .1) (load-number .ensures) (c .if1 .taken) in
+    (left-refused w (load-number .result) (loadFile (tablesOf w) (args .file) (args .contents .now) (args .memory .now)) (e .0), sym (e .1))
 
 mul-from : tie.Need-mul-from
 mul-from c = search needs
@@ -42,15 +44,17 @@ part-fill-file-start c = search needs
 
 part-fill-file-end : tie.Need-part-fill-file-end
 part-fill-file-end c =
-    let l = loadable (tablesOf (c .before .before .before .before .before .before .args .words .now)) (c .before .before .before .before .before .before .args .file) (length (c .before .before .before .before .before .before .args .contents .now)) 65536 (sym (c .before .load-number .ensures) ∙ c .if1 .left) in
-    let whole : length (c .before .before .before .before .before .before .args .memory .now) ≡ 65536 = c .before .before .before .before .before .before .pre .1 .1 in
+    let args = c .before .before .before .before .before .before .args in
+    let l = loadable (tablesOf (args .words .now)) (args .file) (length (args .contents .now)) 65536 (sym (c .before .load-number .ensures) ∙ c .if1 .left) in
+    let whole : length (args .memory .now) ≡ 65536 = c .before .before .before .before .before .before .pre .1 .1 in
     let f = l .known-file in
     omega arith
 
 fill-file-requires : tie.Need-fill-file-requires
 fill-file-requires c κs =
-    let l = loadable (tablesOf (c .before .before .before .before .before .before .before .args .words .now)) (c .before .before .before .before .before .before .before .args .file) (length (c .before .before .before .before .before .before .before .args .contents .now)) 65536 (sym (c .before .before .load-number .ensures) ∙ c .before .if1 .left) in
-    let whole : length (c .before .before .before .before .before .before .before .args .memory .now) ≡ 65536 = c .before .before .before .before .before .before .before .pre .1 .1 in
+    let args = c .before .before .before .before .before .before .before .args in
+    let l = loadable (tablesOf (args .words .now)) (args .file) (length (args .contents .now)) 65536 (sym (c .before .before .load-number .ensures) ∙ c .before .if1 .left) in
+    let whole : length (args .memory .now) ≡ 65536 = c .before .before .before .before .before .before .before .pre .1 .1 in
     let f = l .known-file in
     let s = l .fitting in
     rw (length-take, length-drop) (omega arith)
@@ -66,9 +70,10 @@ part-put-size-end c = search needs
 
 put-size-requires : tie.Need-put-size-requires
 put-size-requires c κs =
-    let w = c .before .before .before .before .before .before .before .before .before .before .before .args .words .now in
+    let args = c .before .before .before .before .before .before .before .before .before .before .before .args in
+    let w = args .words .now in
     let full : length w ≡ 1172 = c .before .before .before .before .before .before .before .before .before .before .before .pre .0 in
-    let l = loadable (tablesOf w) (c .before .before .before .before .before .before .before .before .before .before .before .args .file) (length (c .before .before .before .before .before .before .before .before .before .before .before .args .contents .now)) 65536 (sym (c .before .before .before .before .before .before .load-number .ensures) ∙ c .before .before .before .before .before .if1 .left) in
+    let l = loadable (tablesOf w) (args .file) (length (args .contents .now)) 65536 (sym (c .before .before .before .before .before .before .load-number .ensures) ∙ c .before .before .before .before .before .if1 .left) in
     let f = l .known-file in
     (length-part w 1156 16 (omega arith), omega arith)
 
@@ -81,17 +86,22 @@ same-length-3 c = search needs
 returns-2 : tie.Need-returns-2
 unfolding tablesOf withSize
 returns-2 c =
+    let pre = c .before .before .before .before .before .before .before .before .before .before .before .before .before .before .pre in
+    let put-size = c .before .before .put-size in
+    let load-number = c .before .before .before .before .before .before .before .before .before .load-number in
+    let if1 = c .before .before .before .before .before .before .before .before .if1 in
+    let fill-file = c .before .before .before .before .before .before .fill-file in
     let args = c .before .before .before .before .before .before .before .before .before .before .before .before .before .before .args in
     let w = args .words .now in
-    let full : length w ≡ 1172 = c .before .before .before .before .before .before .before .before .before .before .before .before .before .before .pre .0 in
-    let e = c .before .before .put-size .last .0 in
-    let long : length e ≡ 16 = c .before .before .put-size .kept .0 ∙ length-part w 1156 16 (omega arith) in
-    let l = loadable (tablesOf w) (args .file) (length (args .contents .now)) 65536 (sym (c .before .before .before .before .before .before .before .before .before .load-number .ensures) ∙ c .before .before .before .before .before .before .before .before .if1 .left) in
-    let whole : length (args .memory .now) ≡ 65536 = c .before .before .before .before .before .before .before .before .before .before .before .before .before .before .pre .1 .1 in
+    let full : length w ≡ 1172 = pre .0 in
+    let e = put-size .last .0 in
+    let long : length e ≡ 16 = put-size .kept .0 ∙ length-part w 1156 16 (omega arith) in
+    let l = loadable (tablesOf w) (args .file) (length (args .contents .now)) 65536 (sym (load-number .ensures) ∙ if1 .left) in
+    let whole : length (args .memory .now) ≡ 65536 = pre .1 .1 in
     let f = l .known-file in
-    let d = load-done (tablesOf w) (args .file) (args .contents .now) (args .memory .now) (c .before .before .before .before .before .before .before .before .before .load-number .result) (c .before .before .before .before .before .before .before .before .before .before .before .before .before .before .pre .1 .1) (c .before .before .before .before .before .before .before .before .before .load-number .ensures) (c .before .before .before .before .before .before .before .before .if1 .left) in (
-      left-done w (lent w 1156 16 e) 0 (loadFile (tablesOf w) (args .file) (args .contents .now) (args .memory .now)) (withSize (tablesOf w) (args .file) (length (args .contents .now))) (d .0) (tables-files w e full long ∙ ap (withFiles (tablesOf w)) (c .before .before .put-size .ensures)) (fit-files w e full long),
-      filled-memory (args .memory .now) (c .before .before .before .before .before .before .fill-file .last .1 .0) (args .contents .now) (args .file * 4096) (args .file * 4096 + 4096) refl (omega arith) (l .fitting) (c .before .before .before .before .before .before .fill-file .ensures) ∙ sym (d .1),
+    let d = load-done (tablesOf w) (args .file) (args .contents .now) (args .memory .now) (load-number .result) (pre .1 .1) (load-number .ensures) (if1 .left) in (
+      left-done w (lent w 1156 16 e) 0 (loadFile (tablesOf w) (args .file) (args .contents .now) (args .memory .now)) (withSize (tablesOf w) (args .file) (length (args .contents .now))) (d .0) (tables-files w e full long ∙ ap (withFiles (tablesOf w)) (put-size .ensures)) (fit-files w e full long),
+      filled-memory (args .memory .now) (fill-file .last .1 .0) (args .contents .now) (args .file * 4096) (args .file * 4096 + 4096) refl (omega arith) (l .fitting) (fill-file .ensures) ∙ sym (d .1),
     )
 
 pub load-sound-spec : {M : Type 1} → statement M

@@ -4,7 +4,6 @@ use mathlib.Core.Path.{_≡_, refl, sym, ap, _∙_}
 use Prim.Native.Nat.{_≤_, _<_, _-_}
 use lib.ListN.{length}
 use borrow.Author.Tests.{eq-eqb, ne-eqb}
-use borrow.Author.Needs.{needs}
 use Rattle.lists.specs.Walk.{any, rest}
 use Rattle.lists.specs.WalkLaws.{any-end, any-yes, any-no}
 use Rattle.records.specs.Empty.{noOpen}
