@@ -1,7 +1,6 @@
 -- What a LOCKING request leaves in the words of all tables, and its answer. Assumes nothing.
 use mathlib.Core.Path.{_≡_, refl, sym, ap, _∙_}
 use Prim.Native.Nat.{ℕ}
-use native.Mathlib.Omega.{arith}
 use mathlib.Core.Bool.{false}
 use mathlib.Core.List.{List, _++_}
 use lib.ListN.{length, take, drop, take-append-drop}
@@ -9,7 +8,7 @@ use Rattle.locks.specs.declared.types.Outcome.{Outcome}
 use Rattle.locks.specs.declared.types.Outcome.the-variants.{Done, Malformed as BadRanges, NoSuchLock as NoLock, PassesEnd as PastEnd, Conflict as InWay, NoRecord as NoRoom}
 use Rattle.locks.specs.declared.types.Locking.{Locking}
 use Rattle.locks.specs.Changed.{isDone, Settles}
-use Rattle.tables.specs.Words.{word, part, lockArray, tablesOf}
+use Rattle.tables.specs.Words.{part, tablesOf}
 use Rattle.tables.specs.PartLaws.{lent}
 use Rattle.tables.specs.WholeLaws.{withLockArray, tables-locks}
 use Rattle.message.specs.declared.answer.Answer.{Answer}

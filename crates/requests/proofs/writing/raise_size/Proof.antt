@@ -4,9 +4,7 @@ use borrow.Author.Needs.{needs}
 use mathlib.Core.Path.{_≡_, ap, _∙_}
 use Prim.Native.Nat.{ℕ, max}
 use native.Mathlib.Omega.{arith}
-use mathlib.Core.List.{List}
 use lib.ListN.{length, set}
-use Rattle.records.specs.declared.File.{File}
 use Rattle.records.specs.Held.{withFiles}
 use Rattle.tables.specs.Words.{part, fileOf, fileArray, tablesOf}
 use Rattle.tables.specs.PartLaws.{length-part}

@@ -2,13 +2,13 @@
 -- Assumes nothing.
 use borrow.Author.Needs.{needs}
 use mathlib.Core.Path.{refl, sym, ap, _∙_}
-use Prim.Native.Nat.{ℕ, max, _+_, _≤_}
+use Prim.Native.Nat.{_+_, _≤_}
 use native.Mathlib.Omega.{arith}
 use borrow.Author.Tests.{ne-eqb}
 use Rattle.tables.specs.Words.{tablesOf}
 use Rattle.message.specs.declared.answer.Answer.the-variants.{Wrote}
 use Rattle.message.specs.Command.{wrote}
-use Rattle.message.specs.Contents.{sizeOf, resized}
+use Rattle.message.specs.Contents.{resized}
 use Rattle.message.specs.Given.{givenOf, inside}
 use Rattle.requests.specs.Leaves.{performed, gives-refused, gives-done}
 use Rattle.requests.specs.Steps.{writeFree}
