@@ -46,7 +46,7 @@ extern "C" {
 
 /*
  * The records. Each field is a 64-bit word, whatever its values: a comment gives the largest value that fits. A call
- * on tables with a word that does not fit, in a record in use or not, returns GATEWAY_NOT_SOUND.
+ * on tables with a word that does not fit, in a record in use, returns GATEWAY_NOT_SOUND; words of other records are free.
  */
 struct gateway_session {
     uint64_t uid;        /* 1 to 16; fits up to 65,535 */

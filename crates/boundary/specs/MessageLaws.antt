@@ -14,7 +14,7 @@ use Rattle.message.specs.Message.{Taken, notTaken, replied, answered, take-mess
 use Rattle.invariants.specs.Fit.{take-message-good}
 use Rattle.tables.specs.Words.{tablesOf, inUseFit}
 use Rattle.boundary.specs.BoundaryLaws.{words-good, ready-of}
-use Rattle.boundary.specs.Boundary.{ready, ForNext, wrongRoom, messageTaken}
+use Rattle.boundary.specs.Boundary.{ready, ForNext, wrongRoom, messageTaken, lengthAfter}
 
 pub room-short : (memory room : List ℕ) → length room < 12292 → wrongRoom memory room ≡ true
 unfolding wrongRoom
@@ -76,6 +76,17 @@ pub message-unfit : (connection : ℕ) (s w memory room : List ℕ) → inUseFit
     → messageTaken connection s w memory room ≡ cond (wrongRoom memory room) (notTaken 2 (tablesOf w) memory room) (notTaken 4 (tablesOf w) memory room)
 unfolding messageTaken
 message-unfit connection s w memory room e = rw e
+
+-- ---- the reply's length
+
+-- where nothing was written the out-parameter stands
+pub length-stands : (before : ℕ) (k : Taken) → (k .number ≡ 0 → ⊥) → before ≡ lengthAfter before k
+unfolding lengthAfter
+length-stands before k n = rw (ne-eqb (k .number) 0 n)
+
+pub length-given : (before : ℕ) (k : Taken) → k .number ≡ 0 → k .length ≡ lengthAfter before k
+unfolding lengthAfter
+length-given before k e = rw (eq-eqb (k .number) 0 e)
 
 -- ---- for the next call
 

@@ -1,32 +1,28 @@
 // The gateway as a C program calls it (include/gateway.h): the tables are 1172 words of the host's.
 
-use host::add::add_open;
-use host::add::add_session;
-use host::add::add_tree;
 use host::answer::DONE;
-use host::answer::NOT_SOUND;
-use host::answer::WRONG_ROOM;
-use host::drop::drop_connection;
-use host::load::load_file;
-use host::start::empty_tables;
+use host::connection::drop_connection;
+use host::empty::empty_words;
+use host::file::load_file;
+use host::open::add_open;
+use host::session::add_session;
+use host::tree::add_tree;
 use server::call::take_message;
-use words::fit::words_fit;
-use words::pack::pack;
-use words::unpack::unpack;
 ghost use mathlib.Core.Path.{_≡_};
 ghost use mathlib.Core.Bool.{true};
 ghost use Rattle.host.specs.HostCall.{noTables};
-ghost use Rattle.words.specs.Words.{packed, unpacked};
-ghost use Rattle.boundary.specs.Boundary.{numberOf, wordsAfter, idAfter, sessionAdded, treeAdded, openAdded, connectionDropped, fileLoaded, loadNumberOf, memoryAfter, messageTaken, messageLeft, ready, ForNext};
+ghost use lib.ListN.{replicate};
+ghost use Rattle.tables.specs.Words.{tablesOf};
+ghost use Rattle.boundary.specs.Boundary.{numberOf, idAfter, sessionAdded, treeAdded, openAdded, connectionDropped, fileLoaded, loadNumberOf, memoryAfter, messageTaken, lengthAfter, ready, ForNext};
 
 // Tables to start from.
 #[no_mangle]
 pub extern "C" fn gateway_empty(tables: &mut [u64; 1172])
-    ensures { λ _. ⌜ now (tables .exit) ≡ packed noTables ⌝ }
-    ensures { λ _. ⌜ unpacked (now (tables .exit)) ≡ noTables ⌝ }
+    ensures { λ _. ⌜ now (tables .exit) ≡ replicate 1172 0 ⌝ }
+    ensures { λ _. ⌜ tablesOf (now (tables .exit)) ≡ noTables ⌝ }
     ensures { λ _. ⌜ ready (now (tables .exit)) ≡ true ⌝ }
 {
-    pack(empty_tables(), tables);
+    empty_words(tables);
 }
 
 // A session on a connection; its UID goes to uid.
@@ -37,20 +33,14 @@ pub extern "C" fn gateway_add_session(
     uid: &mut u16,
 ) -> u8
     ensures { λ r. ⌜ r ≡ numberOf (now (tables .entry)) (sessionAdded (now (tables .entry)) connection) ⌝ }
-    ensures { λ _. ⌜ now (tables .exit) ≡ wordsAfter (now (tables .entry)) (sessionAdded (now (tables .entry)) connection) ⌝ }
     ensures { λ _. ⌜ now (uid .exit) ≡ idAfter (now (uid .entry)) (now (tables .entry)) (sessionAdded (now (tables .entry)) connection) ⌝ }
     ensures { λ r. ⌜ ForNext (now (tables .entry)) (now (tables .exit)) r (sessionAdded (now (tables .entry)) connection .tables) ⌝ }
 {
-    if !words_fit(tables) {
-        return NOT_SOUND;
-    }
-    let a = add_session(unpack(tables), connection);
+    let a = add_session(tables, connection);
     let number = a.number;
     if number != DONE {
         return number;
     }
-    let next = a.tables;
-    pack(next, tables);
     *uid = a.id;
     DONE
 }
@@ -64,20 +54,14 @@ pub extern "C" fn gateway_add_tree(
     tid: &mut u16,
 ) -> u8
     ensures { λ r. ⌜ r ≡ numberOf (now (tables .entry)) (treeAdded (now (tables .entry)) uid right) ⌝ }
-    ensures { λ _. ⌜ now (tables .exit) ≡ wordsAfter (now (tables .entry)) (treeAdded (now (tables .entry)) uid right) ⌝ }
     ensures { λ _. ⌜ now (tid .exit) ≡ idAfter (now (tid .entry)) (now (tables .entry)) (treeAdded (now (tables .entry)) uid right) ⌝ }
     ensures { λ r. ⌜ ForNext (now (tables .entry)) (now (tables .exit)) r (treeAdded (now (tables .entry)) uid right .tables) ⌝ }
 {
-    if !words_fit(tables) {
-        return NOT_SOUND;
-    }
-    let a = add_tree(unpack(tables), uid, right);
+    let a = add_tree(tables, uid, right);
     let number = a.number;
     if number != DONE {
         return number;
     }
-    let next = a.tables;
-    pack(next, tables);
     *tid = a.id;
     DONE
 }
@@ -94,20 +78,14 @@ pub extern "C" fn gateway_add_open(
     fid: &mut u16,
 ) -> u8
     ensures { λ r. ⌜ r ≡ numberOf (now (tables .entry)) (openAdded (now (tables .entry)) uid tid process file access) ⌝ }
-    ensures { λ _. ⌜ now (tables .exit) ≡ wordsAfter (now (tables .entry)) (openAdded (now (tables .entry)) uid tid process file access) ⌝ }
     ensures { λ _. ⌜ now (fid .exit) ≡ idAfter (now (fid .entry)) (now (tables .entry)) (openAdded (now (tables .entry)) uid tid process file access) ⌝ }
     ensures { λ r. ⌜ ForNext (now (tables .entry)) (now (tables .exit)) r (openAdded (now (tables .entry)) uid tid process file access .tables) ⌝ }
 {
-    if !words_fit(tables) {
-        return NOT_SOUND;
-    }
-    let a = add_open(unpack(tables), uid, tid, process, file, access);
+    let a = add_open(tables, uid, tid, process, file, access);
     let number = a.number;
     if number != DONE {
         return number;
     }
-    let next = a.tables;
-    pack(next, tables);
     *fid = a.id;
     DONE
 }
@@ -121,23 +99,14 @@ pub extern "C" fn gateway_load_file(
     memory: &mut [u8],
 ) -> u8
     ensures { λ r. ⌜ r ≡ loadNumberOf (now (tables .entry)) file (now (contents .entry)) (now (memory .entry)) ⌝ }
-    ensures { λ _. ⌜ now (tables .exit) ≡ wordsAfter (now (tables .entry)) (fileLoaded (now (tables .entry)) file (now (contents .entry)) (now (memory .entry))) ⌝ }
     ensures { λ _. ⌜ now (memory .exit) ≡ memoryAfter (now (tables .entry)) file (now (contents .entry)) (now (memory .entry)) ⌝ }
     ensures { λ r. ⌜ ForNext (now (tables .entry)) (now (tables .exit)) r (fileLoaded (now (tables .entry)) file (now (contents .entry)) (now (memory .entry)) .tables) ⌝ }
 {
-    if memory.len() != 65536 {
-        return WRONG_ROOM;
-    }
-    if !words_fit(tables) {
-        return NOT_SOUND;
-    }
-    let a = load_file(unpack(tables), file, contents, memory);
+    let a = load_file(tables, file, contents, memory);
     let number = a.number;
     if number != DONE {
         return number;
     }
-    let next = a.tables;
-    pack(next, tables);
     DONE
 }
 
@@ -145,24 +114,17 @@ pub extern "C" fn gateway_load_file(
 #[no_mangle]
 pub extern "C" fn gateway_drop_connection(tables: &mut [u64; 1172], connection: u32) -> u8
     ensures { λ r. ⌜ r ≡ numberOf (now (tables .entry)) (connectionDropped (now (tables .entry)) connection) ⌝ }
-    ensures { λ _. ⌜ now (tables .exit) ≡ wordsAfter (now (tables .entry)) (connectionDropped (now (tables .entry)) connection) ⌝ }
     ensures { λ r. ⌜ ForNext (now (tables .entry)) (now (tables .exit)) r (connectionDropped (now (tables .entry)) connection .tables) ⌝ }
 {
-    if !words_fit(tables) {
-        return NOT_SOUND;
-    }
-    let a = drop_connection(unpack(tables), connection);
+    let a = drop_connection(tables, connection);
     let number = a.number;
     if number != DONE {
         return number;
     }
-    let next = a.tables;
-    pack(next, tables);
     DONE
 }
 
-// A request message of a connection. The reply goes to the start of the room, its length to written. Row 2 is tested here too,
-// since it comes before words that do not fit.
+// A request message of a connection. The reply goes to the start of the room, its length to written.
 #[no_mangle]
 pub extern "C" fn gateway_take_message(
     tables: &mut [u64; 1172],
@@ -172,29 +134,17 @@ pub extern "C" fn gateway_take_message(
     room: &mut [u8],
     written: &mut usize,
 ) -> u8
-    ensures { λ r. ⌜ r ≡ messageLeft connection (now (message .entry)) (now (tables .entry)) (now (memory .entry)) (now (room .entry)) (now (written .entry)) .number ⌝ }
-    ensures { λ _. ⌜ now (tables .exit) ≡ messageLeft connection (now (message .entry)) (now (tables .entry)) (now (memory .entry)) (now (room .entry)) (now (written .entry)) .words ⌝ }
-    ensures { λ _. ⌜ now (memory .exit) ≡ messageLeft connection (now (message .entry)) (now (tables .entry)) (now (memory .entry)) (now (room .entry)) (now (written .entry)) .memory ⌝ }
-    ensures { λ _. ⌜ now (room .exit) ≡ messageLeft connection (now (message .entry)) (now (tables .entry)) (now (memory .entry)) (now (room .entry)) (now (written .entry)) .room ⌝ }
-    ensures { λ _. ⌜ now (written .exit) ≡ messageLeft connection (now (message .entry)) (now (tables .entry)) (now (memory .entry)) (now (room .entry)) (now (written .entry)) .length ⌝ }
+    ensures { λ r. ⌜ r ≡ messageTaken connection (now (message .entry)) (now (tables .entry)) (now (memory .entry)) (now (room .entry)) .number ⌝ }
+    ensures { λ _. ⌜ now (memory .exit) ≡ messageTaken connection (now (message .entry)) (now (tables .entry)) (now (memory .entry)) (now (room .entry)) .memory ⌝ }
+    ensures { λ _. ⌜ now (room .exit) ≡ messageTaken connection (now (message .entry)) (now (tables .entry)) (now (memory .entry)) (now (room .entry)) .room ⌝ }
+    ensures { λ _. ⌜ now (written .exit) ≡ lengthAfter (now (written .entry)) (messageTaken connection (now (message .entry)) (now (tables .entry)) (now (memory .entry)) (now (room .entry))) ⌝ }
     ensures { λ r. ⌜ ForNext (now (tables .entry)) (now (tables .exit)) r (messageTaken connection (now (message .entry)) (now (tables .entry)) (now (memory .entry)) (now (room .entry)) .tables) ⌝ }
 {
-    if room.len() < 12292 {
-        return WRONG_ROOM;
-    }
-    if memory.len() != 65536 {
-        return WRONG_ROOM;
-    }
-    if !words_fit(tables) {
-        return NOT_SOUND;
-    }
-    let taken = take_message(connection, message, unpack(tables), memory, room);
+    let taken = take_message(connection, message, tables, memory, room);
     let number = taken.number;
     if number != DONE {
         return number;
     }
-    let next = taken.tables;
-    pack(next, tables);
     *written = taken.length;
     DONE
 }

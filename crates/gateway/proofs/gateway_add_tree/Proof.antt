@@ -1,57 +1,28 @@
--- `gateway::gateway_add_tree` meets its contract: the words do not fit, the core refuses, or the core is done. Assumes nothing.
+-- `gateway::gateway_add_tree` meets its contract: the host call on the words, its number handed on where it is done. Assumes nothing.
 use borrow.Author.Needs.{needs}
 use Rattle.gateway.proofs.gateway_add_tree.Statement.{statement}
 use Rattle.gateway.proofs.gateway_add_tree.Tie as tie
-use mathlib.Core.Path.{sym, ap, _∙_}
-use borrow.Author.Tests.{not-true, not-false}
-use Rattle.records.specs.declared.Tables.{Tables}
-use Rattle.host.specs.HostCall.{addTree}
 use Rattle.invariants.specs.HostSound.{addTree-sound}
-use Rattle.words.specs.Words.{unpacked}
+use Rattle.tables.specs.Words.{tablesOf}
 use Rattle.boundary.specs.Boundary.{treeAdded}
-use Rattle.boundary.specs.BoundaryLaws.{unfit, refused-leaves, done-leaves}
-
-words-fit-requires : tie.Need-words-fit-requires
-words-fit-requires c κs = search needs
-
-returns : tie.Need-returns
-returns c =
-    let args = c .before .before .before .before .args in
-    let k = unfit (args .tables .now) (args .tid .now) (treeAdded (args .tables .now) (args .uid) (args .right)) (sym (c .before .words-fit .ensures) ∙ not-true (c .before .words-fit .result) (c .if1 .taken)) in (k .number, (k .words, (k .given, k .next)))
-
-unpack-requires : tie.Need-unpack-requires
-unpack-requires c κs = search needs
+use Rattle.gateway.proofs.HostCalls.{refused-call, done-call}
 
 add-tree-requires : tie.Need-add-tree-requires
 add-tree-requires c κs = search needs
 
+returns : tie.Need-returns
+unfolding treeAdded
+returns c =
+    let args = c .before .before .before .args in
+    let called = c .before .add-tree in
+    let k = refused-call (args .tables .now) (treeAdded (args .tables .now) (args .uid) (args .right)) (args .tid .now) (called .last .0) (called .result) (called .ensures) (c .if1 .taken) in (k .number, (k .given, k .next))
+
 returns-2 : tie.Need-returns-2
 unfolding treeAdded
 returns-2 c =
-    let args = c .before .before .before .before .before .before .before .before .before .args in
-    let words-fit = c .before .before .before .before .before .before .words-fit in
-    let k = refused-leaves (args .tables .now) (args .tid .now) (treeAdded (args .tables .now) (args .uid) (args .right)) (c .before .add-tree .result) (c .before .add-tree .ensures ∙ ap (λ (t : Tables). addTree t (args .uid) (args .right)) (c .before .before .unpack .ensures)) (sym (words-fit .ensures) ∙ not-false (words-fit .result) (c .before .before .before .before .before .if1 .left)) (c .if2 .taken) in (k .number, (k .words, (k .given, k .next)))
-
-pack-requires : tie.Need-pack-requires
-pack-requires c κs = search needs
-
-returns-3 : tie.Need-returns-3
-unfolding treeAdded
-returns-3 c =
-    let args = c .before .before .before .before .before .before .before .before .before .before .before .before .args in
-    let words-fit = c .before .before .before .before .before .before .before .before .before .words-fit in
-    let if1 = c .before .before .before .before .before .before .before .before .if1 in
-    let add-tree = c .before .before .before .before .add-tree in
-    let k = done-leaves (args .tables .now) (args .tid .now) (treeAdded (args .tables .now) (args .uid) (args .right)) (add-tree .result) (add-tree .ensures ∙ ap (λ (t : Tables). addTree t (args .uid) (args .right)) (c .before .before .before .before .before .unpack .ensures)) (sym (words-fit .ensures) ∙ not-false (words-fit .result) (if1 .left)) (λ e. addTree-sound (unpacked (args .tables .now)) e (args .uid) (args .right)) (c .before .before .before .if2 .left) _ (c .pack .ensures) in (k .number, (k .words, (k .given, k .next)))
+    let args = c .before .before .before .args in
+    let called = c .before .add-tree in
+    let k = done-call (args .tables .now) (treeAdded (args .tables .now) (args .uid) (args .right)) (args .tid .now) (called .last .0) (called .result) (called .ensures) (λ e. addTree-sound (tablesOf (args .tables .now)) e (args .uid) (args .right)) (c .if1 .left) in (k .number, (k .given, k .next))
 
 pub gateway-add-tree-spec : {M : Type 1} → statement M
-gateway-add-tree-spec =
-    tie.close
-    (tie.spec
-    words-fit-requires
-    returns
-    unpack-requires
-    add-tree-requires
-    returns-2
-    pack-requires
-    returns-3)
+gateway-add-tree-spec = tie.close (tie.spec add-tree-requires returns returns-2)

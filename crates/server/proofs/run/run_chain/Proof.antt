@@ -3,7 +3,7 @@
 use Prim.Native.Nat.{_-_}
 use mathlib.Core.Path.{sym, _∙_}
 use lib.ListN.{length}
-use Rattle.commands.specs.Leaves.{performed}
+use Rattle.requests.specs.Leaves.{performed}
 use Rattle.tables.specs.Words.{tablesOf}
 use Rattle.server.specs.Going.{finished-length}
 use Rattle.server.specs.Taking.{Turn, Kept, turn-start, turn-block, turn-length, turn-parse, block-fits, turn-ends, turn-goes, turn-falls}
