@@ -11,10 +11,17 @@ use server::call::take_message;
 fn main() {
     let mut message = [0u8; 8193];
     let n = io::read_full(STDIN_FILENO, &mut message);
+    let mut words = [0u64; 1172];
     let mut memory = [0u8; 65536];
     let mut room = [0u8; 12292];
-    let tables = one_terminal(&mut memory);
-    let taken = take_message(CONNECTION, &message[..n], tables, &mut memory, &mut room);
+    one_terminal(&mut words, &mut memory);
+    let taken = take_message(
+        CONNECTION,
+        &message[..n],
+        &mut words,
+        &mut memory,
+        &mut room,
+    );
     let mut text = [0u8; 32768];
     let length = put_answer(&mut text, 0, taken.number, taken.length, &room);
     io::write_all(STDOUT_FILENO, &text[..length]);

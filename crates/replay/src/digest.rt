@@ -1,10 +1,7 @@
 // A digest of numbers: a polynomial in 257, modulo the largest prime below 2^32.
 
-use records::Tables;
-use words::pack::pack;
 ghost use mathlib.Core.Path.{_≡_};
 ghost use Prim.Native.Nat.{_<_};
-ghost use Rattle.words.specs.Words.{packed};
 ghost use Rattle.replay.specs.Digest.{digest};
 
 const PRIME: u64 = 4294967291;
@@ -44,10 +41,8 @@ fn digest_bytes(start: u64, bytes: &[u8]) -> u64
 }
 
 // The words of the tables, then the file memory.
-pub(crate) fn state_digest(tables: Tables, memory: &[u8]) -> u64
-    ensures { λ r. ⌜ r ≡ digest (digest 0 (packed tables)) (now (memory .entry)) ⌝ }
+pub(crate) fn state_digest(words: &[u64], memory: &[u8]) -> u64
+    ensures { λ r. ⌜ r ≡ digest (digest 0 (now (words .entry))) (now (memory .entry)) ⌝ }
 {
-    let mut words = [0u64; 1172];
-    pack(tables, &mut words);
-    digest_bytes(digest_words(0, &words), memory)
+    digest_bytes(digest_words(0, words), memory)
 }

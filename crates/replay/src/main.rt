@@ -7,7 +7,7 @@ mod line;
 mod play;
 
 use crate::play::play;
-use host::start::empty_tables;
+use host::empty::empty_words;
 use libc::STDIN_FILENO;
 use libc::STDOUT_FILENO;
 ghost use mathlib.Core.Path.{_≡_};
@@ -15,15 +15,19 @@ ghost use Prim.Native.Nat.{_≤_};
 ghost use lib.ListN.{length};
 
 // The whole history, call by call.
-fn replay(history: &[u8], memory: &mut [u8], room: &mut [u8], text: &mut [u8])
+fn replay(
+    history: &[u8],
+    words: &mut [u64; 1172],
+    memory: &mut [u8],
+    room: &mut [u8],
+    text: &mut [u8],
+)
     requires { ⌜ length (now history) ≤ 262144 ⌝ }
 {
-    let mut tables = empty_tables();
+    empty_words(words);
     let mut at: usize = 0;
     while at < history.len() {
-        let step = play(history, at, tables, memory, room, text);
-        let left = step.tables;
-        tables = left;
+        let step = play(history, at, words, memory, room, text);
         let length = step.length;
         io::write_all(STDOUT_FILENO, &text[..length]);
         at = step.next;
@@ -33,8 +37,9 @@ fn replay(history: &[u8], memory: &mut [u8], room: &mut [u8], text: &mut [u8])
 fn main() {
     let mut history = [0u8; 262144];
     let n = io::read_full(STDIN_FILENO, &mut history);
+    let mut words = [0u64; 1172];
     let mut memory = [0u8; 65536];
     let mut room = [0u8; 12292];
     let mut text = [0u8; 32768];
-    replay(&history[..n], &mut memory, &mut room, &mut text);
+    replay(&history[..n], &mut words, &mut memory, &mut room, &mut text);
 }

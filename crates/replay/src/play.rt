@@ -9,14 +9,13 @@
 
 use crate::digest::state_digest;
 use crate::line::put_line;
-use host::add::add_open;
-use host::add::add_session;
-use host::add::add_tree;
-use host::answer::Answer;
-use host::drop::drop_connection;
-use host::load::load_file;
+use host::answer::Outcome;
+use host::connection::drop_connection;
+use host::file::load_file;
+use host::open::add_open;
+use host::session::add_session;
+use host::tree::add_tree;
 use numbers::number::at_most;
-use records::Tables;
 use server::call::take_message;
 use wire::byte_at;
 use wire::le16_at;
@@ -25,29 +24,29 @@ ghost use mathlib.Core.Path.{_≡_};
 ghost use Prim.Native.Nat.{_≤_, _<_};
 ghost use lib.ListN.{length};
 
-// What a call left: the tables, where the next one stands, and how long its line is.
+// Where the next call stands, and how long this one's line is. What it left is in the words and the file memory.
 pub(crate) struct Step {
-    pub tables: Tables,
     pub next: usize,
     pub length: usize,
 }
 
 // A host call carried out, and its line.
-fn host_step(a: Answer, next: usize, memory: &[u8], text: &mut [u8]) -> Step
+fn host_step(o: Outcome, next: usize, words: &[u64], memory: &[u8], text: &mut [u8]) -> Step
     ensures { λ r. ⌜ (r .next ≡ next) × (r .length ≤ length (now (text .exit))) ⌝ }
 {
-    let left = a.tables;
-    let digest = state_digest(left, memory) as usize;
-    let length = put_line(text, a.number, a.id as usize, b"", digest);
-    Step {
-        tables: left,
-        next,
-        length,
-    }
+    let digest = state_digest(words, memory) as usize;
+    let length = put_line(text, o.number, o.id as usize, b"", digest);
+    Step { next, length }
 }
 
 // A load: the file's number, then its bytes.
-fn load_step(s: &[u8], at: usize, tables: Tables, memory: &mut [u8], text: &mut [u8]) -> Step
+fn load_step(
+    s: &[u8],
+    at: usize,
+    words: &mut [u64; 1172],
+    memory: &mut [u8],
+    text: &mut [u8],
+) -> Step
     requires { ⌜ at < length (now s) ⌝ }
     requires { ⌜ length (now s) ≤ 262144 ⌝ }
     ensures { λ r. ⌜ (at < r .next) × (r .length ≤ length (now (text .exit))) ⌝ }
@@ -55,15 +54,15 @@ fn load_step(s: &[u8], at: usize, tables: Tables, memory: &mut [u8], text: &mut 
     let next = at + 4 + le16_at(s, at + 2) as usize;
     let to = at_most(next, s.len());
     let from = at_most(at + 4, to);
-    let a = load_file(tables, byte_at(s, at + 1), &s[from..to], memory);
-    host_step(a, next, memory, text)
+    let o = load_file(words, byte_at(s, at + 1), &s[from..to], memory);
+    host_step(o, next, words, memory, text)
 }
 
 // A message: its connection, then its bytes.
 fn message_step(
     s: &[u8],
     at: usize,
-    tables: Tables,
+    words: &mut [u64; 1172],
     memory: &mut [u8],
     room: &mut [u8],
     text: &mut [u8],
@@ -75,20 +74,15 @@ fn message_step(
     let next = at + 7 + le16_at(s, at + 5) as usize;
     let to = at_most(next, s.len());
     let from = at_most(at + 7, to);
-    let taken = take_message(le32_at(s, at + 1), &s[from..to], tables, memory, room);
-    let left = taken.tables;
-    let digest = state_digest(left, memory) as usize;
+    let taken = take_message(le32_at(s, at + 1), &s[from..to], words, memory, room);
+    let digest = state_digest(words, memory) as usize;
     let size = at_most(taken.length, room.len());
     let length = put_line(text, taken.number, taken.length, &room[..size], digest);
-    Step {
-        tables: left,
-        next,
-        length,
-    }
+    Step { next, length }
 }
 
 // An open: UID, TID, process, file and access.
-fn open_step(s: &[u8], at: usize, tables: Tables, memory: &[u8], text: &mut [u8]) -> Step
+fn open_step(s: &[u8], at: usize, words: &mut [u64; 1172], memory: &[u8], text: &mut [u8]) -> Step
     requires { ⌜ at < length (now s) ⌝ }
     requires { ⌜ length (now s) ≤ 262144 ⌝ }
     ensures { λ r. ⌜ (at < r .next) × (r .length ≤ length (now (text .exit))) ⌝ }
@@ -96,22 +90,22 @@ fn open_step(s: &[u8], at: usize, tables: Tables, memory: &[u8], text: &mut [u8]
     let uid = le16_at(s, at + 1);
     let tid = le16_at(s, at + 3);
     let process = le32_at(s, at + 5);
-    let a = add_open(
-        tables,
+    let o = add_open(
+        words,
         uid,
         tid,
         process,
         byte_at(s, at + 9),
         byte_at(s, at + 10),
     );
-    host_step(a, at + 11, memory, text)
+    host_step(o, at + 11, words, memory, text)
 }
 
 // The call that stands at a place of the history.
 pub(crate) fn play(
     s: &[u8],
     at: usize,
-    tables: Tables,
+    words: &mut [u64; 1172],
     memory: &mut [u8],
     room: &mut [u8],
     text: &mut [u8],
@@ -123,28 +117,30 @@ pub(crate) fn play(
     let kind = byte_at(s, at);
     match kind {
         1 => host_step(
-            add_session(tables, le32_at(s, at + 1)),
+            add_session(words, le32_at(s, at + 1)),
             at + 5,
+            words,
             memory,
             text,
         ),
         2 => host_step(
-            add_tree(tables, le16_at(s, at + 1), byte_at(s, at + 3)),
+            add_tree(words, le16_at(s, at + 1), byte_at(s, at + 3)),
             at + 4,
+            words,
             memory,
             text,
         ),
-        3 => open_step(s, at, tables, memory, text),
-        4 => load_step(s, at, tables, memory, text),
+        3 => open_step(s, at, words, memory, text),
+        4 => load_step(s, at, words, memory, text),
         5 => host_step(
-            drop_connection(tables, le32_at(s, at + 1)),
+            drop_connection(words, le32_at(s, at + 1)),
             at + 5,
+            words,
             memory,
             text,
         ),
-        6 => message_step(s, at, tables, memory, room, text),
+        6 => message_step(s, at, words, memory, room, text),
         _ => Step {
-            tables,
             next: at + 1,
             length: 0,
         },

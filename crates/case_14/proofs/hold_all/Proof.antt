@@ -9,10 +9,10 @@ use Prim.Native.Nat.{_-_}
 use lib.ListN.{length}
 
 abbrev Inv-loop : tie.InvT-loop
-Inv-loop memory₀ room₀ held₀ place₀ memory room held place = (length memory ≡ length memory₀) × (length room ≡ length room₀)
+Inv-loop words₀ memory₀ room₀ place₀ words memory room place = (length memory ≡ length memory₀) × (length room ≡ length room₀)
 
 abbrev μ-loop : tie.MeasureT-loop
-μ-loop memory₀ room₀ held₀ place₀ memory room held place = 128 - place
+μ-loop words₀ memory₀ room₀ place₀ words memory room place = 128 - place
 
 loop-holds : tie.Need-loop-holds Inv-loop μ-loop
 loop-holds c =
@@ -29,7 +29,7 @@ loop-less c = omega arith
 
 loop-again : tie.Need-loop-again Inv-loop μ-loop
 loop-again c =
-    let loop = c .before .before .before .before .before .before .before .before .loop in
+    let loop = c .before .before .before .before .before .before .before .before .before .loop in
     let ask = c .before .before .before .before .ask in
     (ask .kept .1 .1 .1 .1 .0 ∙ loop .inv .0, ask .kept .1 .1 .1 .1 .1 .0 ∙ loop .inv .1)
 

@@ -99,16 +99,16 @@ put-status-requires-4 c κs = search needs
 
 array-share-prefix-text : tie.Need-array-share-prefix-text
 array-share-prefix-text c =
-    let put-status = c .before .before .before .before .before .before .before .before .before .before .before .before .before .before .before .before .before .before .before .before .before .before .before .before .before .before .before .before .before .before .before .put-status in
-    let put-status2 = c .before .before .before .before .before .before .before .before .before .before .before .before .before .before .before .before .before .before .before .before .before .put-status2 in
-    let put-status3 = c .before .before .before .before .before .before .before .before .before .before .before .put-status3 in
+    let put-status = c .before .before .before .before .before .before .before .before .before .before .before .before .before .before .before .before .before .before .before .before .before .before .before .before .before .before .before .before .before .before .before .before .before .before .put-status in
+    let put-status2 = c .before .before .before .before .before .before .before .before .before .before .before .before .before .before .before .before .before .before .before .before .before .before .before .put-status2 in
+    let put-status3 = c .before .before .before .before .before .before .before .before .before .before .before .before .put-status3 in
     written-inside (written-then (put-status .ensures) (written-then (put-status2 .ensures) (written-then (put-status3 .ensures) (c .before .put-status4 .ensures))))
 
 slice-aggregate-write-all : tie.Need-slice-aggregate-write-all
 slice-aggregate-write-all c =
-    let put-status = c .before .before .before .before .before .before .before .before .before .before .before .before .before .before .before .before .before .before .before .before .before .before .before .before .before .before .before .before .before .before .before .before .put-status in
-    let put-status2 = c .before .before .before .before .before .before .before .before .before .before .before .before .before .before .before .before .before .before .before .before .before .before .put-status2 in
-    let put-status3 = c .before .before .before .before .before .before .before .before .before .before .before .before .put-status3 in
+    let put-status = c .before .before .before .before .before .before .before .before .before .before .before .before .before .before .before .before .before .before .before .before .before .before .before .before .before .before .before .before .before .before .before .before .before .before .before .put-status in
+    let put-status2 = c .before .before .before .before .before .before .before .before .before .before .before .before .before .before .before .before .before .before .before .before .before .before .before .before .put-status2 in
+    let put-status3 = c .before .before .before .before .before .before .before .before .before .before .before .before .before .put-status3 in
     let put-status4 = c .before .before .put-status4 in
     sym (length-take-le (put-status4 .result) (put-status4 .last .0) (written-inside (written-then (put-status .ensures) (written-then (put-status2 .ensures) (written-then (put-status3 .ensures) (put-status4 .ensures))))))
 

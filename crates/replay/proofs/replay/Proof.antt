@@ -10,13 +10,13 @@ use lib.ListN.{length}
 use lib.Seq.{length-take-le}
 
 abbrev Inv-loop : tie.InvT-loop
-Inv-loop history memory₀ room₀ text₀ tables₀ at₀ memory room text tables at = (length memory ≡ length memory₀) × ((length room ≡ length room₀) × (length text ≡ length text₀))
+Inv-loop history words₀ memory₀ room₀ text₀ at₀ words memory room text at = (length memory ≡ length memory₀) × ((length room ≡ length room₀) × (length text ≡ length text₀))
 
 abbrev μ-loop : tie.MeasureT-loop
-μ-loop history memory₀ room₀ text₀ tables₀ at₀ memory room text tables at = length history - at
+μ-loop history words₀ memory₀ room₀ text₀ at₀ words memory room text at = length history - at
 
-empty-tables-requires : tie.Need-empty-tables-requires Inv-loop μ-loop
-empty-tables-requires c κs = search needs
+empty-words-requires : tie.Need-empty-words-requires Inv-loop μ-loop
+empty-words-requires c κs = search needs
 
 loop-holds : tie.Need-loop-holds Inv-loop μ-loop
 loop-holds c =
@@ -30,7 +30,7 @@ slice-reshare-prefix-write-all c = omega arith
 
 slice-aggregate-write-all : tie.Need-slice-aggregate-write-all Inv-loop μ-loop
 slice-aggregate-write-all c =
-    let play = c .before .before .before .before .before .before .before .before .play in
+    let play = c .before .before .before .before .before .before .before .play in
     sym (length-take-le (play .result .length) (play .last .1 .1 .1 .1 .1 .0) (play .ensures .1))
 
 write-all-requires : tie.Need-write-all-requires Inv-loop μ-loop
@@ -38,13 +38,13 @@ write-all-requires c κs = search needs
 
 loop-less : tie.Need-loop-less Inv-loop μ-loop
 loop-less c =
-    let play = c .before .before .before .before .before .before .before .before .before .play in
+    let play = c .before .before .before .before .before .before .before .before .play in
     omega (arith, play .ensures .0)
 
 loop-again : tie.Need-loop-again Inv-loop μ-loop
 loop-again c =
     let loop = c .before .before .before .before .before .before .before .before .before .before .before .before .before .before .loop in
-    let play = c .before .before .before .before .before .before .before .before .before .play in
+    let play = c .before .before .before .before .before .before .before .before .play in
     (play .kept .1 .1 .1 .0 ∙ loop .inv .0, (play .kept .1 .1 .1 .1 .0 ∙ loop .inv .1 .0, play .kept .1 .1 .1 .1 .1 .0 ∙ loop .inv .1 .1))
 
 same-length : tie.Need-same-length Inv-loop μ-loop
@@ -69,7 +69,7 @@ replay-spec =
     (tie.spec
     Inv-loop
     μ-loop
-    empty-tables-requires
+    empty-words-requires
     loop-holds
     play-requires
     slice-reshare-prefix-write-all

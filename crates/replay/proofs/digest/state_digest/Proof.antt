@@ -7,15 +7,6 @@ use mathlib.Core.Path.{ap, _∙_}
 use Prim.Native.Nat.{ℕ}
 use Rattle.replay.specs.Digest.{digest}
 
-slice-aggregate-pack : tie.Need-slice-aggregate-pack
-slice-aggregate-pack c = search needs
-
-pack-requires : tie.Need-pack-requires
-pack-requires c κs = search needs
-
-slice-aggregate-digest-words : tie.Need-slice-aggregate-digest-words
-slice-aggregate-digest-words c = search needs
-
 digest-words-requires : tie.Need-digest-words-requires
 digest-words-requires c κs = search needs
 
@@ -23,17 +14,7 @@ digest-bytes-requires : tie.Need-digest-bytes-requires
 digest-bytes-requires c κs = search needs
 
 returns : tie.Need-returns
-returns c =
-    let args = c .before .before .before .before .before .before .before .args in
-    c .digest-bytes .ensures ∙ ap (λ (d : ℕ). digest d (args .memory .now)) (c .before .digest-words .ensures .0 ∙ ap (digest 0) (c .before .before .before .before .pack .ensures .0))
+returns c = c .digest-bytes .ensures ∙ ap (λ (d : ℕ). digest d (c .before .before .before .before .args .memory .now)) (c .before .digest-words .ensures .0)
 
 pub state-digest-spec : {M : Type 1} → statement M
-state-digest-spec =
-    tie.close
-    (tie.spec
-    slice-aggregate-pack
-    pack-requires
-    slice-aggregate-digest-words
-    digest-words-requires
-    digest-bytes-requires
-    returns)
+state-digest-spec = tie.close (tie.spec digest-words-requires digest-bytes-requires returns)

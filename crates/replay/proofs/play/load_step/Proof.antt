@@ -52,12 +52,12 @@ host-step-requires c κs = search needs
 
 same-length : tie.Need-same-length
 same-length c =
-    let load-file = c .before .before .before .before .before .before .before .load-file in
+    let load-file = c .before .before .before .before .before .before .before .before .before .load-file in
     load-file .kept .1 .1 .1 .0
 
 same-length-2 : tie.Need-same-length-2
 same-length-2 c =
-    c .before .before .host-step .kept .1 .1 .1 .0
+    c .before .before .host-step .kept .1 .1 .1 .1 .0
 
 returns : tie.Need-returns
 returns c =

@@ -61,7 +61,7 @@ slice-reshare-prefix-put-line c = search needs
 
 slice-aggregate-put-line : tie.Need-slice-aggregate-put-line
 slice-aggregate-put-line c =
-    let take-message = c .before .before .before .before .before .before .before .before .before .before .take-message in
+    let take-message = c .before .before .before .before .before .before .before .before .before .before .before .take-message in
     sym (length-take-le (c .before .before .at-most3 .result) (take-message .last .1 .1 .1 .1 .0) (omega (arith, c .before .before .at-most3 .ensures)))
 
 put-line-requires : tie.Need-put-line-requires

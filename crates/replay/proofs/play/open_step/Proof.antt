@@ -46,7 +46,7 @@ host-step-requires c κs = search needs
 
 same-length : tie.Need-same-length
 same-length c =
-    c .before .before .host-step .kept .1 .1 .1 .0
+    c .before .before .host-step .kept .1 .1 .1 .1 .0
 
 returns : tie.Need-returns
 returns c =

@@ -69,8 +69,8 @@ host-step-requires-3 c κs = search needs
 message-step-requires : tie.Need-message-step-requires
 message-step-requires c κs = search needs
 
-add-t49 : tie.Need-add-t49
-add-t49 c = omega arith
+add-t61 : tie.Need-add-t61
+add-t61 c = omega arith
 
 same-length : tie.Need-same-length
 same-length c =
@@ -78,7 +78,7 @@ same-length c =
 
 same-length-2 : tie.Need-same-length-2
 same-length-2 c =
-    c .before .before .host-step .kept .1 .1 .1 .0
+    c .before .before .host-step .kept .1 .1 .1 .1 .0
 
 returns : tie.Need-returns
 returns c =
@@ -90,7 +90,7 @@ same-length-3 c =
 
 same-length-4 : tie.Need-same-length-4
 same-length-4 c =
-    c .before .before .host-step2 .kept .1 .1 .1 .0
+    c .before .before .host-step2 .kept .1 .1 .1 .1 .0
 
 returns-2 : tie.Need-returns-2
 returns-2 c =
@@ -127,7 +127,7 @@ same-length-9 c =
 
 same-length-10 : tie.Need-same-length-10
 same-length-10 c =
-    c .before .before .host-step3 .kept .1 .1 .1 .0
+    c .before .before .host-step3 .kept .1 .1 .1 .1 .0
 
 returns-5 : tie.Need-returns-5
 returns-5 c =
@@ -182,7 +182,7 @@ play-spec =
     add-host-step-3
     host-step-requires-3
     message-step-requires
-    add-t49
+    add-t61
     same-length
     same-length-2
     returns
