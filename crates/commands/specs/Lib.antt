@@ -1,8 +1,0 @@
-pub mod Told
-pub mod Leaves
-pub mod Moves
-pub mod Reach
-pub mod Steps
-pub mod ReadPart
-pub mod WritePart
-pub mod BlockPart
