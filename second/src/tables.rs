@@ -100,18 +100,30 @@ impl Lock {
 
 /// A table: the records in use stand first, in order of their making. What
 /// the records behind them hold is of no matter, but it is kept.
-#[derive(Clone, Debug, PartialEq, Eq)]
+#[derive(Clone, Debug)]
 pub struct Table<T, const N: usize> {
     pub records: [T; N],
     /// Above `N` only in tables that are not sound.
     pub count: usize,
+    /// The most records that were in use: those behind are as they were.
+    pub most: usize,
 }
+
+/// Equal tables hold equal records, whatever was in use before.
+impl<T: PartialEq, const N: usize> PartialEq for Table<T, N> {
+    fn eq(&self, other: &Self) -> bool {
+        self.records == other.records && self.count == other.count
+    }
+}
+
+impl<T: Eq, const N: usize> Eq for Table<T, N> {}
 
 impl<T: Copy + Default, const N: usize> Table<T, N> {
     pub fn empty() -> Self {
         Table {
             records: [T::default(); N],
             count: 0,
+            most: 0,
         }
     }
 
@@ -127,6 +139,7 @@ impl<T: Copy + Default, const N: usize> Table<T, N> {
     pub fn push(&mut self, record: T) {
         self.records[self.count] = record;
         self.count += 1;
+        self.most = self.most.max(self.count);
     }
 
     /// Keeps the records in use that pass the test, in their order. Places
@@ -375,6 +388,7 @@ mod tests {
         let mut table = Table {
             records: [1, 2, 3, 4, 5, 6],
             count: 4,
+            most: 4,
         };
         table.retain(|number| number % 2 == 0);
         assert_eq!((table.records, table.count), ([2, 4, 0, 0, 5, 6], 2));

@@ -1,7 +1,8 @@
 //! The tables as the host hands them over: an array of 1172 words of 64
 //! bits, and every call over it. Any words are legal; a field outside its
-//! width, in use or not, makes the tables not sound. A refused call leaves
-//! every word as it was.
+//! width, of a record in use, makes the tables not sound. Words of records
+//! that are not in use are nobody's and stay as they are. A refused call
+//! leaves every word as it was.
 
 use crate::host;
 use crate::message;
@@ -137,11 +138,12 @@ impl Record for File {
     }
 }
 
-/// Reads records from the front of `words`, which moves on behind them.
-fn take_records<T: Record>(records: &mut [T], words: &mut &[u64]) -> Option<()> {
+/// Takes the words of so many records, of which the first `used` are read.
+fn take_records<T: Record>(records: &mut [T], used: usize, words: &mut &[u64]) -> Option<()> {
     let (front, rest) = words.split_at(records.len() * T::FIELDS);
     *words = rest;
-    for (record, fields) in records.iter_mut().zip(front.chunks_exact(T::FIELDS)) {
+    let fields = front.chunks_exact(T::FIELDS);
+    for (record, fields) in records.iter_mut().zip(fields).take(used) {
         *record = T::from_words(fields)?;
     }
     Some(())
@@ -153,11 +155,12 @@ fn take_table<T: Record, const N: usize>(
 ) -> Option<()> {
     // A count that is no `usize` is above every limit.
     table.count = narrow(words[0])?;
+    table.most = table.count;
     *words = &words[1..];
-    take_records(&mut table.records, words)
+    take_records(&mut table.records, table.count, words)
 }
 
-/// The tables in the words; none if a field is outside its width.
+/// The tables in the words; none if a field in use is outside its width.
 pub fn unpack(words: &Words) -> Option<Tables> {
     let mut words = &words[..];
     let mut tables = Tables::empty();
@@ -165,33 +168,36 @@ pub fn unpack(words: &Words) -> Option<Tables> {
     take_table(&mut tables.trees, &mut words)?;
     take_table(&mut tables.opens, &mut words)?;
     take_table(&mut tables.locks, &mut words)?;
-    take_records(&mut tables.files, &mut words)?;
+    take_records(&mut tables.files, FILES, &mut words)?;
     Some(tables)
 }
 
-fn put_records<T: Record>(records: &[T], words: &mut &mut [u64]) {
+/// Puts the first `used` of the records into their words; those behind stay.
+fn put_records<T: Record>(records: &[T], used: usize, words: &mut &mut [u64]) {
     let (front, rest) = std::mem::take(words).split_at_mut(records.len() * T::FIELDS);
-    for (record, fields) in records.iter().zip(front.chunks_exact_mut(T::FIELDS)) {
+    let fields = front.chunks_exact_mut(T::FIELDS);
+    for (record, fields) in records.iter().zip(fields).take(used) {
         record.to_words(fields);
     }
     *words = rest;
 }
 
+/// Puts the records in use, and empty ones over those given up.
 fn put_table<T: Record, const N: usize>(table: &Table<T, N>, words: &mut &mut [u64]) {
     let (count, rest) = std::mem::take(words).split_at_mut(1);
     count[0] = table.count as u64;
     *words = rest;
-    put_records(&table.records, words);
+    put_records(&table.records, table.most, words);
 }
 
-/// Puts the tables into the words.
+/// Puts the tables into the words that they were taken from.
 pub fn pack(tables: &Tables, words: &mut Words) {
     let mut words = &mut words[..];
     put_table(&tables.sessions, &mut words);
     put_table(&tables.trees, &mut words);
     put_table(&tables.opens, &mut words);
     put_table(&tables.locks, &mut words);
-    put_records(&tables.files, &mut words);
+    put_records(&tables.files, FILES, &mut words);
 }
 
 /// Makes a call on the tables in the words and, when it is done, puts them

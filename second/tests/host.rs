@@ -221,34 +221,49 @@ fn words_are_the_tables() {
     assert_eq!(all[33..37], [1, 1, 1, 1]);
     assert_eq!(all[130..137], [1, 1, 1, 1, 70_000, 15, 2]);
     // The last lock and the files are at the end.
+    all[515] = 128;
     all[1151..1156].copy_from_slice(&[0xFFFF, 0xFFFF_FFFF, u64::MAX, u64::MAX, 1]);
     all[1171] = 4096;
     let tables = unpack(&all).unwrap();
     assert_eq!(tables.locks.records[127].range.offset, u64::MAX);
     assert_eq!(tables.files[15].size, 4096);
-    assert!(tables.sound());
-    let mut again = [7; WORDS];
+    // Packed over other words, the records in use and those given up are
+    // written and no other.
+    let mut again = all;
+    again[1..33].fill(7);
+    let mut tables = tables;
+    tables.sessions.most = 3;
     pack(&tables, &mut again);
-    assert_eq!(again, all);
+    assert_eq!(
+        again[..33],
+        [&[1, 1, 0xFFFF_FFFF, 0, 0, 0, 0][..], &[7; 26]].concat()
+    );
+    assert_eq!(again[33..], all[33..]);
 }
 
-/// Every field at its width and past it, in records not in use.
+/// Every field at its width and past it: of a record in use that is "not
+/// sound", of any other it is nothing.
 #[test]
 fn words_have_widths() {
     let tables: [(usize, &[u64]); 4] = [
-        (1, &[0xFFFF, 0xFFFF_FFFF]),
-        (34, &[0xFFFF, 0xFFFF, 0xFF]),
-        (131, &[0xFFFF, 0xFFFF, 0xFFFF, 0xFFFF_FFFF, 0xFF, 0xFF]),
-        (516, &[0xFFFF, 0xFFFF_FFFF, u64::MAX, u64::MAX, 1]),
+        (0, &[0xFFFF, 0xFFFF_FFFF]),
+        (33, &[0xFFFF, 0xFFFF, 0xFF]),
+        (130, &[0xFFFF, 0xFFFF, 0xFFFF, 0xFFFF_FFFF, 0xFF, 0xFF]),
+        (515, &[0xFFFF, 0xFFFF_FFFF, u64::MAX, u64::MAX, 1]),
     ];
-    for (start, widths) in tables {
+    for (count, widths) in tables {
         for (field, &width) in widths.iter().enumerate() {
+            let word = count + 1 + field;
             let mut all = [0; WORDS];
-            all[start + field] = width;
+            all[word] = u64::MAX;
             assert_eq!(words::drop_connection(&mut all, 1), Ok(()));
-            assert_eq!(all[start + field], width);
+            assert_eq!(all[word], u64::MAX);
+            all[count] = 1;
+            all[word] = width;
+            assert!(unpack(&all).is_some());
             if width < u64::MAX {
-                all[start + field] += 1;
+                all[word] += 1;
+                assert!(unpack(&all).is_none());
                 let before = all;
                 let outcome = words::add_session(&mut all, 1);
                 assert_eq!(outcome, Err(CallRefusal::NotSound));

@@ -78,7 +78,8 @@ impl Layout {
     }
 }
 
-/// Fills records that are not in use with anything that fits their widths.
+/// Fills records that are not in use with anything, within their widths or
+/// not: no call looks at them.
 pub fn litter(words: &mut Words, rng: &mut Rng) {
     for layout in &LAYOUTS {
         for record in layout.used(words)..layout.records {
@@ -86,6 +87,7 @@ pub fn litter(words: &mut Words, rng: &mut Rng) {
                 if rng.below(4) != 0 {
                     words[layout.word(record, field)] = match width {
                         U64 => rng.number(),
+                        _ if rng.below(2) == 0 => rng.number(),
                         _ => rng.number() % (width + 1),
                     };
                 }
