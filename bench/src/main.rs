@@ -106,7 +106,7 @@ fn chain_lines(scene: &Scene, length: usize, most: usize, rounds: usize) {
 /// of the second program too.
 fn stack_table(scenes: &[Scene]) {
     let mut stack = Stack::new();
-    println!("Bytes of stack, the most over the three states of the tables. The first line is what the measuring itself uses.");
+    println!("Bytes of stack, the most over all states of the tables. The first line is what the measuring itself uses.");
     println!();
     println!("| call | library | second program |");
     println!("|---|--:|--:|");

@@ -30,7 +30,7 @@ impl Request {
 fn locking(scene: &Scene, unlocks: Vec<Asked>, locks: Vec<Asked>) -> Ask {
     Ask::Locking {
         fid: scene.asker.fid,
-        kind: 0,
+        kind: scene.kind,
         unlocks,
         locks,
     }

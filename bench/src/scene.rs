@@ -25,6 +25,8 @@ pub struct Scene {
     pub asker: Asker,
     /// A lock that the asker holds, if the lock table is full.
     pub to_release: Option<Asked>,
+    /// The lock type (01's bit 0x01) of what is held and asked for.
+    pub kind: u8,
     room: Vec<u8>,
 }
 
@@ -37,6 +39,7 @@ impl Scene {
             memory: vec![0; MEMORY_BYTES],
             asker: Asker::default(),
             to_release: None,
+            kind: 0,
             room: vec![0; 12_292],
         };
         for file in 0..FILES as u8 {
@@ -65,11 +68,11 @@ impl Scene {
         self.asker.fid = add_open(&mut self.words, uid, tid, pid.into(), file, 2).unwrap();
     }
 
-    /// Takes exclusive locks through the asker's open.
+    /// Takes locks of the scene's type through the asker's open.
     fn lock(&mut self, locks: Vec<Asked>) {
         let ask = Ask::Locking {
             fid: self.asker.fid,
-            kind: 0,
+            kind: self.kind,
             unlocks: Vec::new(),
             locks,
         };
@@ -117,9 +120,16 @@ fn typical() -> Scene {
 }
 
 /// Every table full: 16 sessions with two trees each, two opens to a tree,
-/// two locks to an open; four opens and eight locks to a file.
-fn full() -> Scene {
-    let mut scene = Scene::new("full");
+/// two locks to an open. `file` says which file an open is of, `held` which
+/// two locks it takes.
+fn full_of(
+    name: &'static str,
+    kind: u8,
+    file: impl Fn(u32) -> u8,
+    held: impl Fn(u64) -> [Asked; 2],
+) -> Scene {
+    let mut scene = Scene::new(name);
+    scene.kind = kind;
     for open in 0..64 {
         if open % 4 == 0 {
             scene.session(100 + open / 4);
@@ -127,22 +137,43 @@ fn full() -> Scene {
         if open % 2 == 0 {
             scene.tree();
         }
-        scene.open((open % 16) as u8);
-        let first = 2 * u64::from(open);
-        scene.lock(vec![range(first), range(first + 1)]);
+        scene.open(file(open));
+        scene.lock(held(open.into()).to_vec());
     }
-    scene.to_release = Some(range(127));
+    scene.to_release = Some(held(63)[1]);
     scene
 }
 
-pub fn all() -> [Scene; 3] {
-    let scenes = [empty(), typical(), full()];
+/// Four opens and eight locks to a file, in order of place.
+fn full() -> Scene {
+    let held = |open| [range(2 * open), range(2 * open + 1)];
+    full_of("full", 0, |open| (open % 16) as u8, held)
+}
+
+/// Shared locks on one file that all overlap: the natural state of a list
+/// that every terminal reads.
+fn shared() -> Scene {
+    let held = |open| [(PROCESS, 1000 + open, 2000), (PROCESS, 1500 + open, 2000)];
+    full_of("full, 128 shared on one file", 1, |_| 0, held)
+}
+
+/// Exclusive locks on one file, taken in no order of place.
+fn shuffled() -> Scene {
+    // 77 and 128 have no common factor, so each place comes once.
+    let place = |lock| range(lock * 77 % 128);
+    let held = move |open| [place(2 * open), place(2 * open + 1)];
+    full_of("full, 128 shuffled on one file", 0, |_| 0, held)
+}
+
+pub fn all() -> [Scene; 5] {
+    let scenes = [empty(), typical(), full(), shared(), shuffled()];
     let counts = scenes.each_ref().map(|scene| {
         let tables = scene.tables();
         let (sessions, trees) = (tables.sessions.count, tables.trees.count);
         (sessions, trees, tables.opens.count, tables.locks.count)
     });
-    let expected = [(1, 1, 1, 0), (4, 4, 8, 12), (16, 32, 64, 128)];
+    let most = (16, 32, 64, 128);
+    let expected = [(1, 1, 1, 0), (4, 4, 8, 12), most, most, most];
     assert_eq!(counts, expected, "sessions, trees, opens, locks");
     scenes
 }
