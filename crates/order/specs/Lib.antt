@@ -1,0 +1,4 @@
+pub mod Call
+pub mod Demand1
+pub mod Demand3
+pub mod Possible

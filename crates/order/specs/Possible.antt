@@ -1,0 +1,169 @@
+-- Every premise of the page is possible: a plant's tables, a message fit to be answered, a chain whose second command is refused, a lock that is refused and one
+-- that is not, two messages that differ in a free byte and in length. Each is an instance that the checker computes. Assumes nothing.
+use mathlib.Core.Path.{_≡_, refl, sym, ap, _∙_}
+use Prim.Native.Nat.{ℕ, _+_, _-_, _≤_, _<_}
+use native.Mathlib.Omega.{arith}
+use mathlib.Core.Bool.{Bool, true, false}
+use mathlib.Core.List.{List, [], _∷_, _++_, map, List·Memᴰ as In, List·Memᴰ·head as first, List·Memᴰ·tail as later}
+use mathlib.Core.Option.{some}
+use lib.ListN.{length, take, drop, replicate, length-replicate, getD}
+use lib.Seq.{getD-take, getD-drop}
+use Rattle.lists.specs.Walk.{any, all, allTails, found, foundFrom}
+use Rattle.lists.specs.Stored.{stored}
+use Rattle.wire.specs.LittleEndian.{byteAt, le16At, le32At}
+use Rattle.records.specs.declared.Open.{Open}
+use Rattle.records.specs.declared.Tables.{Tables}
+use Rattle.records.specs.Empty.{noSession, noTree, noOpen, noLock, noFile}
+use Rattle.numbers.specs.Number.{contains, numberOk, numbered}
+use Rattle.numbers.specs.Column.{uidOf, tidOf, fidOf}
+use Rattle.locks.specs.Range.{overlaps, passesEnd}
+use Rattle.locks.specs.Wire.{rangeSize, numberAt, rangeFrom, rangeAt, rangesAt}
+use Rattle.locks.specs.Answer.{owns, bars, inWay, named, answersFor, answers}
+use Rattle.locks.specs.Request.{askOf, lockOf, removeAt, afterFind, releaseAll, afterWalk, grantAll, afterGrants, rangePasses, afterReleases, request, settle, locking}
+use Rattle.soundness.specs.File.{fileOf}
+use Rattle.soundness.specs.Lookup.{isTree}
+use Rattle.soundness.specs.Sound.{withinRoom, fileOk, treeOk, permits, holdsOpen, openOk, soundRecords, lockOk, agree, agreeAll, soundLocks, sound}
+use Rattle.chain.specs.Layout.{headerCommand}
+use Rattle.chain.specs.Grammar.{Span, Reading, Sentence}
+use Rattle.chain.specs.Header.{startsSmb, isReply, dropped}
+use Rattle.chain.specs.Parse.{shaped, bare, isLarge, lockingFits, readFits, mayFollow, linkFits, linkAt, answer, wideOffset, parseLocking, parseRead, parse}
+use Rattle.chain.specs.Chain.{before, afterBlock, afterParse, blocksWithin, blocksFrom, blocks}
+use Rattle.message.specs.Caller.{callerOf}
+use Rattle.message.specs.Refusal.{status, statusOf}
+use Rattle.message.specs.Command.{isSession, withSession, withTree, isOpen, openAt, withOpen, servedType, requestOf, withLockList, lockingEnd, lockingAfter, doLocking, askOf as asks, unlessBarred, barring, doRead, perform}
+use Rattle.message.specs.Contents.{sizeOf, contents, readBytes}
+use Rattle.message.specs.Reply.{two, linkWords, replySize, replyBlock, refusedBlock}
+use Rattle.message.specs.Message.{areaOf, dataOf, after, linkTo, afterGiven, run, served, runChain, answered}
+use Rattle.invariants.specs.Sound.{Good}
+use Rattle.invariants.specs.ReaderSound.{spanOf, reader-sound}
+use Rattle.claims.specs.Cases.{message}
+use Rattle.demands.specs.NotServed.{Known, known-locking}
+use Rattle.demands.specs.SentenceCases.{message-60-none}
+use Rattle.demands.specs.Calls.{status-call, length-call}
+use Rattle.order.specs.Call.{Call, gives, Answerable, BeginsKnown, Says}
+
+-- one terminal on connection 5: a session, its tree, one open of file 0 with that access by process 7; and, where `held` is 1, a shared lock of process 9 on the
+-- bytes 105 to 124
+unfoldable pub plant : ℕ → ℕ → Tables
+plant access held =
+    record {
+      sessions = record { uid = 1; connection = 5 } ∷ replicate 15 noSession;
+      nsessions = 1;
+      trees = record { tid = 1; uid = 1; right = 1 } ∷ replicate 31 noTree;
+      ntrees = 1;
+      opens = record { fid = 1; uid = 1; tid = 1; process = 7; file = 0; access = access } ∷ replicate 63 noOpen;
+      nopens = 1;
+      locks = record { fid = 1; process = 9; offset = 105; length = 20; shared = true } ∷ replicate 127 noLock;
+      nlocks = held;
+      files = replicate 16 noFile;
+    }
+
+-- a message of that terminal, with file memory and room as a host lends them
+unfoldable pub asked : List ℕ → Tables → Call
+asked message t = record { connection = 5; message = message; tables = t; memory = replicate 65536 0; room = replicate 12292 0 }
+
+-- ---- the tables are sound and have their room
+
+pub plant-sound : (sound (plant 2 0) ≡ true) × (sound (plant 1 0) ≡ true) × (sound (plant 2 1) ≡ true)
+unfolding sound withinRoom fileOk treeOk permits holdsOpen openOk soundRecords lockOk agree agreeAll soundLocks any all allTails contains numberOk numbered overlaps passesEnd fileOf plant
+plant-sound = (refl, refl, refl)
+
+pub plant-good : Good (plant 2 0)
+unfolding plant
+plant-good = record { sound = plant-sound .0; shaped = record { sessions16 = refl; trees32 = refl; opens64 = refl; locks128 = refl; files16 = refl } }
+
+-- ---- fit to be answered, known, a sentence and not one
+
+answerable : (s : List ℕ) (t : Tables) → sound t ≡ true → dropped s ≡ false → Answerable (asked s t)
+unfolding asked
+answerable s t ok kept =
+    record { room-enough = rw (length-replicate {A = ℕ} 12292 0) (omega arith); memory-whole = length-replicate {A = ℕ} 65536 0; tables-sound = ok; not-dropped = kept }
+
+-- document 01's message, a lock and a read
+kept-61 : dropped (message 61 []) ≡ false
+unfolding dropped startsSmb isReply message
+kept-61 = refl
+
+pub chain-answerable : Answerable (asked (message 61 []) (plant 2 0))
+chain-answerable = answerable (message 61 []) (plant 2 0) (plant-sound .0) kept-61
+
+pub chain-known : BeginsKnown (asked (message 61 []) (plant 2 0))
+unfolding asked message
+chain-known = known-locking
+
+-- its reading: LOCKING at 32, 29 bytes, and READ at 61, 23 bytes
+unfoldable pub chainSpans : List Span
+chainSpans = record { command = 0x24; place = 32; size = 29 } ∷ record { command = 0x2E; place = 61; size = 23 } ∷ []
+
+pub chain-reading : Reading (message 61 []) chainSpans
+unfolding chainSpans message blocks blocksFrom blocksWithin afterParse afterBlock before parse parseLocking parseRead answer lockingFits readFits linkFits linkAt mayFollow shaped bare isLarge le16At le32At wideOffset rangeSize spanOf
+chain-reading = reader-sound (message 61 []) _ refl
+
+-- with AndXOffset 60 it is fit to be answered and known too, and no sentence
+kept-60 : dropped (message 60 []) ≡ false
+unfolding dropped startsSmb isReply message
+kept-60 = refl
+
+pub no-chain : Answerable (asked (message 60 []) (plant 2 0)) × BeginsKnown (asked (message 60 []) (plant 2 0)) × (Sentence (message 60 []) → ⊥)
+unfolding asked message
+no-chain = (answerable (message 60 []) (plant 2 0) (plant-sound .0) kept-60, known-locking, message-60-none)
+
+-- ---- carried out, refused at its second command, refused for conflict
+
+answer-to : List ℕ → Tables → ℕ → ℕ → ℕ → Type 0
+answer-to s t class code size =
+    (answered 5 s t (replicate 65536 0) .status ≡ status class code) × (length (answered 5 s t (replicate 65536 0) .blocks) ≡ size)
+
+-- on an open for both LOCKING and READ are done; on one for writing READ is refused (1/5) behind LOCKING's block; beside the shared lock LOCKING is (1/33)
+answers-given : answer-to (message 61 []) (plant 2 0) 0 0 34 × answer-to (message 61 []) (plant 1 0) 1 5 10 × answer-to (message 61 []) (plant 2 1) 1 33 3
+unfolding asked message blocks blocksFrom blocksWithin afterParse afterBlock before parse parseLocking parseRead answer lockingFits readFits linkFits linkAt mayFollow shaped bare isLarge le16At le32At wideOffset rangeSize answered served runChain run afterGiven after perform doLocking withOpen withTree withSession isSession isTree isOpen openAt found foundFrom any servedType requestOf lockingAfter lockingEnd withLockList locking rangesAt rangeFrom rangeAt numberAt request afterReleases afterGrants grantAll afterWalk releaseAll afterFind removeAt rangePasses passesEnd askOf lockOf answers answersFor inWay bars named owns overlaps settle stored doRead unlessBarred barring asks fileOf callerOf areaOf dataOf status statusOf plant answer-to readBytes contents sizeOf replySize replyBlock refusedBlock linkTo linkWords two
+answers-given = ((refl, refl), (refl, refl), (refl, refl))
+
+call-says : (t : Tables) (ok : sound t ≡ true) (class code size : ℕ) → answer-to (message 61 []) t class code size
+    → Says (asked (message 61 []) t) class code × (gives (asked (message 61 []) t) .length ≡ 32 + size)
+unfolding asked answer-to
+call-says t ok class code size h =
+    let fit = answerable (message 61 []) t ok kept-61 in (
+      status-call 5 (message 61 []) t (replicate 65536 0) (replicate 12292 0) fit ∙ h .0,
+      length-call 5 (message 61 []) t (replicate 65536 0) (replicate 12292 0) fit ∙ ap (λ (n : ℕ). 32 + n) (h .1),
+    )
+
+pub chain-done : Says (asked (message 61 []) (plant 2 0)) 0 0 × (gives (asked (message 61 []) (plant 2 0)) .length ≡ 66)
+chain-done = call-says (plant 2 0) (plant-sound .0) 0 0 34 (answers-given .0)
+
+pub second-refused : Says (asked (message 61 []) (plant 1 0)) 1 5 × (gives (asked (message 61 []) (plant 1 0)) .length ≡ 42)
+second-refused = call-says (plant 1 0) (plant-sound .1) 1 5 10 (answers-given .1)
+
+pub lock-refused : Says (asked (message 61 []) (plant 2 1)) 1 33 × (gives (asked (message 61 []) (plant 2 1)) .length ≡ 35)
+lock-refused = call-says (plant 2 1) (plant-sound .2) 1 33 3 (answers-given .2)
+
+-- ---- two messages that differ in a free byte and in length
+
+unfoldable pub oneFree : List ℕ
+oneFree = message 62 (0 ∷ [])
+
+unfoldable pub otherFree : List ℕ
+otherFree = message 62 (7 ∷ []) ++ (9 ∷ 9 ∷ [])
+
+unfoldable pub freeSpans : List Span
+freeSpans = record { command = 0x24; place = 32; size = 29 } ∷ record { command = 0x2E; place = 62; size = 23 } ∷ []
+
+pub free-differ : (length oneFree ≡ 85) × (length otherFree ≡ 87) × (byteAt oneFree 61 ≡ 0) × (byteAt otherFree 61 ≡ 7) × (take 32 otherFree ≡ take 32 oneFree)
+unfolding oneFree otherFree message
+free-differ = (refl, refl, refl, refl, refl)
+
+pub free-reading : Reading oneFree freeSpans
+unfolding oneFree freeSpans message blocks blocksFrom blocksWithin afterParse afterBlock before parse parseLocking parseRead answer lockingFits readFits linkFits linkAt mayFollow shaped bare isLarge le16At le32At wideOffset rangeSize spanOf
+free-reading = reader-sound oneFree _ refl
+
+-- bytes of a part that is the same
+part-bytes : (s t : List ℕ) (from size : ℕ) → take size (drop from t) ≡ take size (drop from s) → (k : ℕ) → from ≤ k → k < from + size → byteAt t k ≡ byteAt s k
+part-bytes s t from size e k low high =
+    let d : k ≡ from + (k - from) = omega arith in
+    rw d (sym (getD-drop from t (k - from) 0) ∙ sym (getD-take size (drop from t) (k - from) 0 (omega arith)) ∙ ap (λ (l : List ℕ). getD l (k - from) 0) e
+    ∙ getD-take size (drop from s) (k - from) 0 (omega arith) ∙ getD-drop from s (k - from) 0)
+
+pub free-stand : (x : Span) → In x freeSpans → (k : ℕ) → x .place ≤ k → k < x .place + x .size → byteAt otherFree k ≡ byteAt oneFree k
+unfolding freeSpans oneFree otherFree message
+free-stand x (first e) = rw e (part-bytes oneFree otherFree 32 29 refl)
+free-stand x (later (first e)) = rw e (part-bytes oneFree otherFree 62 23 refl)
