@@ -27,4 +27,6 @@ pub mod LockLeaves
 pub mod DoneCall
 pub mod ReplyBytes
 pub mod CallEffects
+pub mod WireFields
+pub mod Effects
 pub mod Ready
