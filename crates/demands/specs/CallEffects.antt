@@ -76,7 +76,7 @@ unfolding blockAt
 one-counted (chained-end h l) f same = data-counted h _ f same
 
 -- what the command of a known body gives
-gives-body : (c : Caller) (s : List ℕ) (b : Block) (t : Tables) (memory : List ℕ) (body : Body) {g : Given} → b .body ≡ body → gives c s b t memory ≡ g
+pub gives-body : (c : Caller) (s : List ℕ) (b : Block) (t : Tables) (memory : List ℕ) (body : Body) {g : Given} → b .body ≡ body → gives c s b t memory ≡ g
     → perform c t memory body (areaOf s b) (dataOf s b) ≡ g
 gives-body c s b t memory body is e = rw (← is) e
 

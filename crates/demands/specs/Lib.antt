@@ -29,4 +29,5 @@ pub mod ReplyBytes
 pub mod CallEffects
 pub mod WireFields
 pub mod Effects
+pub mod LockEffects
 pub mod Ready
