@@ -30,4 +30,6 @@ pub mod CallEffects
 pub mod WireFields
 pub mod Effects
 pub mod LockEffects
+pub mod FirstReadings
+pub mod SpansOneByOne
 pub mod Ready
