@@ -32,4 +32,5 @@ pub mod Effects
 pub mod LockEffects
 pub mod FirstReadings
 pub mod SpansOneByOne
+pub mod SpansRefused
 pub mod Ready
