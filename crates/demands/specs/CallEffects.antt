@@ -76,7 +76,7 @@ unfolding blockAt
 one-counted (chained-end h l) f same = data-counted h _ f same
 
 -- what the command of a known body gives
-gives-body : (c : Caller) (s : List ℕ) (b : Block) (t : Tables) (memory : List ℕ) (body : Body) {g : Given} → b .body ≡ body → gives c s b t memory ≡ g
+pub gives-body : (c : Caller) (s : List ℕ) (b : Block) (t : Tables) (memory : List ℕ) (body : Body) {g : Given} → b .body ≡ body → gives c s b t memory ≡ g
     → perform c t memory body (areaOf s b) (dataOf s b) ≡ g
 gives-body c s b t memory body is e = rw (← is) e
 
@@ -88,29 +88,29 @@ removed P {after} {u} {memory} {m} p e = let a : after ≡ u = cc in let b : m �
 
 module _ (connection : ℕ) (s : List ℕ) (b : Block) (e : blocks s ≡ some (b ∷ [])) (t : Tables) (memory room : List ℕ) (g : Good t) (fit : Fit s t memory room)
     (z : statusRead (take-message connection s t memory room .room) ≡ status 0 0) where
-  abbrev caller : Caller
+  abbrev pub caller : Caller
   caller = callerOf connection s
 
-  abbrev call : Taken
+  abbrev pub call : Taken
   call = take-message connection s t memory room
 
   long : 32 ≤ length s
   long = long-enough s (fit .not-dropped)
 
-  the-command : Carried caller s b t memory room call
+  pub the-command : Carried caller s b t memory room call
   the-command = carried connection s b e t memory room fit z
 
   -- ---- WRITE
 
-  counted : (f : WriteFields) → b .body ≡ WriteBody f → length (dataOf s b) ≡ f .count
+  pub counted : (f : WriteFields) → b .body ≡ WriteBody f → length (dataOf s b) ≡ f .count
   unfolding blocks
   counted f is = one-counted (read-chained s (headerCommand s) FIRST (b ∷ []) e) f is
 
-  write-given : (f : WriteFields) → b .body ≡ WriteBody f → doWrite caller t memory f (dataOf s b) ≡ done (call .tables) (call .memory) (the-command .said)
+  pub write-given : (f : WriteFields) → b .body ≡ WriteBody f → doWrite caller t memory f (dataOf s b) ≡ done (call .tables) (call .memory) (the-command .said)
   unfolding perform
   write-given f is = gives-body caller s b t memory (WriteBody f) is (the-command .given)
 
-  write-open : (f : WriteFields) → b .body ≡ WriteBody f → (o : Open) × Admitted caller t (f .fid) o
+  pub write-open : (f : WriteFields) → b .body ≡ WriteBody f → (o : Open) × Admitted caller t (f .fid) o
   unfolding doWrite
   write-open f is = let o = past-open caller t (f .fid) _ (write-given f is) in (o .0, o .1)
 

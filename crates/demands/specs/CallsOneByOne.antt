@@ -144,12 +144,12 @@ zero-code class code h =
     (hold-both (eqb (code % 256) 0) (eqb (code / 256 % 256) 0) (eq-eqb (code % 256) 0 (omega arith)) (eq-eqb (code / 256 % 256) 0 (omega arith)))))
 
 -- "Status stands in the header"
-status-read : (message : List ℕ) (r : Ran) → r .status .code < 65536 → statusZero (replyOf message r) ≡ succeeded (r .status)
+pub status-read : (message : List ℕ) (r : Ran) → r .status .code < 65536 → statusZero (replyOf message r) ≡ succeeded (r .status)
 unfolding statusZero replyOf replyHeader two succeeded
 status-read message r h = zero-code (r .status .class) (r .status .code) h
 
 -- the reply stands in the room
-reply-read : (message room : List ℕ) (r : Ran) → replyIn (replied message room r) ≡ replyOf message r
+pub reply-read : (message room : List ℕ) (r : Ran) → replyIn (replied message room r) ≡ replyOf message r
 unfolding replyIn replied put
 reply-read message room r = take-append-seam (replyOf message r) _
 

@@ -27,4 +27,10 @@ pub mod LockLeaves
 pub mod DoneCall
 pub mod ReplyBytes
 pub mod CallEffects
+pub mod WireFields
+pub mod Effects
+pub mod LockEffects
+pub mod FirstReadings
+pub mod SpansOneByOne
+pub mod SpansRefused
 pub mod Ready

@@ -266,14 +266,14 @@ abbrev pub lockingArea : List ℕ → List ℕ
 lockingArea s = take (byteCount s FIRST) (drop (byteArea s FIRST) s)
 
 -- the first block of a reading
-record First (s : List ℕ) (command at : ℕ) (all : List Block) : Type 0 where
-  block : Block
-  later : List Block
-  is-first : all ≡ block ∷ later
-  stands : block .at ≡ at
-  holds : block .body ≡ bodyAt s command at
+pub record First (s : List ℕ) (command at : ℕ) (all : List Block) : Type 0 where
+  pub block : Block
+  pub later : List Block
+  pub is-first : all ≡ block ∷ later
+  pub stands : block .at ≡ at
+  pub holds : block .body ≡ bodyAt s command at
 
-first-block : {s : List ℕ} {command at : ℕ} {all : List Block} → Chained s command at all → First s command at all
+pub first-block : {s : List ℕ} {command at : ℕ} {all : List Block} → Chained s command at all → First s command at all
 unfolding blockAt
 first-block {s} (chained-end {command} {at} h l) = record { block = blockAt s command at End; later = []; is-first = refl; stands = refl; holds = refl }
 first-block {s} (chained-more {command} {at} {c} {a} {rest} h l r) =

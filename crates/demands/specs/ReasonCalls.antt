@@ -65,7 +65,7 @@ given-status (refused why) place t memory rest h = refl
 given-status (done u m said) place t memory rest h = h _ u m
 
 -- its one block is one of the grammar
-one-announced : {s : List ℕ} {command at : ℕ} {b : Block} → Chained s command at (b ∷ []) → Announced (b .body) (areaOf s b)
+pub one-announced : {s : List ℕ} {command at : ℕ} {b : Block} → Chained s command at (b ∷ []) → Announced (b .body) (areaOf s b)
 unfolding blockAt
 one-announced (chained-end h l) = block-announced h _ (length-area h _)
 

@@ -9,3 +9,4 @@ pub mod FreeBytes
 pub mod MovedBytes
 pub mod Alone
 pub mod ListingFits
+pub mod ListingExact

@@ -1,0 +1,282 @@
+-- A refusal in a chain, over the blocks of a reading and their messages sent one by one (document 01, "Refusals on the wire"): "A command refused changes no table
+-- and no file byte, its own unlocks included. Commands before it in the chain stand; those after it aren't begun." Assumes nothing.
+use mathlib.Core.Path.{_≡_, refl, sym, ap, _∙_}
+use mathlib.Core.Logic.{inl, inr}
+use Prim.Native.Nat.{ℕ, _≤_}
+use native.Mathlib.Omega.{arith}
+use mathlib.Core.Bool.{true, false}
+use mathlib.Core.List.{List, [], _∷_, _++_, map}
+use mathlib.Core.Option.{some}
+use lib.ListN.{length}
+use Rattle.lists.specs.Truth.{decided, not-decided-twice}
+use Rattle.records.specs.declared.Tables.{Tables}
+use Rattle.chain.specs.Layout.{headerCommand, FIRST, blockEnd}
+use Rattle.chain.specs.Grammar.{IsBlock, Span, Reading}
+use Rattle.chain.specs.Chain.{blocks}
+use Rattle.chain.specs.declared.block.Block.{Block}
+use Rattle.chain.specs.declared.block.Next.{Next}
+use Rattle.chain.specs.declared.block.Next.the-variants.{End, Follow}
+use Rattle.invariants.specs.BlockParse.{blockAt, block-inside, behind}
+use Rattle.invariants.specs.ReaderSound.{spanOf}
+use Rattle.invariants.specs.Chained.{Chained, chained-end, chained-more, read-chained}
+use Rattle.invariants.specs.Sound.{Good}
+use Rattle.invariants.specs.Fit.{Fit, fit-answered}
+use Rattle.readings.specs.Moved.{Moved}
+use Rattle.readings.specs.Alone.{movedAlone, alone-blocks}
+use Rattle.readings.specs.ReaderComplete.{reader-complete}
+use Rattle.message.specs.Refusal.{status}
+use Rattle.message.specs.declared.refusal.Status.{Status}
+use Rattle.message.specs.Message.{Ran, answered, Taken, replied, take-message}
+use Rattle.demands.specs.Alone.{alone, alone-command, alone-moved, alone-ends}
+use Rattle.demands.specs.OneByOne.{Sent, succeeded, replyThen, sendOn, sendAll, compared, one-by-one}
+use Rattle.demands.specs.Taken.{not-long, AllFit, none-left, next-fits, all-fit}
+use Rattle.demands.specs.CallsOneByOne.{Calls, lastCall, callThen, carriedOut, replyIn, statusZero, status-read, reply-read, answered-small}
+use Rattle.demands.specs.Calls.{statusRead, status-call}
+use Rattle.demands.specs.RefusedCall.{Untouched, alone-refused}
+use Rattle.demands.specs.SpansOneByOne.{aloneSpan, alone-span, callSpanOn, callSpans}
+
+-- ---- the plain words
+
+module _ (connection : ℕ) (s small : List ℕ) where
+  -- what the message of a block gives, and what the messages of some give one by one
+  abbrev pub sent : Span → Tables → List ℕ → Taken
+  sent b t memory = take-message connection (aloneSpan s b) t memory small
+
+  abbrev pub calls : List Span → Tables → List ℕ → Calls
+  calls bs t memory = callSpans connection s small bs t memory
+
+  -- each is carried out (number 0 and Status 0) on what the last one left
+  pub data AllCarried : List Span → Tables → List ℕ → Type 0 where
+    none-sent : {t : Tables} {memory : List ℕ} → AllCarried [] t memory
+    carried-then : {b : Span} {bs : List Span} {t : Tables} {memory : List ℕ} → carriedOut (sent b t memory) ≡ true
+        → AllCarried bs (sent b t memory .tables) (sent b t memory .memory) → AllCarried (b ∷ bs) t memory
+
+  -- how a chain of these blocks was refused with status n, and which tables and file memory it left
+  pub record RefusedAt (spans : List Span) (t : Tables) (memory : List ℕ) (n : Status) (tables : Tables) (left : List ℕ) : Type 0 where
+    -- the blocks: those before the one refused, this one, those after it
+    pub front : List Span
+    pub command : Span
+    pub later : List Span
+    pub split : spans ≡ front ++ (command ∷ later)
+    -- "Commands before it in the chain stand": each was carried out, and what they left is left
+    pub front-carried : AllCarried front t memory
+    pub tables-left : tables ≡ calls front t memory .tables
+    pub memory-left : left ≡ calls front t memory .memory
+    -- its message, sent on these, is answered with the chain's Status
+    pub number-so : sent command (calls front t memory .tables) (calls front t memory .memory) .number ≡ 0
+    pub status-so : statusRead (sent command (calls front t memory .tables) (calls front t memory .memory) .room) ≡ n
+    -- "A command refused changes no table and no file byte"
+    pub untouched : Untouched (calls front t memory .tables) (calls front t memory .memory) (sent command (calls front t memory .tables) (calls front t memory .memory))
+    -- "those after it aren't begun": the messages sent are those up to it
+    pub not-begun : calls spans t memory ≡ calls (front ++ (command ∷ [])) t memory
+
+-- ---- every block's message is read as one block
+
+data AllLone (s : List ℕ) : List Block → Type 0 where
+  lone-none : AllLone s []
+  lone-then : {b d : Block} {bs : List Block} → blocks (alone s b) ≡ some (d ∷ []) → AllLone s bs → AllLone s (b ∷ bs)
+
+lone-block : {s : List ℕ} {command at : ℕ} (nx : Next) → IsBlock s at command → 32 ≤ at → length s ≤ 8192
+    → blocks (alone s (blockAt s command at nx)) ≡ some (movedAlone s command at FIRST ∷ [])
+unfolding blockAt
+lone-block {s} {command} {at} nx h from small =
+    let i : blockEnd s at ≤ length s = block-inside h in
+    let m : Moved s at (alone s (blockAt s command at nx)) FIRST command = alone-moved (blockAt s command at nx) h refl from small in
+    alone-blocks (alone s (blockAt s command at nx)) h m (alone-command s (blockAt s command at nx) (omega arith)) (alone-ends (blockAt s command at nx) h refl from)
+
+all-lone : {s : List ℕ} {command at : ℕ} {bs : List Block} → Chained s command at bs → 32 ≤ at → length s ≤ 8192 → AllLone s bs
+all-lone (chained-end h l) from small = lone-then (lone-block End h from small) lone-none
+all-lone {s} (chained-more {command} {at} {c} {a} h l r) from small =
+    let g : blockEnd s at ≤ a = behind c a l refl in
+    let i : 32 ≤ a = omega arith in
+    lone-then (lone-block (Follow c a) h from small) (all-lone r i small)
+
+-- ---- a message that is carried out, and the calls
+
+module _ (connection : ℕ) (s small : List ℕ) where
+  -- the messages of the blocks behind it get what it left
+  carried-calls : (b : Span) (bs : List Span) (t : Tables) (memory : List ℕ) → carriedOut (sent connection s small b t memory) ≡ true
+      → (calls connection s small (b ∷ bs) t memory .tables
+      ≡ calls connection s small bs (sent connection s small b t memory .tables) (sent connection s small b t memory .memory) .tables)
+      × (calls connection s small (b ∷ bs) t memory .memory
+      ≡ calls connection s small bs (sent connection s small b t memory .tables) (sent connection s small b t memory .memory) .memory)
+  unfolding callSpans callSpanOn lastCall callThen
+  carried-calls b [] t memory e = (refl, refl)
+  carried-calls b (d ∷ bs) t memory e = rw e (refl, refl)
+
+  -- with some behind it, the calls are its own and theirs
+  carried-more : (b : Span) (front : List Span) (d : Span) (later : List Span) (t : Tables) (memory : List ℕ) → carriedOut (sent connection s small b t memory) ≡ true
+      → calls connection s small (b ∷ (front ++ (d ∷ later))) t memory
+      ≡ callThen (replyIn (sent connection s small b t memory))
+      (calls connection s small (front ++ (d ∷ later)) (sent connection s small b t memory .tables) (sent connection s small b t memory .memory))
+  unfolding callSpans callSpanOn
+  carried-more b [] d later t memory e = rw e
+  carried-more b (x ∷ front) d later t memory e = rw e
+
+  -- one that is not carried out is the last
+  refused-last : (b : Span) (bs : List Span) (t : Tables) (memory : List ℕ) → carriedOut (sent connection s small b t memory) ≡ false
+      → calls connection s small (b ∷ bs) t memory ≡ calls connection s small (b ∷ []) t memory
+  unfolding callSpans callSpanOn
+  refused-last b [] t memory e = refl
+  refused-last b (d ∷ bs) t memory e = rw e
+
+  -- a refusal behind a message that is carried out
+  refused-later : (b : Span) (bs : List Span) (t : Tables) (memory : List ℕ) (n : Status) (tables : Tables) (left : List ℕ)
+      → carriedOut (sent connection s small b t memory) ≡ true
+      → RefusedAt connection s small bs (sent connection s small b t memory .tables) (sent connection s small b t memory .memory) n tables left
+      → RefusedAt connection s small (b ∷ bs) t memory n tables left
+  refused-later b bs t memory n tables left e q =
+      let k = carried-calls b (q .front) t memory e in
+      record {
+        front = b ∷ q .front;
+        command = q .command;
+        later = q .later;
+        split = ap (λ (l : List Span). b ∷ l) (q .split);
+        front-carried = carried-then e (q .front-carried);
+        tables-left = q .tables-left ∙ sym (k .0);
+        memory-left = q .memory-left ∙ sym (k .1);
+        number-so = rw (k .0, k .1) (q .number-so);
+        status-so = rw (k .0, k .1) (q .status-so);
+        untouched = rw (k .0, k .1) (q .untouched);
+        not-begun =
+            ap (λ (l : List Span). calls connection s small (b ∷ l) t memory) (q .split)
+            ∙ carried-more b (q .front) (q .command) (q .later) t memory e
+            ∙ ap (callThen (replyIn (sent connection s small b t memory)))
+            (ap (λ (l : List Span). calls connection s small l (sent connection s small b t memory .tables) (sent connection s small b t memory .memory)) (sym (q .split)) ∙ q .not-begun)
+            ∙ sym (carried-more b (q .front) (q .command) [] t memory e);
+      }
+
+  -- ---- the message of one of the reader's blocks, fit to be answered
+
+  module _ (b : Block) (t : Tables) (memory : List ℕ) (fits : Fit (alone s b) t memory small) where
+    abbrev ran : Ran
+    ran = answered connection (alone s b) t memory
+
+    abbrev taken : Taken
+    taken = sent connection s small (spanOf b) t memory
+
+    taken-alone : taken ≡ take-message connection (alone s b) t memory small
+    taken-alone = ap (λ (l : List ℕ). take-message connection l t memory small) (sym (alone-span s b))
+
+    taken-is : taken ≡ replied (alone s b) small ran
+    taken-is = taken-alone ∙ fit-answered connection (alone s b) t memory small fits
+
+    carried-is : carriedOut taken ≡ succeeded (ran .status)
+    unfolding carriedOut replied
+    carried-is =
+        ap carriedOut taken-is
+        ∙ ap statusZero (reply-read (alone s b) small ran)
+        ∙ status-read (alone s b) ran (answered-small connection (alone s b) t memory)
+
+    tables-is : taken .tables ≡ ran .tables
+    unfolding replied
+    tables-is = ap (λ (x : Taken). x .tables) taken-is
+
+    memory-is : taken .memory ≡ ran .memory
+    unfolding replied
+    memory-is = ap (λ (x : Taken). x .memory) taken-is
+
+    number-is : taken .number ≡ 0
+    unfolding replied
+    number-is = ap (λ (x : Taken). x .number) taken-is
+
+    status-is : statusRead (taken .room) ≡ ran .status
+    status-is = ap (λ (x : Taken). statusRead (x .room)) taken-alone ∙ status-call connection (alone s b) t memory small fits
+
+    not-zero : succeeded (ran .status) ≡ false → ran .status ≡ status 0 0 → ⊥
+    unfolding succeeded status
+    not-zero e z = not-decided-twice (succeeded (ran .status)) (ap succeeded z) e
+
+    -- refused, it changes nothing
+    refused-same : (d : Block) → blocks (alone s b) ≡ some (d ∷ []) → succeeded (ran .status) ≡ false → Untouched t memory taken
+    refused-same d one e =
+        rw taken-alone (alone-refused connection (alone s b) t memory small fits d one (λ z. not-zero e (sym (status-call connection (alone s b) t memory small fits) ∙ z)))
+
+    -- and is the one refused
+    refused-here : (d : Block) → blocks (alone s b) ≡ some (d ∷ []) → succeeded (ran .status) ≡ false → (bs : List Span)
+        → RefusedAt connection s small (spanOf b ∷ bs) t memory (ran .status) (ran .tables) (ran .memory)
+    unfolding callSpans
+    refused-here d one e bs =
+        let u = refused-same d one e in
+        record {
+          front = [];
+          command = spanOf b;
+          later = bs;
+          split = refl;
+          front-carried = none-sent;
+          tables-left = sym tables-is ∙ u .same-tables;
+          memory-left = sym memory-is ∙ u .same-memory;
+          number-so = number-is;
+          status-so = status-is;
+          untouched = u;
+          not-begun = refused-last (spanOf b) bs t memory (carried-is ∙ e);
+        }
+
+  -- ---- all of them
+
+  send-none : (t : Tables) (memory : List ℕ) → sendAll connection s [] t memory .status ≡ status 0 0
+  unfolding sendAll
+  send-none t memory = refl
+
+  module _ (b : Block) (bs : List Block) (t : Tables) (memory : List ℕ) where
+    abbrev gave : Ran
+    gave = answered connection (alone s b) t memory
+
+    abbrev whole : Sent
+    whole = sendAll connection s (b ∷ bs) t memory
+
+    -- what the messages leave is what those behind one carried out leave, or what the one refused does
+    send-on : succeeded (gave .status) ≡ true
+        → (whole .status ≡ sendAll connection s bs (gave .tables) (gave .memory) .status) × (whole .tables ≡ sendAll connection s bs (gave .tables) (gave .memory) .tables)
+        × (whole .memory ≡ sendAll connection s bs (gave .tables) (gave .memory) .memory)
+    unfolding sendAll sendOn replyThen
+    send-on e = rw e (refl, refl, refl)
+
+    send-off : succeeded (gave .status) ≡ false → (whole .status ≡ gave .status) × (whole .tables ≡ gave .tables) × (whole .memory ≡ gave .memory)
+    unfolding sendAll sendOn
+    send-off e = rw e (refl, refl, refl)
+
+    -- so one of them is the one refused
+    stopped-by : Fit (alone s b) t memory small → (d : Block) → blocks (alone s b) ≡ some (d ∷ []) → (whole .status ≡ status 0 0 → ⊥)
+        → ((sendAll connection s bs (gave .tables) (gave .memory) .status ≡ status 0 0 → ⊥)
+        → RefusedAt connection s small (map spanOf bs) (gave .tables) (gave .memory) (sendAll connection s bs (gave .tables) (gave .memory) .status)
+        (sendAll connection s bs (gave .tables) (gave .memory) .tables) (sendAll connection s bs (gave .tables) (gave .memory) .memory))
+        → RefusedAt connection s small (spanOf b ∷ map spanOf bs) t memory (whole .status) (whole .tables) (whole .memory)
+    stopped-by fits d one n later =
+        elim (decided (succeeded (gave .status))) [
+          | inl e ↦
+              let k = send-on e in
+              rw (k .0, k .1, k .2)
+              (refused-later (spanOf b) (map spanOf bs) t memory _ _ _ (carried-is b t memory fits ∙ e)
+              (rw (tables-is b t memory fits, memory-is b t memory fits) (later (λ z. n (k .0 ∙ z)))))
+          | inr e ↦ let k = send-off e in rw (k .0, k .1, k .2) (refused-here b t memory fits d one e (map spanOf bs))
+        ]
+
+  stopped : {bs : List Block} {t : Tables} {memory : List ℕ} → 12292 ≤ length small → AllFit connection s bs t memory → AllLone s bs
+      → (sendAll connection s bs t memory .status ≡ status 0 0 → ⊥)
+      → RefusedAt connection s small (map spanOf bs) t memory (sendAll connection s bs t memory .status) (sendAll connection s bs t memory .tables) (sendAll connection s bs t memory .memory)
+  stopped {t = t} {memory = memory} enough none-left lone-none n = absurd (n (send-none t memory))
+  stopped {t = t} {memory = memory} enough (next-fits {b} {bs} fit more) (lone-then {d = d} one rest) n =
+      stopped-by b bs t memory (fit small enough) d one n (λ z. stopped enough more rest z)
+
+-- "A command refused changes no table and no file byte, its own unlocks included. Commands before it in the chain stand; those after it aren't begun": of any
+-- reading of a message fit to be answered whose reply's Status is not 0/0
+pub spans-refused : (connection : ℕ) (s : List ℕ) {spans : List Span} → Reading s spans → (t : Tables) (memory room small : List ℕ) → Good t → Fit s t memory room
+    → length small ≡ 12292 → (statusRead (take-message connection s t memory room .room) ≡ status 0 0 → ⊥)
+    → RefusedAt connection s small spans t memory (statusRead (take-message connection s t memory room .room)) (take-message connection s t memory room .tables)
+    (take-message connection s t memory room .memory)
+unfolding replied compared blocks
+spans-refused connection s r t memory room small g fit n nonzero =
+    let a = reader-complete r in
+    let short : length s ≤ 8192 = not-long s (fit .not-dropped) in
+    let same = one-by-one connection s (a .0) (a .1) short t memory in
+    let one = fit-answered connection s t memory room fit in
+    let status-same : statusRead (take-message connection s t memory room .room) ≡ sendAll connection s (a .0) t memory .status =
+    status-call connection s t memory room fit ∙ ap (λ (x : Ran). x .status) same in
+    let tables-same : take-message connection s t memory room .tables ≡ sendAll connection s (a .0) t memory .tables =
+    ap (λ (x : Taken). x .tables) one ∙ ap (λ (x : Ran). x .tables) same in
+    let memory-same : take-message connection s t memory room .memory ≡ sendAll connection s (a .0) t memory .memory =
+    ap (λ (x : Taken). x .memory) one ∙ ap (λ (x : Ran). x .memory) same in
+    let q = stopped connection s small (omega arith) (all-fit connection s (a .0) (a .1) (fit .not-dropped) t memory g (fit .memory-whole))
+    (all-lone (read-chained s (headerCommand s) FIRST (a .0) (a .1)) (omega arith) short) (λ z. nonzero (status-same ∙ z)) in
+    rw (status-same, tables-same, memory-same) (rw (a .2) at q)

@@ -1,0 +1,85 @@
+-- The fields of a message's first block, which stands at 32, where the layout has them, and the step from a reading to the reader's block with these
+-- fields. Assumes nothing.
+use mathlib.Core.Path.{_≡_, refl, ap, _∙_}
+use Prim.Native.Nat.{ℕ, _+_, _*_}
+use native.Mathlib.Omega.{arith}
+use mathlib.Core.Bool.{cond}
+use mathlib.Core.List.{List, [], _∷_, map}
+use mathlib.Core.Option.{some}
+use lib.ListN.{take, drop}
+use lib.Dec.{eqb}
+use Rattle.chain.specs.Layout.{headerCommand, FIRST, wordCount, byteArea, byteCount, fidAfterAndx, offsetLow, readMax, readOffsetHigh, dataLength, dataOffset, writeOffsetHigh}
+use Rattle.chain.specs.Grammar.{Span, Reading}
+use Rattle.chain.specs.Chain.{blocks}
+use Rattle.chain.specs.declared.block.ReadFields.{ReadFields}
+use Rattle.chain.specs.declared.block.WriteFields.{WriteFields}
+use Rattle.chain.specs.declared.block.Block.{Block}
+use Rattle.invariants.specs.BlockParse.{bodyAt}
+use Rattle.invariants.specs.ReaderSound.{spanOf}
+use Rattle.invariants.specs.Chained.{read-chained}
+use Rattle.readings.specs.ReaderComplete.{reader-complete}
+use Rattle.message.specs.Message.{areaOf, dataOf}
+use Rattle.demands.specs.LoneCall.{First, first-block, lockingArea}
+
+-- READ: "FID 2, offset 4, max 2, .., offset high 4 if 12 words"
+abbrev pub readFrom : List ℕ → ℕ
+readFrom s = cond (eqb (wordCount s FIRST) 12) (4294967296 * readOffsetHigh s FIRST + offsetLow s FIRST) (offsetLow s FIRST)
+
+abbrev pub readFields : List ℕ → ReadFields
+readFields s = record { fid = fidAfterAndx s FIRST; offset = readFrom s; max = readMax s FIRST }
+
+-- WRITE: "FID 2, offset 4, .., length 2, data offset 2, offset high 4 if 14"
+abbrev pub writeFrom : List ℕ → ℕ
+writeFrom s = cond (eqb (wordCount s FIRST) 14) (4294967296 * writeOffsetHigh s FIRST + offsetLow s FIRST) (offsetLow s FIRST)
+
+abbrev pub writeFields : List ℕ → WriteFields
+writeFields s = record { fid = fidAfterAndx s FIRST; offset = writeFrom s; count = dataLength s FIRST; from = dataOffset s FIRST }
+
+-- the DataLength bytes of the message from DataOffset on
+abbrev pub writeData : List ℕ → List ℕ
+writeData s = take (dataLength s FIRST) (drop (dataOffset s FIRST) s)
+
+-- ---- the reader's first block
+
+pub record FirstBlock (s : List ℕ) (later : List Block) : Type 0 where
+  pub block : Block
+  pub is-read : blocks s ≡ some (block ∷ later)
+  pub stands : block .at ≡ FIRST
+  pub holds : block .body ≡ bodyAt s (headerCommand s) FIRST
+
+-- of any reading
+pub reading-first : {s : List ℕ} {spans : List Span} → Reading s spans → (later : List Block) × FirstBlock s later
+unfolding blocks
+reading-first {s} r =
+    let a = reader-complete r in
+    let q = first-block (read-chained s (headerCommand s) FIRST (a .0) (a .1)) in
+    (q .later, record { block = q .block; is-read = a .1 ∙ ap some (q .is-first); stands = q .stands; holds = q .holds })
+
+none-behind : (later : List Block) → map spanOf later ≡ [] → later ≡ []
+none-behind [] e = refl
+none-behind (b ∷ bs) e = let z : _≡_ {A = ℕ} 0 1 = cc in absurd (omega arith)
+
+-- of a reading of one span: nothing is behind it
+pub one-first : {s : List ℕ} {span : Span} → Reading s (span ∷ []) → FirstBlock s []
+unfolding blocks
+one-first {s} {span} r =
+    let a = reader-complete r in
+    let q = first-block (read-chained s (headerCommand s) FIRST (a .0) (a .1)) in
+    let all : spanOf (q .block) ∷ map spanOf (q .later) ≡ span ∷ [] = rw (q .is-first) at (a .2) in
+    let none-more : map spanOf (q .later) ≡ [] = cc in
+    let whole : a .0 ≡ q .block ∷ [] = q .is-first ∙ ap (λ (l : List Block). q .block ∷ l) (none-behind (q .later) none-more) in
+    record { block = q .block; is-read = a .1 ∙ ap some whole; stands = q .stands; holds = q .holds }
+
+module _ {s : List ℕ} {later : List Block} (q : FirstBlock s later) where
+  -- its fields by the header's command
+  pub first-body : (command : ℕ) → headerCommand s ≡ command → q .block .body ≡ bodyAt s command FIRST
+  first-body command e = q .holds ∙ ap (λ (n : ℕ). bodyAt s n FIRST) e
+
+  -- its byte area, and a WRITE's data
+  pub first-area : areaOf s (q .block) ≡ lockingArea s
+  unfolding areaOf
+  first-area = ap (λ (n : ℕ). take (byteCount s n) (drop (byteArea s n) s)) (q .stands)
+
+  pub first-data : dataOf s (q .block) ≡ writeData s
+  unfolding dataOf
+  first-data = ap (λ (n : ℕ). take (dataLength s n) (drop (dataOffset s n) s)) (q .stands)
