@@ -1,3 +1,4 @@
 pub mod Counting
 pub mod Fields
 pub mod Header
+pub mod Successions
