@@ -2,3 +2,5 @@ pub mod Counting
 pub mod Fields
 pub mod Header
 pub mod Successions
+pub mod State
+pub mod Codes
