@@ -4,3 +4,4 @@ pub mod Header
 pub mod Successions
 pub mod State
 pub mod Codes
+pub mod Words
