@@ -5,3 +5,4 @@ pub mod Successions
 pub mod State
 pub mod Codes
 pub mod Words
+pub mod Inside
