@@ -1,0 +1,47 @@
+-- Small tables and files, with numbers that differ from one another. Assumes nothing.
+use Prim.Native.Nat.{ℕ}
+use mathlib.Core.Bool.{true, false}
+use mathlib.Core.List.{List, [], _∷_, _++_}
+use lib.ListN.{length, replicate}
+use Rattle.records.specs.declared.Session.{Session}
+use Rattle.records.specs.declared.Tree.{Tree}
+use Rattle.records.specs.declared.Open.{Open}
+use Rattle.records.specs.declared.Lock.{Lock}
+use Rattle.records.specs.declared.File.{File}
+use Rattle.records.specs.declared.Tables.{Tables}
+
+unfoldable pub session : ℕ → ℕ → Session
+session uid connection = record { uid = uid; connection = connection }
+
+unfoldable pub tree : ℕ → ℕ → ℕ → Tree
+tree tid uid right = record { tid = tid; uid = uid; right = right }
+
+unfoldable pub open-of : ℕ → ℕ → ℕ → ℕ → ℕ → ℕ → Open
+open-of fid uid tid process file access = record { fid = fid; uid = uid; tid = tid; process = process; file = file; access = access }
+
+-- 16 files: file 1 has a size of 6, the others are empty
+unfoldable pub sizes : List File
+sizes = record { size = 0 } ∷ record { size = 6 } ∷ replicate 14 (record { size = 0 })
+
+-- tables with just those records
+unfoldable pub tablesWith : List Session → List Tree → List Open → List Lock → Tables
+tablesWith sessions trees opens locks =
+    record {
+      sessions = sessions;
+      nsessions = length sessions;
+      trees = trees;
+      ntrees = length trees;
+      opens = opens;
+      nopens = length opens;
+      locks = locks;
+      nlocks = length locks;
+      files = sizes;
+    }
+
+-- UID 3 on connection 5, its tree TID 2 for reading and writing, and FID 4, an open of file 1 for both by process 0x1B1A
+unfoldable pub small : Tables
+small = tablesWith (session 3 5 ∷ []) (tree 2 3 1 ∷ []) (open-of 4 3 2 0x1B1A 1 2 ∷ []) []
+
+-- "in file memory of 65,536 bytes": file 1 stands at 4,096 and holds 6 bytes
+unfoldable pub memory : List ℕ
+memory = replicate 4096 0 ++ (0xA0 ∷ 0xA1 ∷ 0xA2 ∷ 0xA3 ∷ 0xA4 ∷ 0xA5 ∷ replicate 61434 0)

@@ -1,0 +1,98 @@
+-- The words of include/gateway.h's struct, a second time, as numbers: each word is its own place. Assumes nothing.
+use mathlib.Core.Path.{_≡_, refl}
+use Prim.Native.Nat.{ℕ, _+_}
+use mathlib.Core.Bool.{Bool, true, false, not, _&&_}
+use mathlib.Core.List.{List, [], _∷_}
+use lib.ListN.{length, getD, set, replicate}
+use Rattle.lists.specs.Walk.{all}
+use Rattle.records.specs.declared.Tables.{Tables}
+use Rattle.records.specs.Empty.{noSession, noTree, noOpen, noLock, noFile}
+use Rattle.tables.specs.Words.{upTo, sessionOf, treeOf, openOf, lockOf, arrayOf, sessionArray, treeArray, openArray, lockArray, fileArray, tablesOf, within, recordsFit, inUseFit}
+use Rattle.literals.specs.Counting.{countFrom}
+
+-- 1172 words, the word at each place the place itself; but the last open's file (513) and access (514), which fit up to 255, are 213 and 214, and of the
+-- first lock and the last, shared (520, 1155) is 1 and 0
+unfoldable pub ownWords : List ℕ
+ownWords = set (set (set (set (countFrom 0 1172) 513 213) 514 214) 520 1) 1155 0
+
+unfoldable pub taken : Tables
+taken = tablesOf ownWords
+
+-- session_count, tree_count, open_count and lock_count
+pub counts : (taken .nsessions ≡ 0) × (taken .ntrees ≡ 33) × (taken .nopens ≡ 130) × (taken .nlocks ≡ 515)
+unfolding taken ownWords countFrom tablesOf
+counts = (refl, refl, refl, refl)
+
+-- how many records there are, in use or not: "Sessions 16 ..; trees 32 ..; opens 64 ..; locks 128 ..; Files: 16"
+pub records : (length (taken .sessions) ≡ 16)
+    × (length (taken .trees) ≡ 32)
+    × (length (taken .opens) ≡ 64)
+    × (length (taken .locks) ≡ 128)
+    × (length (taken .files) ≡ 16)
+unfolding taken ownWords countFrom tablesOf sessionArray treeArray openArray lockArray fileArray arrayOf upTo
+records = (refl, refl, refl, refl, refl)
+
+-- uid, connection
+pub session-words : (getD (taken .sessions) 0 noSession ≡ record { uid = 1; connection = 2 })
+    × (getD (taken .sessions) 15 noSession ≡ record { uid = 31; connection = 32 })
+unfolding taken ownWords countFrom tablesOf sessionArray arrayOf upTo sessionOf
+session-words = (refl, refl)
+
+-- tid, uid, right
+pub tree-words : (getD (taken .trees) 0 noTree ≡ record { tid = 34; uid = 35; right = 36 })
+    × (getD (taken .trees) 31 noTree ≡ record { tid = 127; uid = 128; right = 129 })
+unfolding taken ownWords countFrom tablesOf treeArray arrayOf upTo treeOf
+tree-words = (refl, refl)
+
+-- fid, uid, tid, process, file, access
+pub open-words : (getD (taken .opens) 0 noOpen ≡ record { fid = 131; uid = 132; tid = 133; process = 134; file = 135; access = 136 })
+    × (getD (taken .opens) 63 noOpen ≡ record { fid = 509; uid = 510; tid = 511; process = 512; file = 213; access = 214 })
+unfolding taken ownWords countFrom tablesOf openArray arrayOf upTo openOf
+open-words = (refl, refl)
+
+-- fid, process, offset, length, shared
+pub lock-words : (getD (taken .locks) 0 noLock ≡ record { fid = 516; process = 517; offset = 518; length = 519; shared = true })
+    × (getD (taken .locks) 127 noLock ≡ record { fid = 1151; process = 1152; offset = 1153; length = 1154; shared = false })
+unfolding taken ownWords countFrom tablesOf lockArray arrayOf upTo lockOf
+lock-words = (refl, refl)
+
+-- size
+pub file-words : (getD (taken .files) 0 noFile ≡ record { size = 1156 }) × (getD (taken .files) 15 noFile ≡ record { size = 1171 })
+unfolding taken ownWords countFrom tablesOf fileArray upTo
+file-words = (refl, refl)
+
+-- ---- the largest value that fits
+
+-- one record of each table in use, its words 0
+unfoldable pub oneEach : List ℕ
+oneEach = set (set (set (set (replicate 1172 0) 0 1) 33 1) 130 1) 515 1
+
+-- the word at a place fits up to that value, and not above it
+unfoldable pub fitsUpTo : ℕ → ℕ → Bool
+fitsUpTo at most = inUseFit (set oneEach at most) && not (inUseFit (set oneEach at (most + 1)))
+
+-- a session's UID and connection; a tree's TID, UID and right; an open's FID, UID, TID, process, file and access; a lock's FID, process and shared
+pub limits : (fitsUpTo 1 65535 ≡ true)
+    × (fitsUpTo 2 4294967295 ≡ true)
+    × (fitsUpTo 34 65535 ≡ true)
+    × (fitsUpTo 35 65535 ≡ true)
+    × (fitsUpTo 36 255 ≡ true)
+    × (fitsUpTo 131 65535 ≡ true)
+    × (fitsUpTo 132 65535 ≡ true)
+    × (fitsUpTo 133 65535 ≡ true)
+    × (fitsUpTo 134 4294967295 ≡ true)
+    × (fitsUpTo 135 255 ≡ true)
+    × (fitsUpTo 136 255 ≡ true)
+    × (fitsUpTo 516 65535 ≡ true)
+    × (fitsUpTo 517 4294967295 ≡ true)
+    × (fitsUpTo 520 1 ≡ true)
+unfolding fitsUpTo oneEach inUseFit recordsFit within all upTo
+limits = (refl, refl, refl, refl, refl, refl, refl, refl, refl, refl, refl, refl, refl, refl)
+
+-- a lock's offset and length are any word, and the words of records not in use are free: the largest word at the second record's places fits
+unfoldable pub fits : ℕ → Bool
+fits at = inUseFit (set oneEach at 18446744073709551615)
+
+pub free-words : all fits (518 ∷ 519 ∷ 3 ∷ 4 ∷ 37 ∷ 38 ∷ 39 ∷ 137 ∷ 138 ∷ 139 ∷ 140 ∷ 141 ∷ 142 ∷ 521 ∷ 522 ∷ 523 ∷ 524 ∷ 525 ∷ []) ≡ true
+unfolding fits oneEach inUseFit recordsFit within all upTo
+free-words = refl
