@@ -28,3 +28,4 @@ pub mod DoneCall
 pub mod ReplyBytes
 pub mod CallEffects
 pub mod Ready
+pub mod Exported
