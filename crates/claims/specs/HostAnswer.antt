@@ -31,7 +31,7 @@ pub record NewNumber (limit : ℕ) (used : List ℕ) (id : ℕ) : Type 0 where
   pub least : (k : ℕ) → 1 ≤ k → k < id → contains k used ≡ true
 
 -- where fewer than the limit are in use, the smallest free number is such a number
-smallest-new : {A : Type 0} (f : A → ℕ) (limit n : ℕ) (xs : List A) → n < limit
+pub smallest-new : {A : Type 0} (f : A → ℕ) (limit n : ℕ) (xs : List A) → n < limit
     → NewNumber limit (map f (take n xs)) (smallestFree (map f (take n xs)))
 smallest-new f limit n xs h =
     let high : smallestFree (map f (take n xs)) ≤ length (map f (take n xs)) + 1 = smallest-high (map f (take n xs)) in
@@ -45,7 +45,7 @@ smallest-new f limit n xs h =
     }
 
 -- a refusal's number is not 0
-refused-not-done : (P : Answer → Type 0) (t : Tables) (n : ℕ) → 1 ≤ n → refused n t .number ≡ 0 → P (refused n t)
+pub refused-not-done : (P : Answer → Type 0) (t : Tables) (n : ℕ) → 1 ≤ n → refused n t .number ≡ 0 → P (refused n t)
 unfolding refused
 refused-not-done P t n h e = absurd (let z : ⊥ = omega arith in z)
 

@@ -5,4 +5,5 @@ pub mod SoundPlain
 pub mod HostReasons
 pub mod LoadBytes
 pub mod RemovalPlain
+pub mod HostFrames
 pub mod Cases

@@ -34,3 +34,4 @@ pub mod FirstReadings
 pub mod SpansOneByOne
 pub mod SpansRefused
 pub mod Ready
+pub mod Exported
