@@ -1,12 +1,18 @@
 -- The words of the page: a call that takes a message, and what is said of it. Assumes nothing.
 use mathlib.Core.Path.{_≡_}
 use Prim.Native.Nat.{ℕ}
-use mathlib.Core.List.{List}
+use mathlib.Core.List.{List, [], _∷_}
+use lib.ListN.{replicate}
 use Rattle.records.specs.declared.Tables.{Tables}
 use Rattle.chain.specs.Layout.{headerCommand}
+use Rattle.chain.specs.Grammar.{Span, Reading}
+use Rattle.message.specs.Caller.{callerOf}
+use Rattle.message.specs.declared.caller.Caller.{Caller}
 use Rattle.message.specs.Refusal.{status}
+use Rattle.message.specs.declared.refusal.Status.{Status}
 use Rattle.message.specs.Message.{Taken, take-message}
 use Rattle.invariants.specs.Fit.{Fit}
+use Rattle.invariants.specs.Sound.{Good}
 use Rattle.demands.specs.NotServed.{Known}
 use Rattle.demands.specs.Calls.{statusRead}
 
@@ -19,22 +25,40 @@ pub record Call : Type 0 where
   pub memory : List ℕ
   pub room : List ℕ
 
--- what it gives back: number, reply length, tables, file memory, room (message/specs/Message.antt). The code's contract is an equation with it.
+-- what it gives back: number, reply length, tables, file memory, room (message/specs/Message.antt). The contract of the code is an equation with it.
 abbrev pub gives : Call → Taken
 gives c = take-message (c .connection) (c .message) (c .tables) (c .memory) (c .room)
 
--- "Fit to be answered: rows 1, 2 and 4 don't apply"
-abbrev pub Answerable : Call → Type 0
-Answerable c = Fit (c .message) (c .tables) (c .memory) (c .room)
+-- "Fit to be answered: rows 1, 2 and 4 don't apply", in tables whose arrays have their room (which the types say of code)
+pub record Answerable (c : Call) : Type 0 where
+  pub fit : Fit (c .message) (c .tables) (c .memory) (c .room)
+  pub good : Good (c .tables)
 
 -- "Known: a request served"
 abbrev pub BeginsKnown : Call → Type 0
 BeginsKnown c = Known (headerCommand (c .message))
 
--- the reply's Status: class and code
+-- the message is one command alone
+pub record OneCommand (c : Call) (command : ℕ) : Type 0 where
+  pub span : Span
+  pub reading : Reading (c .message) (span ∷ [])
+  pub is : headerCommand (c .message) ≡ command
+
+-- the Status in the reply: class and code
+abbrev pub statusGiven : Call → Status
+statusGiven c = statusRead (gives c .room)
+
 abbrev pub Says : Call → ℕ → ℕ → Type 0
-Says c class code = statusRead (gives c .room) ≡ status class code
+Says c class code = statusGiven c ≡ status class code
+
+-- who sends the message
+abbrev pub sender : Call → Caller
+sender c = callerOf (c .connection) (c .message)
 
 -- the same call with another message
 abbrev pub sending : Call → List ℕ → Call
 sending c message = record { connection = c .connection; message = message; tables = c .tables; memory = c .memory; room = c .room }
+
+-- "reply room 12,292", for the messages of a chain's commands sent one by one
+abbrev pub someRoom : List ℕ
+someRoom = replicate 12292 0

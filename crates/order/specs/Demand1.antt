@@ -1,19 +1,31 @@
 -- Demand 1 of the order, sentence by sentence. Assumes nothing.
-use mathlib.Core.Path.{_≡_, sym, _∙_}
+use mathlib.Core.Path.{_≡_}
 use mathlib.Core.Logic.{_↔_}
-use Prim.Native.Nat.{ℕ}
-use mathlib.Core.List.{List}
-use lib.ListN.{length}
+use Prim.Native.Nat.{ℕ, _≤_}
+use mathlib.Core.List.{List, [], _∷_, _++_}
+use lib.ListN.{length, length-replicate}
+use Rattle.wire.specs.LittleEndian.{byteAt}
 use Rattle.records.specs.declared.Tables.{Tables}
-use Rattle.soundness.specs.Sound.{sound}
 use Rattle.host.specs.HostCall.{addSession, addTree, addOpen, loadFile, loadMemory, dropConnection}
+use Rattle.chain.specs.Layout.{LOCKING, READ, WRITE, CLOSE, LOGOFF, TREE_DISCONNECT, PROCESS_EXIT, FIRST, closeFid}
+use Rattle.chain.specs.Grammar.{Span, Reading}
+use Rattle.message.specs.Message.{Taken, notTaken}
+use Rattle.message.specs.declared.refusal.Status.{Status}
+use Rattle.invariants.specs.Sound.{Good}
 use Rattle.claims.specs.HostReasons.{SessionReason, TreeReason, OpenReason, LoadReason, DropReason, addSession-reason, addSession-given, addTree-reason, addTree-given, addOpen-reason, addOpen-given, loadFile-reason, loadFile-given, dropConnection-reason, dropConnection-given}
 use Rattle.claims.specs.HostAnswer.{Unchanged, addSession-refused, addTree-refused, addOpen-refused, loadFile-refused, loadMemory-refused, dropConnection-refused}
-use Rattle.message.specs.Message.{Taken, notTaken}
 use Rattle.demands.specs.MessageReasons.{MessageReason, take-message-reason, take-message-given}
+use Rattle.demands.specs.NotServed.{Known, not-served-exact}
+use Rattle.demands.specs.CommandReasons.{SessionStatus, TreeStatus, CloseStatus, ReadStatus, WriteStatus, LockingStatus}
+use Rattle.demands.specs.WireFields.{readFields, writeFields}
+use Rattle.demands.specs.LoneCall.{lockingFields, lockingArea}
+use Rattle.demands.specs.FirstReadings.{locking-exact, read-exact, write-exact, close-exact, disconnect-exact, logoff-exact, exit-exact}
 use Rattle.demands.specs.RoomKept.{RoomKept, refused-writes-nothing, room-kept}
+use Rattle.demands.specs.SpansRefused.{AllCarried, spans-refused}
+use Rattle.demands.specs.CallsOneByOne.{Calls}
+use Rattle.demands.specs.SpansOneByOne.{callSpans}
 use Rattle.demands.specs.Reached.{Reached, reached-good}
-use Rattle.order.specs.Call.{Call, gives}
+use Rattle.order.specs.Call.{Call, gives, Answerable, BeginsKnown, OneCommand, statusGiven, Says, sender, someRoom}
 
 -- "No message and no host call, with any bytes, may stop the box or touch memory it wasn't lent": that is what the check of a crate with code shows of each of
 -- its functions (it ends, no index is out of range, no sum wraps), and no entry point has a `requires`. How much stack a call takes is measured, not proved.
@@ -27,7 +39,19 @@ pub record NumberForItsReason : Type 0 where
   pub load : (t : Tables) (file : ℕ) (bytes memory : List ℕ) (n : ℕ) → (loadFile t file bytes memory .number ≡ n) ↔ LoadReason t file (length bytes) (length memory) n
   pub drop : (t : Tables) (connection n : ℕ) → (dropConnection t connection .number ≡ n) ↔ DropReason t n
 
--- "and then every table and file byte stands as before that command": a call refused by number writes nothing at all
+-- the same of the Status in the reply: of a message whose command is not known, and of each command alone in its message. (2/1: Demand3. In a chain: Demand3, OneToAMessage.)
+pub record StatusForItsReason : Type 0 where
+  pub not-known : (c : Call) → Answerable c → Says c 2 22 ↔ (BeginsKnown c → ⊥)
+  pub locking : (c : Call) → Answerable c → OneCommand c LOCKING → (n : Status)
+      → (statusGiven c ≡ n) ↔ LockingStatus (sender c) (c .tables) (lockingFields (c .message)) (lockingArea (c .message)) n
+  pub read : (c : Call) → Answerable c → OneCommand c READ → (n : Status) → (statusGiven c ≡ n) ↔ ReadStatus (sender c) (c .tables) (readFields (c .message)) n
+  pub write : (c : Call) → Answerable c → OneCommand c WRITE → (n : Status) → (statusGiven c ≡ n) ↔ WriteStatus (sender c) (c .tables) (writeFields (c .message)) n
+  pub close : (c : Call) → Answerable c → OneCommand c CLOSE → (n : Status) → (statusGiven c ≡ n) ↔ CloseStatus (sender c) (c .tables) (closeFid (c .message) FIRST) n
+  pub disconnect : (c : Call) → Answerable c → OneCommand c TREE_DISCONNECT → (n : Status) → (statusGiven c ≡ n) ↔ TreeStatus (sender c) (c .tables) n
+  pub logoff : (c : Call) → Answerable c → OneCommand c LOGOFF → (n : Status) → (statusGiven c ≡ n) ↔ SessionStatus (sender c) (c .tables) n
+  pub exit : (c : Call) → Answerable c → OneCommand c PROCESS_EXIT → (n : Status) → (statusGiven c ≡ n) ↔ SessionStatus (sender c) (c .tables) n
+
+-- "and then every table and file byte stands as before that command": a call refused by its number writes nothing at all
 pub record RefusedByNumber : Type 0 where
   pub message : (c : Call) → (gives c .number ≡ 0 → ⊥) → gives c ≡ notTaken (gives c .number) (c .tables) (c .memory) (c .room)
   pub session : (t : Tables) (connection : ℕ) → (addSession t connection .number ≡ 0 → ⊥) → Unchanged t (addSession t connection)
@@ -38,28 +62,87 @@ pub record RefusedByNumber : Type 0 where
       → Unchanged t (loadFile t file bytes memory) × (loadMemory t file bytes memory ≡ memory)
   pub drop : (t : Tables) (connection : ℕ) → (dropConnection t connection .number ≡ 0 → ⊥) → Unchanged t (dropConnection t connection)
 
+-- what the commands of some blocks leave, sent one to a message up to the first refused
+abbrev pub leftBy : Call → List Span → Calls
+leftBy c spans = callSpans (c .connection) (c .message) someRoom spans (c .tables) (c .memory)
+
+-- and a command refused in the reply (Status not 0), alone or in a chain, leaves what the commands before it have left; those after it aren't begun
+pub record CommandRefused (c : Call) (spans : List Span) : Type 0 where
+  pub front : List Span
+  pub command : Span
+  pub later : List Span
+  pub split : spans ≡ front ++ (command ∷ later)
+  pub front-stands : AllCarried (c .connection) (c .message) someRoom front (c .tables) (c .memory)
+  pub tables-left : gives c .tables ≡ leftBy c front .tables
+  pub memory-left : gives c .memory ≡ leftBy c front .memory
+  pub later-not-begun : leftBy c spans ≡ leftBy c (front ++ (command ∷ []))
+
+abbrev pub RefusedInReply : Type 0
+RefusedInReply = (c : Call) (spans : List Span) → Answerable c → Reading (c .message) spans → (Says c 0 0 → ⊥) → CommandRefused c spans
+
+-- document 01: "Every call on sound tables leaves sound tables": over all histories, so that a host which starts with none and writes no word itself never meets 4
+abbrev pub SoundForEver : Type 0
+SoundForEver = (t : Tables) → Reached t → Good t
+
+-- document 01, "reply room 12,292": the reply fits in it, and no byte behind the reply is written
+abbrev pub RoomSuffices : Type 0
+RoomSuffices = (c : Call) → Good (c .tables) → RoomKept (c .room) (gives c)
+
+pub record Demand1 : Type 0 where
+  pub number-for-its-reason : NumberForItsReason
+  pub status-for-its-reason : StatusForItsReason
+  pub refused-by-number : RefusedByNumber
+  pub refused-in-reply : RefusedInReply
+  pub sound-for-ever : SoundForEver
+  pub room-suffices : RoomSuffices
+
+-- ---- the proof: each line cites the theorem that does the work
+
 -- a reason that holds for the number given, and gives its number
 exactly : {R : ℕ → Type 0} {number : ℕ} → R number → ((n : ℕ) → R n → number ≡ n) → (n : ℕ) → (number ≡ n) ↔ R n
 exactly {R} {number} reason given n = (λ e. rw (← e) reason, λ r. given n r)
 
-pub numbers-for-reasons : NumberForItsReason
-numbers-for-reasons =
+pub demand-1 : Demand1
+demand-1 =
     record {
-      message = λ c. exactly (take-message-reason _ _ _ _ _) (λ n r. take-message-given (c .connection) (c .message) (c .tables) (c .memory) (c .room) r);
-      session = λ t connection. exactly (addSession-reason t connection) (λ n r. addSession-given t connection r);
-      tree = λ t uid right. exactly (addTree-reason t uid right) (λ n r. addTree-given t uid right r);
-      open-file = λ t uid tid process file access. exactly (addOpen-reason t uid tid process file access) (λ n r. addOpen-given t uid tid process file access r);
-      load = λ t file bytes memory. exactly (loadFile-reason t file bytes memory) (λ n r. loadFile-given t file bytes memory r);
-      drop = λ t connection. exactly (dropConnection-reason t connection) (λ n r. dropConnection-given t connection r);
-    }
-
-pub refused-by-number : RefusedByNumber
-refused-by-number =
-    record {
-      message = λ c. refused-writes-nothing (c .connection) (c .message) (c .tables) (c .memory) (c .room);
-      session = addSession-refused;
-      tree = addTree-refused;
-      open-file = addOpen-refused;
-      load = λ t file bytes memory n. (loadFile-refused t file bytes memory n, loadMemory-refused t file bytes memory n);
-      drop = dropConnection-refused;
+      number-for-its-reason = record {
+        message = λ c. exactly (take-message-reason _ _ _ _ _) (λ n r. take-message-given (c .connection) (c .message) (c .tables) (c .memory) (c .room) r);
+        session = λ t connection. exactly (addSession-reason t connection) (λ n r. addSession-given t connection r);
+        tree = λ t uid right. exactly (addTree-reason t uid right) (λ n r. addTree-given t uid right r);
+        open-file = λ t uid tid process file access. exactly (addOpen-reason t uid tid process file access) (λ n r. addOpen-given t uid tid process file access r);
+        load = λ t file bytes memory. exactly (loadFile-reason t file bytes memory) (λ n r. loadFile-given t file bytes memory r);
+        drop = λ t connection. exactly (dropConnection-reason t connection) (λ n r. dropConnection-given t connection r);
+      };
+      status-for-its-reason = record {
+        not-known = λ c a. not-served-exact (c .connection) (c .message) (c .tables) (c .memory) (c .room) (a .fit);
+        locking = λ c a one n. locking-exact (c .connection) (c .message) (one .reading) (c .tables) (c .memory) (c .room) (a .fit) (one .is) n;
+        read = λ c a one n. read-exact (c .connection) (c .message) (one .reading) (c .tables) (c .memory) (c .room) (a .fit) (one .is) n;
+        write = λ c a one n. write-exact (c .connection) (c .message) (one .reading) (c .tables) (c .memory) (c .room) (a .fit) (one .is) n;
+        close = λ c a one n. close-exact (c .connection) (c .message) (one .reading) (c .tables) (c .memory) (c .room) (a .fit) (one .is) n;
+        disconnect = λ c a one n. disconnect-exact (c .connection) (c .message) (one .reading) (c .tables) (c .memory) (c .room) (a .fit) (one .is) n;
+        logoff = λ c a one n. logoff-exact (c .connection) (c .message) (one .reading) (c .tables) (c .memory) (c .room) (a .fit) (one .is) n;
+        exit = λ c a one n. exit-exact (c .connection) (c .message) (one .reading) (c .tables) (c .memory) (c .room) (a .fit) (one .is) n;
+      };
+      refused-by-number = record {
+        message = λ c. refused-writes-nothing (c .connection) (c .message) (c .tables) (c .memory) (c .room);
+        session = addSession-refused;
+        tree = addTree-refused;
+        open-file = addOpen-refused;
+        load = λ t file bytes memory n. (loadFile-refused t file bytes memory n, loadMemory-refused t file bytes memory n);
+        drop = dropConnection-refused;
+      };
+      refused-in-reply = λ c spans a r n.
+          let q = spans-refused (c .connection) (c .message) r (c .tables) (c .memory) (c .room) someRoom (a .good) (a .fit) (length-replicate {A = ℕ} 12292 0) n in
+          record {
+            front = q .front;
+            command = q .command;
+            later = q .later;
+            split = q .split;
+            front-stands = q .front-carried;
+            tables-left = q .tables-left;
+            memory-left = q .memory-left;
+            later-not-begun = q .not-begun;
+          };
+      sound-for-ever = λ t r. reached-good r;
+      room-suffices = λ c g. room-kept (c .connection) (c .message) (c .tables) (c .memory) (c .room) (g .shaped);
     }

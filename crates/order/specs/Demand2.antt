@@ -4,27 +4,62 @@ use mathlib.Core.Logic.{_↔_}
 use Prim.Native.Nat.{ℕ, _+_, _^_, _≤_}
 use mathlib.Core.Bool.{Bool, true}
 use mathlib.Core.List.{List, map, List·Memᴰ as In}
+use Rattle.wire.specs.LittleEndian.{le16At}
 use Rattle.records.specs.declared.Open.{Open}
 use Rattle.records.specs.declared.Lock.{Lock}
 use Rattle.records.specs.Held.{locksOf}
 use Rattle.locks.specs.Range.{Overlap}
 use Rattle.locks.specs.declared.types.LockRange.{LockRange}
-use Rattle.chain.specs.Layout.{LOCKING, headerCommand, FIRST, fidAfterAndx, lockType, unlockCount, lockCount}
+use Rattle.chain.specs.Layout.{LOCKING, READ, WRITE, CLOSE, LOGOFF, TREE_DISCONNECT, PROCESS_EXIT, headerCommand, FIRST, fidAfterAndx, lockType, unlockCount, lockCount, closeFid}
 use Rattle.chain.specs.Grammar.{Span, Reading}
-use Rattle.message.specs.Caller.{callerOf}
 use Rattle.claims.specs.Cases.{table, cases}
 use Rattle.demands.specs.Admitted.{Admitted}
 use Rattle.demands.specs.CommandReasons.{OnlyTwoBits}
 use Rattle.demands.specs.LoneLock.{OfFile, loneRange, sharedIn}
 use Rattle.demands.specs.LoneCall.{lockingFields, lockingArea, lone-lock-reading}
-use Rattle.order.specs.Call.{Call, gives, Answerable, Says}
+use Rattle.demands.specs.FirstReadings.{BarsReadOn, BarsWriteOn, first-read-reading, first-write-reading}
+use Rattle.demands.specs.Effects.{ReadDone, WriteDone, read-reading, write-reading, close-reading, disconnect-reading, logoff-reading, exit-reading}
+use Rattle.demands.specs.LockEffects.{LockingDone, locking-reading}
+use Rattle.claims.specs.RemovalPlain.{Closed, Disconnected, LoggedOff, Exited}
+use Rattle.claims.specs.HostFrames.{SessionAdded, TreeAdded, OpenAdded, FileLoaded, ConnectionDropped, addSession-frame, addTree-frame, addOpen-frame, loadFile-frame, dropConnection-frame}
+use Rattle.host.specs.HostCall.{addSession, addTree, addOpen, loadFile, loadMemory, dropConnection}
+use Rattle.records.specs.declared.Tables.{Tables}
+use Rattle.invariants.specs.Sound.{Good}
+use Rattle.order.specs.Call.{Call, gives, Answerable, OneCommand, Says, sender}
 
 -- "Every reply, table and file byte is what the public CIFS documents say, as cut down in document 01": what a call gives is defined for all inputs
--- (message/specs/Message.antt: `take-message`; host/specs/HostCall.antt), and the contract of each entry point is an equation with that definition.
+-- (message/specs/Message.antt: `take-message`; host/specs/HostCall.antt), and the contract of each entry point is an equation with that definition. The papers'
+-- numbers stand a second time, as literals, in the crate `literals`. What the definitions come to, in plain words:
 
 -- document 01's starred cases 1 to 12: what the definitions give is what the document says
 abbrev pub StarredCases : Type 0
 StarredCases = map (λ c. c .given) table ≡ map (λ c. c .said) table
+
+-- a command alone in its message that is carried out (Status 0/0): what its reply says and what it leaves
+abbrev DoneAlone : Call → ℕ → Type 0
+DoneAlone c command = Answerable c × OneCommand c command × Says c 0 0
+
+pub record CarriedOut : Type 0 where
+  pub locking : (c : Call) → DoneAlone c LOCKING → LockingDone (c .connection) (c .message) (c .tables) (c .memory) (gives c)
+  pub read : (c : Call) → DoneAlone c READ → ReadDone (c .connection) (c .message) (c .tables) (c .memory) (gives c)
+  pub write : (c : Call) → DoneAlone c WRITE → WriteDone (c .connection) (c .message) (c .tables) (c .memory) (gives c)
+  pub close : (c : Call) → DoneAlone c CLOSE → Closed (closeFid (c .message) FIRST) (c .tables) (gives c .tables) × (gives c .memory ≡ c .memory)
+  pub disconnect : (c : Call) → DoneAlone c TREE_DISCONNECT → Disconnected (le16At (c .message) 24) (c .tables) (gives c .tables) × (gives c .memory ≡ c .memory)
+  pub logoff : (c : Call) → DoneAlone c LOGOFF → LoggedOff (le16At (c .message) 28) (c .tables) (gives c .tables) × (gives c .memory ≡ c .memory)
+  pub exit : (c : Call) → DoneAlone c PROCESS_EXIT
+      → Exited (le16At (c .message) 28) (le16At (c .message) 26) (c .tables) (gives c .tables) × (gives c .memory ≡ c .memory)
+
+-- what a host call leaves, and what stands
+pub record HostCallsDone : Type 0 where
+  pub session : (t : Tables) (connection : ℕ) → addSession t connection .number ≡ 0 → SessionAdded t connection (addSession t connection)
+  pub tree : (t : Tables) (uid right : ℕ) → addTree t uid right .number ≡ 0 → TreeAdded t uid right (addTree t uid right)
+  pub open-file : (t : Tables) (uid tid process file access : ℕ) → addOpen t uid tid process file access .number ≡ 0
+      → OpenAdded t uid tid process file access (addOpen t uid tid process file access)
+  pub load : (t : Tables) → Good t → (file : ℕ) (bytes memory : List ℕ) → loadFile t file bytes memory .number ≡ 0
+      → FileLoaded t file bytes memory (loadFile t file bytes memory) (loadMemory t file bytes memory)
+  pub drop : (t : Tables) (connection : ℕ) → dropConnection t connection .number ≡ 0 → ConnectionDropped t connection (dropConnection t connection)
+
+-- ---- locks
 
 -- the range of the first block's first lock, and whether it is to be shared: "Type bit 0x01 means shared"
 abbrev pub rangeAsked : Call → LockRange
@@ -39,31 +74,71 @@ pub record AsksOneLock (c : Call) : Type 0 where
   pub no-unlock : unlockCount (c .message) FIRST ≡ 0
   pub one-lock : lockCount (c .message) FIRST ≡ 1
 
+-- "on a valid open": its FID, the sender's session and tree
+abbrev pub ValidOpen : Call → Open → Type 0
+ValidOpen c o = Admitted (sender c) (c .tables) (fidAfterAndx (c .message) FIRST) o
+
 -- "a listed lock of that file overlaps it and the two aren't both shared": of the file that the open names; some byte is in both ranges
 abbrev pub Conflicting : Call → Open → Lock → Type 0
 Conflicting c o l =
     In l (locksOf (c .tables)) × OfFile (c .tables) o l × Overlap (l .offset) (l .length) (rangeAsked c .offset) (rangeAsked c .length)
     × ((l .shared ≡ true) × (sharedAsked c ≡ true) → ⊥)
 
+-- "refused for conflict": Status 1/33 in a reply of one refused block, 35 bytes
+abbrev pub RefusedForConflict : Call → Type 0
+RefusedForConflict c = Says c 1 33 × (gives c .length ≡ 35)
+
 -- "A lock alone in its request, of a served type, on a valid open and within range, is refused for conflict exactly when a listed lock of that file overlaps it and
--- the two aren't both shared": Status 1/33 in a reply of one refused block, 35 bytes
+-- the two aren't both shared", whatever commands follow it in the message
 abbrev pub LoneLock : Type 0
 LoneLock =
-    (c : Call) (spans : List Span) (o : Open) → Reading (c .message) spans → Answerable c → AsksOneLock c → OnlyTwoBits (lockType (c .message) FIRST)
-    → Admitted (callerOf (c .connection) (c .message)) (c .tables) (fidAfterAndx (c .message) FIRST) o → rangeAsked c .offset + rangeAsked c .length ≤ 2 ^ 64
-    → (Says c 1 33 × (gives c .length ≡ 35)) ↔ ((l : Lock) × Conflicting c o l)
+    (c : Call) (spans : List Span) (o : Open) → Answerable c → Reading (c .message) spans → AsksOneLock c → OnlyTwoBits (lockType (c .message) FIRST) → ValidOpen c o
+    → rangeAsked c .offset + rangeAsked c .length ≤ 2 ^ 64 → RefusedForConflict c ↔ ((l : Lock) × Conflicting c o l)
+
+-- document 01: "A read is refused 1/33 exactly if an exclusive lock of another owner overlaps offset and max; a write exactly if any lock overlaps it save the
+-- writer's own exclusive ones", where it is the first command of the message
+pub record FirstTransfer : Type 0 where
+  pub read : (c : Call) (spans : List Span) (o : Open) → Answerable c → Reading (c .message) spans → headerCommand (c .message) ≡ READ → ValidOpen c o → (o .access ≡ 1 → ⊥)
+      → RefusedForConflict c ↔ BarsReadOn (c .message) (c .tables) o
+  pub write : (c : Call) (spans : List Span) (o : Open) → Answerable c → Reading (c .message) spans → headerCommand (c .message) ≡ WRITE → ValidOpen c o → (o .access ≡ 0 → ⊥)
+      → RefusedForConflict c ↔ BarsWriteOn (c .message) (c .tables) o
 
 pub record Demand2 : Type 0 where
   pub starred-cases : StarredCases
+  pub carried-out : CarriedOut
+  pub host-calls-done : HostCallsDone
   pub lone-lock : LoneLock
+  pub first-transfer : FirstTransfer
+
+-- ---- the proof: each line cites the theorem that does the work
 
 pub demand-2 : Demand2
 demand-2 =
     record {
       starred-cases = cases;
-      lone-lock = λ c spans o r fit asks bits valid low.
-          let q = lone-lock-reading (c .connection) (c .message) r (c .tables) (c .memory) (c .room) fit o (asks .is-locking) (asks .no-unlock) (asks .one-lock) bits valid low in (
+      carried-out = record {
+        locking = λ c d. locking-reading (c .connection) (c .message) (d .1 .reading) (c .tables) (c .memory) (c .room) (d .0 .good) (d .0 .fit) (d .2) (d .1 .is);
+        read = λ c d. read-reading (c .connection) (c .message) (d .1 .reading) (c .tables) (c .memory) (c .room) (d .0 .good) (d .0 .fit) (d .2) (d .1 .is);
+        write = λ c d. write-reading (c .connection) (c .message) (d .1 .reading) (c .tables) (c .memory) (c .room) (d .0 .good) (d .0 .fit) (d .2) (d .1 .is);
+        close = λ c d. close-reading (c .connection) (c .message) (d .1 .reading) (c .tables) (c .memory) (c .room) (d .0 .good) (d .0 .fit) (d .2) (d .1 .is);
+        disconnect = λ c d. disconnect-reading (c .connection) (c .message) (d .1 .reading) (c .tables) (c .memory) (c .room) (d .0 .good) (d .0 .fit) (d .2) (d .1 .is);
+        logoff = λ c d. logoff-reading (c .connection) (c .message) (d .1 .reading) (c .tables) (c .memory) (c .room) (d .0 .good) (d .0 .fit) (d .2) (d .1 .is);
+        exit = λ c d. exit-reading (c .connection) (c .message) (d .1 .reading) (c .tables) (c .memory) (c .room) (d .0 .good) (d .0 .fit) (d .2) (d .1 .is);
+      };
+      host-calls-done = record {
+        session = addSession-frame;
+        tree = addTree-frame;
+        open-file = addOpen-frame;
+        load = λ t g. loadFile-frame t (g .shaped);
+        drop = dropConnection-frame;
+      };
+      lone-lock = λ c spans o a r asks bits valid low.
+          let q = lone-lock-reading (c .connection) (c .message) r (c .tables) (c .memory) (c .room) (a .fit) o (asks .is-locking) (asks .no-unlock) (asks .one-lock) bits valid low in (
             λ h. let w = q .0 h in (w .lock, (w .listed, w .of-file, w .overlap, w .clash)),
             λ l. q .1 (record { lock = l .0; listed = l .1 .0; of-file = l .1 .1; overlap = l .1 .2; clash = l .1 .3 }),
           );
+      first-transfer = record {
+        read = λ c spans o a r e valid access. first-read-reading (c .connection) (c .message) r (c .tables) (c .memory) (c .room) (a .fit) o valid e access;
+        write = λ c spans o a r e valid access. first-write-reading (c .connection) (c .message) r (c .tables) (c .memory) (c .room) (a .fit) o valid e access;
+      };
     }

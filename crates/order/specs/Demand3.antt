@@ -2,16 +2,22 @@
 use mathlib.Core.Path.{_≡_}
 use mathlib.Core.Logic.{_↔_}
 use Prim.Native.Nat.{ℕ, _+_, _≤_, _<_}
+use mathlib.Core.Bool.{true, false}
 use mathlib.Core.List.{List, List·Memᴰ as In}
-use lib.ListN.{length, take}
+use lib.ListN.{length, take, length-replicate}
 use Rattle.wire.specs.LittleEndian.{byteAt}
 use Rattle.chain.specs.Grammar.{Span, Reading, Sentence}
+use Rattle.chain.specs.Header.{dropped}
+use Rattle.listing.specs.Text.{listing, notChain, droppedLine}
 use Rattle.readings.specs.OneReading.{one-reading-of-message}
 use Rattle.readings.specs.Unread.{Unread}
+use Rattle.readings.specs.ListingExact.{spanLines, reading-listed, not-chain-exact, dropped-exact}
 use Rattle.demands.specs.NotServed.{known-exact}
 use Rattle.demands.specs.Calls.{malformed-call}
 use Rattle.demands.specs.Taken.{free-taken, unread-taken}
-use Rattle.order.specs.Call.{Call, gives, Answerable, BeginsKnown, Says, sending}
+use Rattle.demands.specs.CallsOneByOne.{comparedCall}
+use Rattle.demands.specs.SpansOneByOne.{callSpans, spans-one-by-one}
+use Rattle.order.specs.Call.{Call, gives, Answerable, BeginsKnown, Says, sending, someRoom}
 
 -- "The grammar of chained messages is written without reference to the reader": chain/specs/Grammar.antt cites chain/specs/Layout.antt, where each field
 -- stands, and nothing else.
@@ -41,19 +47,39 @@ UnreadBytes =
     → ((x : Span) → In x spans → (k : ℕ) → k < x .size → (Unread (c .message) (x .place) (x .command) k → ⊥) → byteAt other (x .place + k) ≡ byteAt (c .message) (x .place + k))
     → Answerable c → Answerable (sending c other) → gives (sending c other) ≡ gives c
 
+-- "A sentence's commands sent one to a message, up to the first refused, give the chain's reply blocks, status, tables and files, every byte": the calls one by one
+-- are demands/specs/SpansOneByOne.antt's `callSpans`, and what is compared CallsOneByOne.antt's `comparedCall`
+abbrev pub OneToAMessage : Type 0
+OneToAMessage =
+    (c : Call) (spans : List Span) → Reading (c .message) spans → Answerable c
+    → gives c ≡ comparedCall (c .message) (c .room) (callSpans (c .connection) (c .message) someRoom spans (c .tables) (c .memory))
+
+-- "a small program that lists a message's commands": a line for each block of the reading; `not a chain` exactly if there is none, `dropped` by row 1
+pub record Listed : Type 0 where
+  pub lines : (message : List ℕ) (spans : List Span) → Reading message spans → dropped message ≡ false → listing message ≡ spanLines 1 spans
+  pub no-chain : (message : List ℕ) → (listing message ≡ notChain) ↔ ((dropped message ≡ false) × (Sentence message → ⊥))
+  pub is-dropped : (message : List ℕ) → (listing message ≡ droppedLine) ↔ (dropped message ≡ true)
+
 pub record Demand3 : Type 0 where
   pub no-two-readings : NoTwoReadings
   pub malformed-exactly : MalformedExactly
   pub free-bytes : FreeBytes
   pub unread-bytes : UnreadBytes
+  pub one-to-a-message : OneToAMessage
+  pub listed : Listed
+
+-- ---- the proof: each line cites the theorem that does the work
 
 pub demand-3 : Demand3
 demand-3 =
     record {
       no-two-readings = one-reading-of-message;
-      malformed-exactly = λ c fit known. malformed-call (c .connection) (c .message) (c .tables) (c .memory) (c .room) fit (known-exact _ .1 known);
-      free-bytes = λ c other spans r header inside same fit also.
-          free-taken (c .connection) (c .message) other header r (λ x i. record { same = same x i; inside = inside x i }) (c .tables) (c .memory) (c .room) fit also;
-      unread-bytes = λ c other spans r header inside same fit also.
-          unread-taken (c .connection) (c .message) other header r (λ x i. record { same = same x i; inside = inside x i }) (c .tables) (c .memory) (c .room) fit also;
+      malformed-exactly = λ c a known. malformed-call (c .connection) (c .message) (c .tables) (c .memory) (c .room) (a .fit) (known-exact _ .1 known);
+      free-bytes = λ c other spans r header inside same a b.
+          free-taken (c .connection) (c .message) other header r (λ x i. record { same = same x i; inside = inside x i }) (c .tables) (c .memory) (c .room) (a .fit) (b .fit);
+      unread-bytes = λ c other spans r header inside same a b.
+          unread-taken (c .connection) (c .message) other header r (λ x i. record { same = same x i; inside = inside x i }) (c .tables) (c .memory) (c .room) (a .fit) (b .fit);
+      one-to-a-message = λ c spans r a.
+          spans-one-by-one (c .connection) (c .message) r (c .tables) (c .memory) (c .room) someRoom (a .good) (a .fit) (length-replicate {A = ℕ} 12292 0);
+      listed = record { lines = λ message spans r e. reading-listed message r e; no-chain = not-chain-exact; is-dropped = dropped-exact };
     }

@@ -64,20 +64,32 @@ asked message t = record { connection = 5; message = message; tables = t; memory
 
 -- ---- the tables are sound and have their room
 
-pub plant-sound : (sound (plant 2 0) ≡ true) × (sound (plant 1 0) ≡ true) × (sound (plant 2 1) ≡ true)
+plant-sound : (sound (plant 2 0) ≡ true) × (sound (plant 1 0) ≡ true) × (sound (plant 2 1) ≡ true)
 unfolding sound withinRoom fileOk treeOk permits holdsOpen openOk soundRecords lockOk agree agreeAll soundLocks any all allTails contains numberOk numbered overlaps passesEnd fileOf plant
 plant-sound = (refl, refl, refl)
 
-pub plant-good : Good (plant 2 0)
+good : (access held : ℕ) → sound (plant access held) ≡ true → Good (plant access held)
 unfolding plant
-plant-good = record { sound = plant-sound .0; shaped = record { sessions16 = refl; trees32 = refl; opens64 = refl; locks128 = refl; files16 = refl } }
+good access held ok = record { sound = ok; shaped = record { sessions16 = refl; trees32 = refl; opens64 = refl; locks128 = refl; files16 = refl } }
+
+-- an open for both, one for writing, and the first beside the lock
+pub plant-good : Good (plant 2 0) × Good (plant 1 0) × Good (plant 2 1)
+plant-good = (good 2 0 (plant-sound .0), good 1 0 (plant-sound .1), good 2 1 (plant-sound .2))
 
 -- ---- fit to be answered, known, a sentence and not one
 
-answerable : (s : List ℕ) (t : Tables) → sound t ≡ true → dropped s ≡ false → Answerable (asked s t)
+answerable : (s : List ℕ) (t : Tables) → Good t → dropped s ≡ false → Answerable (asked s t)
 unfolding asked
 answerable s t ok kept =
-    record { room-enough = rw (length-replicate {A = ℕ} 12292 0) (omega arith); memory-whole = length-replicate {A = ℕ} 65536 0; tables-sound = ok; not-dropped = kept }
+    record {
+      fit = record {
+        room-enough = rw (length-replicate {A = ℕ} 12292 0) (omega arith);
+        memory-whole = length-replicate {A = ℕ} 65536 0;
+        tables-sound = ok .sound;
+        not-dropped = kept;
+      };
+      good = ok;
+    }
 
 -- document 01's message, a lock and a read
 kept-61 : dropped (message 61 []) ≡ false
@@ -85,7 +97,7 @@ unfolding dropped startsSmb isReply message
 kept-61 = refl
 
 pub chain-answerable : Answerable (asked (message 61 []) (plant 2 0))
-chain-answerable = answerable (message 61 []) (plant 2 0) (plant-sound .0) kept-61
+chain-answerable = answerable (message 61 []) (plant 2 0) (plant-good .0) kept-61
 
 pub chain-known : BeginsKnown (asked (message 61 []) (plant 2 0))
 unfolding asked message
@@ -106,7 +118,7 @@ kept-60 = refl
 
 pub no-chain : Answerable (asked (message 60 []) (plant 2 0)) × BeginsKnown (asked (message 60 []) (plant 2 0)) × (Sentence (message 60 []) → ⊥)
 unfolding asked message
-no-chain = (answerable (message 60 []) (plant 2 0) (plant-sound .0) kept-60, known-locking, message-60-none)
+no-chain = (answerable (message 60 []) (plant 2 0) (plant-good .0) kept-60, known-locking, message-60-none)
 
 -- ---- carried out, refused at its second command, refused for conflict
 
@@ -119,23 +131,23 @@ answers-given : answer-to (message 61 []) (plant 2 0) 0 0 34 × answer-to (messa
 unfolding asked message blocks blocksFrom blocksWithin afterParse afterBlock before parse parseLocking parseRead answer lockingFits readFits linkFits linkAt mayFollow shaped bare isLarge le16At le32At wideOffset rangeSize answered served runChain run afterGiven after perform doLocking withOpen withTree withSession isSession isTree isOpen openAt found foundFrom any servedType requestOf lockingAfter lockingEnd withLockList locking rangesAt rangeFrom rangeAt numberAt request afterReleases afterGrants grantAll afterWalk releaseAll afterFind removeAt rangePasses passesEnd askOf lockOf answers answersFor inWay bars named owns overlaps settle stored doRead unlessBarred barring asks fileOf callerOf areaOf dataOf status statusOf plant answer-to readBytes contents sizeOf replySize replyBlock refusedBlock linkTo linkWords two
 answers-given = ((refl, refl), (refl, refl), (refl, refl))
 
-call-says : (t : Tables) (ok : sound t ≡ true) (class code size : ℕ) → answer-to (message 61 []) t class code size
+call-says : (t : Tables) (ok : Good t) (class code size : ℕ) → answer-to (message 61 []) t class code size
     → Says (asked (message 61 []) t) class code × (gives (asked (message 61 []) t) .length ≡ 32 + size)
 unfolding asked answer-to
 call-says t ok class code size h =
-    let fit = answerable (message 61 []) t ok kept-61 in (
+    let fit = answerable (message 61 []) t ok kept-61 .fit in (
       status-call 5 (message 61 []) t (replicate 65536 0) (replicate 12292 0) fit ∙ h .0,
       length-call 5 (message 61 []) t (replicate 65536 0) (replicate 12292 0) fit ∙ ap (λ (n : ℕ). 32 + n) (h .1),
     )
 
 pub chain-done : Says (asked (message 61 []) (plant 2 0)) 0 0 × (gives (asked (message 61 []) (plant 2 0)) .length ≡ 66)
-chain-done = call-says (plant 2 0) (plant-sound .0) 0 0 34 (answers-given .0)
+chain-done = call-says (plant 2 0) (plant-good .0) 0 0 34 (answers-given .0)
 
 pub second-refused : Says (asked (message 61 []) (plant 1 0)) 1 5 × (gives (asked (message 61 []) (plant 1 0)) .length ≡ 42)
-second-refused = call-says (plant 1 0) (plant-sound .1) 1 5 10 (answers-given .1)
+second-refused = call-says (plant 1 0) (plant-good .1) 1 5 10 (answers-given .1)
 
 pub lock-refused : Says (asked (message 61 []) (plant 2 1)) 1 33 × (gives (asked (message 61 []) (plant 2 1)) .length ≡ 35)
-lock-refused = call-says (plant 2 1) (plant-sound .2) 1 33 3 (answers-given .2)
+lock-refused = call-says (plant 2 1) (plant-good .2) 1 33 3 (answers-given .2)
 
 -- ---- two messages that differ in a free byte and in length
 
