@@ -1,9 +1,9 @@
--- `host::load::fill_file` meets its contract: the copy stands in front and the cleared part behind it.
+-- `host::file::fill_file` meets its contract: the copy stands in front and the cleared part behind it.
 -- Assumes nothing.
 use Rattle.host.proofs.Loaded.{copied-cleared}
 use borrow.Author.Needs.{needs}
-use Rattle.host.proofs.load.fill_file.Statement.{statement}
-use Rattle.host.proofs.load.fill_file.Tie as tie
+use Rattle.host.proofs.file.fill_file.Statement.{statement}
+use Rattle.host.proofs.file.fill_file.Tie as tie
 
 copy-requires : tie.Need-copy-requires
 copy-requires c κs = search needs
