@@ -7,7 +7,7 @@ use mathlib.Core.List.{List, _++_, append-nil}
 use lib.ListN.{length, take, drop, replicate, length-append, length-replicate, length-take, length-drop, drop-of-length-le}
 use lib.Seq.{take-all, take-length, take-at, drop-drop}
 use lib.Dec.{eqb, ltb}
-use borrow.Author.Tests.{eq-eqb, ne-eqb, eqb-true, ltb-false, not-false}
+use borrow.Author.Tests.{eq-eqb, ne-eqb, ltb-false}
 use native.Mathlib.Omega.{arith}
 use Rattle.lists.specs.Put.{put}
 use Rattle.lists.specs.Truth.{neither-holds, both-hold, test-cases}
@@ -47,12 +47,11 @@ cond-zero true k x e = absurd (let z : ⊥ = omega arith in z)
 cond-zero false k x e = (refl, e)
 
 -- what is known of a load that is not refused
-pub record Loadable (file size memory : ℕ) : Type 0 where
-  pub whole-memory : memory ≡ 65536
+pub record Loadable (file size : ℕ) : Type 0 where
   pub known-file : file ≤ 15
   pub fitting : size ≤ 4096
 
-pub loadable : (t : Tables) (file size memory : ℕ) → loadNumber t file size memory ≡ 0 → Loadable file size memory
+pub loadable : (t : Tables) (file size memory : ℕ) → loadNumber t file size memory ≡ 0 → Loadable file size
 unfolding loadNumber
 loadable t file size memory e =
     let a = cond-zero (not (eqb memory 65536)) 1 _ e in
@@ -60,7 +59,6 @@ loadable t file size memory e =
     let c = cond-zero (ltb 15 file || ltb 4096 size) 6 _ (b .1) in
     let n = neither-holds (ltb 15 file) (ltb 4096 size) (c .0) in
     record {
-      whole-memory = eqb-true memory 65536 (not-false (eqb memory 65536) (a .0));
       known-file = ltb-false 15 file (n .0);
       fitting = ltb-false 4096 size (n .1);
     }

@@ -1,8 +1,6 @@
 // What a host call gives back (document 01, "What a call returns").
 
 use records::Tables;
-ghost use mathlib.Core.Path.{_≡_};
-ghost use Rattle.host.specs.HostCall.{refused, done};
 
 // The rows of the table, by number. Row 1 and the reply room of row 2 are a message's.
 pub const DONE: u8 = 0;
@@ -32,26 +30,4 @@ pub struct Answer {
 pub struct Outcome {
     pub number: u8,
     pub id: u16,
-}
-
-// A refusal: the tables as they were.
-pub(crate) fn refuse(t: Tables, number: u8) -> Answer
-    ensures { λ r. ⌜ r ≡ refused number t ⌝ }
-{
-    Answer {
-        number,
-        id: 0,
-        tables: t,
-    }
-}
-
-// A call carried out, with the number it gave out.
-pub(crate) fn finish(t: Tables, id: u16) -> Answer
-    ensures { λ r. ⌜ r ≡ done id t ⌝ }
-{
-    Answer {
-        number: DONE,
-        id,
-        tables: t,
-    }
 }

@@ -6,14 +6,15 @@ use crate::answer::NOT_SOUND;
 use crate::answer::OUT_OF_RANGE;
 use crate::answer::Outcome;
 use crate::answer::WRONG_ROOM;
-use crate::load::fill_file;
 use soundness::whole::is_sound;
 use tables::file::put_size;
 use tables::open::open_at;
+use wire::fill::clear;
 ghost use mathlib.Core.Path.{_≡_};
 ghost use mathlib.Core.Bool.{true};
-ghost use Prim.Native.Nat.{_≤_};
-ghost use lib.ListN.{length};
+ghost use mathlib.Core.List.{_++_};
+ghost use Prim.Native.Nat.{_-_, _≤_};
+ghost use lib.ListN.{length, replicate};
 ghost use Rattle.lists.specs.Walk.{any};
 ghost use Rattle.tables.specs.Words.{word, tablesOf};
 ghost use Rattle.tables.specs.Written.{opensIn};
@@ -53,6 +54,15 @@ fn load_number(words: &[u64], file: u8, size: usize) -> u8
         return FILE_OPEN;
     }
     DONE
+}
+
+// The bytes, and zeros behind them.
+fn fill_file(contents: &[u8], room: &mut [u8])
+    requires { ⌜ length (now contents) ≤ length (now room) ⌝ }
+    ensures { λ _. ⌜ now (room .exit) ≡ now (contents .entry) ++ replicate (length (now (room .entry)) - length (now (contents .entry))) 0 ⌝ }
+{
+    let n = bytes::copy(contents, room);
+    clear(&mut room[n..]);
 }
 
 // A load into sound tables and a whole file memory.

@@ -5,6 +5,5 @@ pub mod Removed
 pub mod Unlocked
 pub mod Granted
 pub mod Appended
-pub mod Settled
 pub mod Copied
 pub mod Settling

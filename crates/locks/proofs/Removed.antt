@@ -4,10 +4,10 @@ use mathlib.Core.Path.{_≡_, sym, ap, _∙_}
 use Prim.Native.Nat.{ℕ, suc, _+_, _-_, _≤_, _<_}
 use mathlib.Core.List.{List, [], _∷_, _++_, append-assoc, append-nil}
 use lib.ListN.{length, take, drop, getD, set, length-append, length-take, length-drop, drop-of-length-le, take-append-drop}
-use lib.Seq.{drop-cons, take-suc, take-at, split-at, length-take-le, take-append-le, drop-append-le, take-set-le, drop-set-lt, take-set-lt, set-at, getD-append-add, getD-drop}
+use lib.Seq.{drop-cons, take-suc, take-at, length-take-le, take-append-le, drop-append-le, set-at, getD-append-add, getD-drop}
 use native.Mathlib.Numerals.{add-one}
 use native.Mathlib.Omega.{arith}
-use Rattle.lists.specs.Stored.{stored, parted, parted-read, parted-empty, parted-fill}
+use Rattle.lists.specs.Stored.{stored}
 use Rattle.records.specs.declared.Lock.{Lock}
 use Rattle.locks.specs.Request.{removeAt}
 
@@ -15,11 +15,6 @@ use Rattle.locks.specs.Request.{removeAt}
 pub length-removeAt : (k : ℕ) (l : List Lock) → k < length l → length (removeAt k l) ≡ length l - 1
 unfolding removeAt
 length-removeAt k l h = simp (length-append, length-take, length-drop) (omega arith)
-
--- no list gets longer
-pub removeAt-shorter : (k : ℕ) (l : List Lock) → length (removeAt k l) ≤ length l
-unfolding removeAt
-removeAt-shorter k l = simp (length-append, length-take, length-drop) (omega arith)
 
 -- what stands behind the list stays
 removeAt-append : (k : ℕ) (l m : List Lock) → k < length l → removeAt k (l ++ m) ≡ removeAt k l ++ m
@@ -36,74 +31,7 @@ removeAt-last l x k e =
     let none : length (l ++ (x ∷ [])) ≤ suc k = simp length-append (omega arith) in
     rw (take-at l (x ∷ []) k e, drop-of-length-le (l ++ (x ∷ [])) none) (append-nil l)
 
--- what was written where the record is taken out does not matter
-removeAt-set : (k : ℕ) (l : List Lock) (z : Lock) → removeAt k (set l k z) ≡ removeAt k l
-unfolding removeAt
-removeAt-set k l z =
-    let e : k ≤ k = omega arith in
-    let f : k < suc k = omega arith in
-    rw (take-set-le k l k z e, drop-set-lt (suc k) l k z f)
-
-module _ (z : Lock) (place : ℕ) where
-  -- the array with the place's record taken out of the first i, and an empty record behind those
-  abbrev pub gone : List Lock → ℕ → List Lock
-  gone ys i = parted z (removeAt place (take i ys)) 1 (drop i ys)
-
-  -- an array whose place is empty
-  pub gone-start : (ys : List Lock) → place < length ys → getD ys place z ≡ z → ys ≡ gone ys (place + 1)
-  unfolding parted
-  gone-start ys h e =
-      let le : place ≤ length ys = omega arith in
-      let front : take (suc place) ys ≡ take place ys ++ (z ∷ []) = rw e at (take-suc ys place z h) in
-      let last : removeAt place (take (suc place) ys) ≡ take place ys =
-      ap (removeAt place) front ∙ removeAt-last (take place ys) z place (length-take-le place ys le)
-      in
-      let whole : ys ≡ take place ys ++ (z ∷ drop (suc place) ys) = rw e at (split-at ys place z h) in
-      rw (add-one place, last) whole
-
-  module _ (ys left : List Lock) (i : ℕ) (before : place < i) (within : i < length ys) (e : left ≡ gone ys i) where
-    -- the list without its record is shorter than i by one
-    long : length (removeAt place (take i ys)) + 1 ≡ i
-    long =
-        let taken : length (take i ys) ≡ i = length-take-le i ys (omega arith) in
-        let short : length (removeAt place (take i ys)) ≡ length (take i ys) - 1 = length-removeAt place (take i ys) (omega arith) in
-        omega arith
-
-    -- the array with the record that is next
-    opened : left ≡ parted z (removeAt place (take i ys)) 1 (getD ys i z ∷ drop (suc i) ys)
-    opened = e ∙ ap (parted z (removeAt place (take i ys)) 1) (drop-cons ys i z within)
-
-    -- the next record moves forward by one
-    pub gone-step : set (set left i z) (i - 1) (getD left i z) ≡ gone ys (i + 1)
-    gone-step =
-        let l = long in
-        let at : i ≡ length (removeAt place (take i ys)) + 1 = omega arith in
-        let to : i - 1 ≡ length (removeAt place (take i ys)) = omega arith in
-        let taken : length (take i ys) ≡ i = length-take-le i ys (omega arith) in
-        let read : getD left i z ≡ getD ys i z =
-        ap (λ (t : List Lock). getD t i z) opened ∙ parted-read z (removeAt place (take i ys)) 1 i (getD ys i z) (drop (suc i) ys) z at
-        in
-        let emptied : set left i z ≡ parted z (removeAt place (take i ys)) 2 (drop (suc i) ys) =
-        ap (λ (t : List Lock). set t i z) opened ∙ parted-empty z (removeAt place (take i ys)) 1 i (getD ys i z) (drop (suc i) ys) at
-        in
-        let more : removeAt place (take (suc i) ys) ≡ removeAt place (take i ys) ++ (getD ys i z ∷ []) =
-        ap (removeAt place) (take-suc ys i z within) ∙ removeAt-append place (take i ys) (getD ys i z ∷ []) (omega arith)
-        in
-        rw (read, emptied, add-one i, more)
-        (parted-fill z (removeAt place (take i ys)) 1 (i - 1) (getD ys i z) (drop (suc i) ys) to)
-
-  -- at the count the array holds the list without its record
-  pub gone-end : (xs : List Lock) (count : ℕ) → place < count → count ≤ length xs
-      → gone (set xs place z) count ≡ stored z xs count (removeAt place (take count xs))
-  unfolding parted stored
-  gone-end xs count h k =
-      let taken : length (take count xs) ≡ count = length-take-le count xs k in
-      let short : length (removeAt place (take count xs)) ≡ length (take count xs) - 1 = length-removeAt place (take count xs) (omega arith) in
-      let gap : count - length (removeAt place (take count xs)) ≡ 1 = omega arith in
-      let end : length (removeAt place (take count xs)) + 1 ≡ count = omega arith in
-      rw (take-set-lt count xs place z h, removeAt-set, drop-set-lt count xs place z h, gap, end)
-
--- ---- in place: each record behind the place moves forward by one, and the last is emptied in the end
+-- each record behind the place moves forward by one, and the last is emptied in the end
 
 module _ (xs : List Lock) (place : ℕ) where
   -- the array when the records up to i have moved: the last of them still stands where it stood, too

@@ -1,10 +1,10 @@
 -- The unlocks of a request, range by range, and the array that holds what they leave.
 -- Assumes nothing.
-use mathlib.Core.Path.{_≡_, refl, sym, ap, _∙_}
+use mathlib.Core.Path.{_≡_, sym, ap, _∙_}
 use Prim.Native.Nat.{ℕ, _-_, _≤_, _<_}
-use mathlib.Core.Bool.{Bool, true, false}
+use mathlib.Core.Bool.{Bool}
 use mathlib.Core.List.{List, [], _∷_}
-use mathlib.Core.Option.{Option, none, some}
+use mathlib.Core.Option.{none}
 use lib.ListN.{length, take}
 use lib.Seq.{length-take-le}
 use native.Mathlib.Omega.{arith}
@@ -21,9 +21,7 @@ use Rattle.locks.specs.Request.{askOf, removeAt, afterFind, releaseAll}
 use Rattle.locks.specs.declared.types.Ask.{Ask}
 use Rattle.locks.specs.declared.types.LockRange.{LockRange}
 use Rattle.locks.specs.declared.types.Purpose.the-variants.{Release}
-use Rattle.locks.specs.Released.{released}
-use Rattle.locks.specs.declared.release.Released.{Released}
-use Rattle.locks.proofs.Removed.{length-removeAt, removeAt-shorter}
+use Rattle.locks.proofs.Removed.{length-removeAt}
 
 module _ (file : ℕ → ℕ) (fid : ℕ) where
   -- `f` is what the walk for the lock of range r yields, by the range that was read and by what was asked
@@ -42,23 +40,6 @@ module _ (file : ℕ → ℕ) (fid : ℕ) where
     unfolding releaseAll afterFind
     release-stop rs e = rw (sought, e)
 
-  -- one unlock and what comes after it make no list longer
-  after-shorter : (f : Found) (list left : List Lock) (next : List Lock → Option (List Lock))
-      → ((m : List Lock) → next m ≡ some left → length left ≤ length m) → afterFind f list next ≡ some left → length left ≤ length list
-  unfolding afterFind
-  after-shorter (At k) list left next h e =
-      let a : length left ≤ length (removeAt k list) = h (removeAt k list) e in
-      let b : length (removeAt k list) ≤ length list = removeAt-shorter k list in
-      omega arith
-  after-shorter Nothing list left next h e = let no : _≡_ {A = ℕ} 0 1 = cc in omega arith
-
-  -- unlocks make no list longer
-  pub release-shorter : (rs : List LockRange) (list left : List Lock) → releaseAll file fid rs list ≡ some left → length left ≤ length list
-  unfolding releaseAll
-  release-shorter [] list left e = let same : list ≡ left = cc in rw same (omega arith)
-  release-shorter (r ∷ rs) list left e =
-      after-shorter (found (answers file (askOf fid Release r)) list) list left (releaseAll file fid rs) (λ m. release-shorter rs m left) e
-
 -- the array `left` holds a list of `held` records where `locks` held `count`
 pub record Left (locks : List Lock) (count : ℕ) (left : List Lock) (held : ℕ) : Type 0 where
   pub short : held ≤ count
@@ -72,7 +53,7 @@ left-start locks count h =
 
 module _ {locks : List Lock} {count : ℕ} {left : List Lock} {held : ℕ} (l : Left locks count left held) where
   -- a list stored there is as if it were stored in the first array
-  pub left-stored : (m : List Lock) → stored noLock left held m ≡ stored noLock locks count m
+  left-stored : (m : List Lock) → stored noLock left held m ≡ stored noLock locks count m
   left-stored m =
       let a = l .short in
       let b : length (take held left) ≤ count = rw (l .long) a in
@@ -83,11 +64,6 @@ module _ {locks : List Lock} {count : ℕ} {left : List Lock} {held : ℕ} (l : 
   -- a place found in the list is one of its records
   pub left-below : (p : Lock → Bool) (place : ℕ) → found p (take held left) ≡ At place → place < held
   left-below p place e = rw (l .long) at (found-below p (take held left) place e)
-
-  -- in the end it holds the list that is left
-  pub left-end : _≡_ {A = Released} (record { found = true; locks = left; count = held }) (released locks count (some (take held left)))
-  unfolding released
-  left-end = λ i. record { found = true; locks = l .holds i; count = sym (l .long) i }
 
   module _ {place : ℕ} (below : place < held) {next : List Lock} (e : next ≡ stored noLock left held (removeAt place (take held left))) where
     -- one record less
@@ -107,26 +83,3 @@ module _ {locks : List Lock} {count : ℕ} {left : List Lock} {held : ℕ} (l : 
         let a = l .short in
         let same : next ≡ stored noLock locks count (removeAt place (take held left)) = e ∙ left-stored (removeAt place (take held left)) in
         record { short = omega arith; long = rw left-list fewer; holds = rw left-list same }
-
--- where an unlock named no lock there is no list
-pub released-none : (locks : List Lock) (n : ℕ) (o : Option (List Lock)) → released locks n o .found ≡ false → o ≡ none
-unfolding released
-released-none locks n (some list) e = let no : _≡_ {A = ℕ} 0 1 = cc in absurd (omega arith)
-released-none locks n none e = refl
-
--- where each named one, the list that is left and the array that holds it
-pub record Unlocked (locks : List Lock) (n : ℕ) (o : Option (List Lock)) (r : Released) : Type 0 where
-  pub list : o ≡ some (take (r .count) (r .locks))
-  pub left : Left locks n (r .locks) (r .count)
-
--- the list and the array that holds it are what the result has
-pub released-some : (locks : List Lock) (n : ℕ) (o : Option (List Lock)) → ((list : List Lock) → o ≡ some list → length list ≤ n)
-    → released locks n o .found ≡ true → Unlocked locks n o (released locks n o)
-unfolding released
-released-some locks n (some list) h e =
-    let front : take (length list) (stored noLock locks n list) ≡ list = take-stored noLock locks n list in
-    record {
-      list = ap some (sym front);
-      left = record { short = h list refl; long = ap length front; holds = ap (stored noLock locks n) (sym front) };
-    }
-released-some locks n none h e = let no : _≡_ {A = ℕ} 0 1 = cc in absurd (omega arith)

@@ -2,6 +2,5 @@ pub mod Range
 pub mod Wire
 pub mod Answer
 pub mod Request
-pub mod Released
 pub mod Blocked
 pub mod Changed

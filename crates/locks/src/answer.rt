@@ -1,14 +1,10 @@
-// One listed lock against what is asked, and the walk from the front of the list to the first lock
-// that answers. Locks, reads, writes and unlocks all go by this one walk.
+// One listed lock against what is asked, for locks, reads, writes and unlocks alike.
 
 use crate::range::overlap;
 use crate::types::Ask;
 use crate::types::Purpose;
-use lists::Found;
 use records::Lock;
 ghost use mathlib.Core.Path.{_≡_};
-ghost use lib.ListN.{take};
-ghost use Rattle.lists.specs.Walk.{found};
 ghost use Rattle.locks.specs.Answer.{fileIn, owns, bars, inWay, named, answers};
 
 // The file of a FID, 255 where the table has none.
@@ -96,22 +92,4 @@ pub fn answering(files: &[u8; 65], q: Ask, l: Lock) -> bool
         Purpose::Write => in_way(files, q, l),
         Purpose::Release => is_named(q, l),
     }
-}
-
-// The place of the first listed lock that answers what is asked.
-pub fn first_answer(files: &[u8; 65], locks: [Lock; 128], count: usize, q: Ask) -> Found
-    ensures { λ r. ⌜ r ≡ found (answers (fileIn (now (files .entry))) q) (take count locks) ⌝ }
-{
-    let mut i: usize = 0;
-    while i < 128 {
-        if count <= i {
-            return Found::Nothing;
-        }
-        let l = locks[i];
-        if answering(files, q, l) {
-            return Found::At(i);
-        }
-        i += 1;
-    }
-    Found::Nothing
 }

@@ -14,7 +14,7 @@ use Rattle.tables.specs.Written.{sessionsIn, treesIn, opensIn}
 use Rattle.tables.specs.ArrayLaws.{length-upTo, getD-upTo, upTo-same}
 use Rattle.numbers.specs.Number.{contains}
 use Rattle.numbers.specs.Column.{uidOf, tidOf, fidOf}
-use Rattle.numbers.specs.ByNumber.{byNumber, length-byNumber, byNumber-at, byNumber-cons, byNumber-past, entry-mark}
+use Rattle.numbers.specs.ByNumber.{byNumber, byNumber-at, byNumber-cons, byNumber-past, entry-mark}
 
 -- the numbers of the first n records of k words each
 unfoldable pub numbersIn : ℕ → ℕ → List ℕ → List ℕ
@@ -91,10 +91,6 @@ number-inside k n i room h l fits =
     omega arith
 
 -- ---- marks
-
-pub length-marksOf : (xs : List ℕ) → length (marksOf xs) ≡ 66
-unfolding marksOf
-length-marksOf xs = length-byNumber (λ x. x) (λ _. 1) 0 66 xs
 
 map-same : (xs : List ℕ) → map (λ x. x) xs ≡ xs
 map-same [] = refl

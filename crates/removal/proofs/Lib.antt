@@ -1,4 +1,3 @@
-pub mod Swept
 pub mod Marking
 pub mod Filtering
 pub mod Removing

@@ -13,14 +13,13 @@ use Rattle.lists.specs.Truth.{both-hold}
 use Rattle.lists.specs.Walk.{any, all, allTails}
 use Rattle.locks.specs.Range.{passesEnd}
 use Rattle.locks.specs.Answer.{fileIn}
-use Rattle.records.specs.declared.Session.{Session}
 use Rattle.records.specs.declared.Tree.{Tree}
 use Rattle.records.specs.declared.Tables.{Tables}
 use Rattle.records.specs.declared.Open.{Open}
 use Rattle.numbers.specs.Number.{contains, numberOk, numbered}
-use Rattle.numbers.specs.Column.{uidOf, tidOf, fidOf}
+use Rattle.numbers.specs.Column.{fidOf}
 use Rattle.soundness.specs.File.{fileOf, fileTable, fileTable-at, length-fileTable}
-use Rattle.soundness.specs.Sound.{withinRoom, treeOk, openOk, lockOk, soundRecords, sound}
+use Rattle.soundness.specs.Sound.{withinRoom, openOk, lockOk, sound}
 use Rattle.soundness.specs.LockFits.{lockFits}
 
 -- what the test of the counts says
@@ -94,14 +93,3 @@ unfolding sound
 sound-room t e =
     room (t .nsessions) (t .ntrees) (t .nopens) (t .nlocks)
     (both-hold (withinRoom (t .nsessions) (t .ntrees) (t .nopens) (t .nlocks)) _ e .0)
-
--- what sound records say of the opens: their numbers are in order, and each open's rule holds
-pub records-opens : (ss : List Session) (ts : List Tree) (os : List Open) → soundRecords ss ts os ≡ true
-    → (numbered 64 (map fidOf os) ≡ true) × (all (openOk ts) os ≡ true)
-unfolding soundRecords
-records-opens ss ts os e =
-    let a = both-hold (numbered 16 (map uidOf ss)) _ e in
-    let b = both-hold (numbered 32 (map tidOf ts)) _ (a .1) in
-    let c = both-hold (numbered 64 (map fidOf os)) _ (b .1) in
-    let d = both-hold (all (treeOk (map uidOf ss)) ts) (all (openOk ts) os) (c .1) in
-    (c .0, d .1)

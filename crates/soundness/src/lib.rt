@@ -1,16 +1,10 @@
-// Soundness of the tables (document 01, "Tables and room"): `sound::is_sound` tests it, for any bytes in
-// the tables. `tree` looks a tree up, and `file_table` gives the file of each FID.
+// Soundness of the tables (document 01, "Tables and room"): `whole::is_sound` tests it, for any words that
+// the host lends. `tree_words` looks a tree up, and `open_words::file_table` gives the file of each FID.
 
 mod by_number;
-mod file;
-pub mod file_table;
 mod file_words;
-mod lock;
 mod lock_words;
-mod open;
 pub mod open_words;
 mod session_words;
-pub mod sound;
-pub mod tree;
 pub mod tree_words;
 pub mod whole;

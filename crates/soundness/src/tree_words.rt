@@ -2,10 +2,9 @@
 
 use crate::by_number::is_marked;
 use crate::by_number::number_free;
-use crate::tree::holding;
-use crate::tree::tree_is;
 use numbers::number::at_most;
 use records::Open;
+use records::Tree;
 use tables::tree::tree_at;
 ghost use mathlib.Core.Path.{_≡_};
 ghost use Prim.Native.Nat.{_<_, _≤_};
@@ -14,7 +13,7 @@ ghost use Rattle.lists.specs.Walk.{any};
 ghost use Rattle.numbers.specs.Column.{tidOf};
 ghost use Rattle.tables.specs.Words.{word, recordAt, treeOf, treeLimits};
 ghost use Rattle.tables.specs.Written.{treesIn};
-ghost use Rattle.soundness.specs.Sound.{holdsOpen};
+ghost use Rattle.soundness.specs.Sound.{permits, holdsOpen};
 ghost use Rattle.soundness.specs.Lookup.{isTree};
 ghost use Rattle.numbers.specs.ByNumber.{byNumber};
 ghost use Rattle.soundness.specs.InWords.{tableInOrder, Told, treeCode, treeIn, treeStands};
@@ -63,6 +62,29 @@ pub(crate) fn trees_marked(uids: &[u8; 17], words: &[u64]) -> Trees
     Trees { sound: true, codes }
 }
 
+// Whether a tree's right permits an open's access.
+fn right_permits(right: u8, access: u8) -> bool
+    ensures { λ r. ⌜ r ≡ permits right access ⌝ }
+{
+    if 1 <= right {
+        return true;
+    }
+    access == 0
+}
+
+// Whether the tree is the open's own and permits its access.
+fn holding(o: Open, t: Tree) -> bool
+    ensures { λ r. ⌜ r ≡ holdsOpen o t ⌝ }
+{
+    if t.tid != o.tid {
+        return false;
+    }
+    if t.uid != o.uid {
+        return false;
+    }
+    right_permits(t.right, o.access)
+}
+
 // Whether a tree in use holds the open.
 pub fn some_tree_holds(words: &[u64], o: Open) -> bool
     requires { ⌜ length (now words) ≡ 97 ⌝ }
@@ -77,6 +99,16 @@ pub fn some_tree_holds(words: &[u64], o: Open) -> bool
         i += 1;
     }
     false
+}
+
+// Whether the tree has that TID and is of that session.
+fn tree_is(t: Tree, tid: u16, uid: u16) -> bool
+    ensures { λ r. ⌜ r ≡ isTree tid uid t ⌝ }
+{
+    if t.tid != tid {
+        return false;
+    }
+    t.uid == uid
 }
 
 // Whether a tree in use has that TID and is of that session.
