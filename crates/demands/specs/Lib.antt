@@ -31,6 +31,7 @@ pub mod WireFields
 pub mod Effects
 pub mod LockEffects
 pub mod FirstReadings
+pub mod LockReasons
 pub mod SpansOneByOne
 pub mod SpansRefused
 pub mod Ready
