@@ -34,4 +34,5 @@ pub mod FirstReadings
 pub mod LockReasons
 pub mod SpansOneByOne
 pub mod SpansRefused
+pub mod SpansFit
 pub mod Ready

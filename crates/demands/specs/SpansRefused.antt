@@ -72,9 +72,13 @@ module _ (connection : ℕ) (s small : List ℕ) where
 
 -- ---- every block's message is read as one block
 
-data AllLone (s : List ℕ) : List Block → Type 0 where
+-- the block at 32, where it stands in its own message
+unfoldable pub atFirst : Span → Span
+atFirst b = record { command = b .command; place = FIRST; size = b .size }
+
+pub data AllLone (s : List ℕ) : List Block → Type 0 where
   lone-none : AllLone s []
-  lone-then : {b d : Block} {bs : List Block} → blocks (alone s b) ≡ some (d ∷ []) → AllLone s bs → AllLone s (b ∷ bs)
+  lone-then : {b d : Block} {bs : List Block} → blocks (alone s b) ≡ some (d ∷ []) → spanOf d ≡ atFirst (spanOf b) → AllLone s bs → AllLone s (b ∷ bs)
 
 lone-block : {s : List ℕ} {command at : ℕ} (nx : Next) → IsBlock s at command → 32 ≤ at → length s ≤ 8192
     → blocks (alone s (blockAt s command at nx)) ≡ some (movedAlone s command at FIRST ∷ [])
@@ -84,18 +88,22 @@ lone-block {s} {command} {at} nx h from small =
     let m : Moved s at (alone s (blockAt s command at nx)) FIRST command = alone-moved (blockAt s command at nx) h refl from small in
     alone-blocks (alone s (blockAt s command at nx)) h m (alone-command s (blockAt s command at nx) (omega arith)) (alone-ends (blockAt s command at nx) h refl from)
 
-all-lone : {s : List ℕ} {command at : ℕ} {bs : List Block} → Chained s command at bs → 32 ≤ at → length s ≤ 8192 → AllLone s bs
-all-lone (chained-end h l) from small = lone-then (lone-block End h from small) lone-none
+lone-span : (s : List ℕ) (command at : ℕ) (nx : Next) → spanOf (movedAlone s command at FIRST) ≡ atFirst (spanOf (blockAt s command at nx))
+unfolding blockAt movedAlone spanOf atFirst
+lone-span s command at nx = refl
+
+pub all-lone : {s : List ℕ} {command at : ℕ} {bs : List Block} → Chained s command at bs → 32 ≤ at → length s ≤ 8192 → AllLone s bs
+all-lone {s} (chained-end {command} {at} h l) from small = lone-then (lone-block End h from small) (lone-span s command at End) lone-none
 all-lone {s} (chained-more {command} {at} {c} {a} h l r) from small =
     let g : blockEnd s at ≤ a = behind c a l refl in
     let i : 32 ≤ a = omega arith in
-    lone-then (lone-block (Follow c a) h from small) (all-lone r i small)
+    lone-then (lone-block (Follow c a) h from small) (lone-span s command at (Follow c a)) (all-lone r i small)
 
 -- ---- a message that is carried out, and the calls
 
 module _ (connection : ℕ) (s small : List ℕ) where
   -- the messages of the blocks behind it get what it left
-  carried-calls : (b : Span) (bs : List Span) (t : Tables) (memory : List ℕ) → carriedOut (sent connection s small b t memory) ≡ true
+  pub carried-calls : (b : Span) (bs : List Span) (t : Tables) (memory : List ℕ) → carriedOut (sent connection s small b t memory) ≡ true
       → (calls connection s small (b ∷ bs) t memory .tables
       ≡ calls connection s small bs (sent connection s small b t memory .tables) (sent connection s small b t memory .memory) .tables)
       × (calls connection s small (b ∷ bs) t memory .memory
@@ -149,10 +157,10 @@ module _ (connection : ℕ) (s small : List ℕ) where
   -- ---- the message of one of the reader's blocks, fit to be answered
 
   module _ (b : Block) (t : Tables) (memory : List ℕ) (fits : Fit (alone s b) t memory small) where
-    abbrev ran : Ran
+    abbrev pub ran : Ran
     ran = answered connection (alone s b) t memory
 
-    abbrev taken : Taken
+    abbrev pub taken : Taken
     taken = sent connection s small (spanOf b) t memory
 
     taken-alone : taken ≡ take-message connection (alone s b) t memory small
@@ -168,11 +176,11 @@ module _ (connection : ℕ) (s small : List ℕ) where
         ∙ ap statusZero (reply-read (alone s b) small ran)
         ∙ status-read (alone s b) ran (answered-small connection (alone s b) t memory)
 
-    tables-is : taken .tables ≡ ran .tables
+    pub tables-is : taken .tables ≡ ran .tables
     unfolding replied
     tables-is = ap (λ (x : Taken). x .tables) taken-is
 
-    memory-is : taken .memory ≡ ran .memory
+    pub memory-is : taken .memory ≡ ran .memory
     unfolding replied
     memory-is = ap (λ (x : Taken). x .memory) taken-is
 
@@ -256,7 +264,7 @@ module _ (connection : ℕ) (s small : List ℕ) where
       → (sendAll connection s bs t memory .status ≡ status 0 0 → ⊥)
       → RefusedAt connection s small (map spanOf bs) t memory (sendAll connection s bs t memory .status) (sendAll connection s bs t memory .tables) (sendAll connection s bs t memory .memory)
   stopped {t = t} {memory = memory} enough none-left lone-none n = absurd (n (send-none t memory))
-  stopped {t = t} {memory = memory} enough (next-fits {b} {bs} fit more) (lone-then {d = d} one rest) n =
+  stopped {t = t} {memory = memory} enough (next-fits {b} {bs} fit more) (lone-then {d = d} one there rest) n =
       stopped-by b bs t memory (fit small enough) d one n (λ z. stopped enough more rest z)
 
 -- "A command refused changes no table and no file byte, its own unlocks included. Commands before it in the chain stand; those after it aren't begun": of any
