@@ -169,7 +169,7 @@ module _ (connection : ℕ) (s small : List ℕ) where
     taken-is : taken ≡ replied (alone s b) small ran
     taken-is = taken-alone ∙ fit-answered connection (alone s b) t memory small fits
 
-    carried-is : carriedOut taken ≡ succeeded (ran .status)
+    pub carried-is : carriedOut taken ≡ succeeded (ran .status)
     unfolding carriedOut replied
     carried-is =
         ap carriedOut taken-is
@@ -191,7 +191,7 @@ module _ (connection : ℕ) (s small : List ℕ) where
     status-is : statusRead (taken .room) ≡ ran .status
     status-is = ap (λ (x : Taken). statusRead (x .room)) taken-alone ∙ status-call connection (alone s b) t memory small fits
 
-    not-zero : succeeded (ran .status) ≡ false → ran .status ≡ status 0 0 → ⊥
+    pub not-zero : succeeded (ran .status) ≡ false → ran .status ≡ status 0 0 → ⊥
     unfolding succeeded status
     not-zero e z = not-decided-twice (succeeded (ran .status)) (ap succeeded z) e
 
@@ -227,20 +227,20 @@ module _ (connection : ℕ) (s small : List ℕ) where
   send-none t memory = refl
 
   module _ (b : Block) (bs : List Block) (t : Tables) (memory : List ℕ) where
-    abbrev gave : Ran
+    abbrev pub gave : Ran
     gave = answered connection (alone s b) t memory
 
-    abbrev whole : Sent
+    abbrev pub whole : Sent
     whole = sendAll connection s (b ∷ bs) t memory
 
     -- what the messages leave is what those behind one carried out leave, or what the one refused does
-    send-on : succeeded (gave .status) ≡ true
+    pub send-on : succeeded (gave .status) ≡ true
         → (whole .status ≡ sendAll connection s bs (gave .tables) (gave .memory) .status) × (whole .tables ≡ sendAll connection s bs (gave .tables) (gave .memory) .tables)
         × (whole .memory ≡ sendAll connection s bs (gave .tables) (gave .memory) .memory)
     unfolding sendAll sendOn replyThen
     send-on e = rw e (refl, refl, refl)
 
-    send-off : succeeded (gave .status) ≡ false → (whole .status ≡ gave .status) × (whole .tables ≡ gave .tables) × (whole .memory ≡ gave .memory)
+    pub send-off : succeeded (gave .status) ≡ false → (whole .status ≡ gave .status) × (whole .tables ≡ gave .tables) × (whole .memory ≡ gave .memory)
     unfolding sendAll sendOn
     send-off e = rw e (refl, refl, refl)
 
