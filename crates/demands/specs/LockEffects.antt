@@ -1,13 +1,13 @@
 -- What a LOCKING that is done leaves (document 01, "Locks, reads and writes": "Unlocks go first, in order: each removes the earliest listed lock with equal FID,
 -- process, offset and length. Then locks in order, each against the list as it stands"), said of the call and of the message's bytes: every field of every lock
 -- is one of the message's. Assumes nothing.
-use mathlib.Core.Path.{_≡_, refl, sym, ap, _∙_}
+use mathlib.Core.Path.{_≡_, refl, ap, _∙_}
 use mathlib.Core.Logic.{_↔_}
-use Prim.Native.Nat.{ℕ, zero, suc, min, _+_, _*_, _/_, _%_, _^_, _≤_, _<_}
+use Prim.Native.Nat.{ℕ, zero, suc, min, _+_, _*_, _/_, _%_, _≤_, _<_}
 use native.Mathlib.Omega.{arith}
-use mathlib.Core.Bool.{Bool, true, false, cond}
+use mathlib.Core.Bool.{Bool, true, false}
 use mathlib.Core.List.{List, [], _∷_, _++_}
-use lib.ListN.{length, take, drop, length-take}
+use lib.ListN.{length, drop, length-take}
 use lib.Seq.{getD-take, getD-drop}
 use lib.Dec.{eqb}
 use borrow.Author.Tests.{eqb-true, eqb-false, eq-eqb}
@@ -22,7 +22,6 @@ use Rattle.locks.specs.declared.types.LockRange.{LockRange}
 use Rattle.chain.specs.Layout.{LOCKING, headerCommand, FIRST, byteArea, byteCount, fidAfterAndx, lockType, unlockCount, lockCount}
 use Rattle.chain.specs.Grammar.{Span, Reading}
 use Rattle.chain.specs.Chain.{blocks}
-use Rattle.chain.specs.declared.block.LockingFields.{LockingFields}
 use Rattle.chain.specs.declared.block.Block.{Block}
 use Rattle.chain.specs.declared.block.Body.the-variants.{Locking as LockingBody}
 use Rattle.invariants.specs.BlockParse.{bodyAt}
@@ -39,8 +38,8 @@ use Rattle.demands.specs.Admitted.{Admitted}
 use Rattle.demands.specs.LoneLock.{InWay, sharedIn}
 use Rattle.demands.specs.LoneCall.{area-first, lockingFields, lockingArea}
 use Rattle.demands.specs.LockWords.{TakenOut, Released, none-to-release, release-then, AllGranted, none-to-grant, grant-then}
-use Rattle.demands.specs.LockLeaves.{LocksLeft, locking-leaves}
-use Rattle.demands.specs.CommandReasons.{Announced, unlocksIn, locksIn}
+use Rattle.demands.specs.LockLeaves.{locking-leaves}
+use Rattle.demands.specs.CommandReasons.{Announced}
 use Rattle.demands.specs.ReasonCalls.{one-announced}
 use Rattle.demands.specs.DoneCall.{past-open}
 use Rattle.demands.specs.CallEffects.{gives-body, the-command}

@@ -2,10 +2,9 @@
 -- ranges are where the message has them, and each lock is told by its fields. Assumes nothing.
 use mathlib.Core.Path.{_≡_, sym, ap, subst, _∙_}
 use mathlib.Core.Logic.{_↔_, inl, inr}
-use Prim.Native.Nat.{ℕ, zero, suc, _+_, _*_, _/_, _%_, _^_, _≤_, _<_}
+use Prim.Native.Nat.{ℕ, zero, suc, _+_, _*_, _%_, _^_, _≤_, _<_}
 use native.Mathlib.Omega.{arith}
 use native.Mathlib.Decide.{ℕ-discrete}
-use mathlib.Core.Bool.{true}
 use mathlib.Core.List.{List, [], _∷_, _++_, List·Memᴰ as In, List·Memᴰ·head as here, List·Memᴰ·tail as there, List·Memᴰ·cases-cons as first-or-later}
 use lib.ListN.{length}
 use lib.Dec.{eqb}
@@ -27,7 +26,7 @@ use Rattle.message.specs.declared.refusal.Status.{Status}
 use Rattle.message.specs.Message.{take-message}
 use Rattle.demands.specs.Calls.{statusRead}
 use Rattle.demands.specs.Admitted.{Admitted, NoOpenFor}
-use Rattle.demands.specs.LoneLock.{InWay, sharedIn}
+use Rattle.demands.specs.LoneLock.{sharedIn}
 use Rattle.demands.specs.LoneCall.{FirstConflict, lockingFields, lone-lock-reading}
 use Rattle.demands.specs.LockWords.{Named, TakenOut, Released, none-to-release, release-then, Unnamed, names-none, later-names-none, PastEnd, AllGranted, none-to-grant, grant-then, OneBlocked, blocked-here, blocked-later}
 use Rattle.demands.specs.CommandReasons.{OnlyTwoBits, LockingStatus, locking-not, locking-type, locking-unnamed, locking-past, locking-blocked, locking-full, locking-done}

@@ -21,22 +21,22 @@ use Rattle.invariants.specs.BlockParse.{bodyAt}
 use Rattle.invariants.specs.ReaderSound.{spanOf, reader-sound}
 use Rattle.invariants.specs.Chained.{read-chained}
 use Rattle.invariants.specs.Sound.{Good, answered-good}
-use Rattle.invariants.specs.Fit.{Fit, fit-answered}
+use Rattle.invariants.specs.Fit.{Fit}
 use Rattle.readings.specs.ReaderComplete.{reader-complete}
 use Rattle.message.specs.Caller.{callerOf}
 use Rattle.message.specs.Refusal.{status}
 use Rattle.message.specs.declared.refusal.Status.{Status}
-use Rattle.message.specs.Message.{Ran, answered, replied, take-message}
+use Rattle.message.specs.Message.{Ran, answered, take-message}
 use Rattle.demands.specs.Alone.{alone}
 use Rattle.demands.specs.OneByOne.{succeeded, sendAll, compared, one-by-one}
 use Rattle.demands.specs.Taken.{not-long, AllFit, none-left, next-fits, all-fit}
-use Rattle.demands.specs.CallsOneByOne.{carriedOut, statusZero, status-read, reply-read, answered-small}
+use Rattle.demands.specs.CallsOneByOne.{carriedOut}
 use Rattle.demands.specs.Calls.{statusRead, status-call}
 use Rattle.demands.specs.LoneCall.{lockingArea}
 use Rattle.demands.specs.CommandReasons.{Reason}
 use Rattle.demands.specs.FirstReadings.{reading-exact}
 use Rattle.demands.specs.SpansOneByOne.{aloneSpan, alone-span, callSpans}
-use Rattle.demands.specs.SpansRefused.{sent, calls, AllCarried, none-sent, carried-then, RefusedAt, atFirst, AllLone, lone-none, lone-then, all-lone, carried-calls, carried-is, tables-is, memory-is, not-zero, send-on, send-off}
+use Rattle.demands.specs.SpansRefused.{sent, calls, AllCarried, none-sent, carried-then, RefusedAt, atFirst, AllLone, lone-none, lone-then, all-lone, carried-succeeds, carried-calls, carried-is, tables-is, memory-is, not-zero, send-on, send-off}
 
 -- a block's message on these tables and this file memory: good tables, fit to be answered, and read as that block at 32
 pub record SentFit (s small : List ℕ) (b : Span) (t : Tables) (memory : List ℕ) : Type 0 where
@@ -109,13 +109,11 @@ zero-status n e =
 -- a message fit to be answered is carried out exactly if its reply's Status is 0/0
 pub carried-exact : (connection : ℕ) (message : List ℕ) (t : Tables) (memory room : List ℕ) → Fit message t memory room
     → (carriedOut (take-message connection message t memory room) ≡ true) ↔ (statusRead (take-message connection message t memory room .room) ≡ status 0 0)
-unfolding carriedOut replied succeeded status
+unfolding succeeded status
 carried-exact connection message t memory room fit =
-    let ran = answered connection message t memory in
-    let same : carriedOut (take-message connection message t memory room) ≡ succeeded (ran .status) =
-    ap carriedOut (fit-answered connection message t memory room fit) ∙ ap statusZero (reply-read message room ran) ∙ status-read message ran (answered-small connection message t memory) in
+    let same = carried-succeeds connection message t memory room fit in
     let read = status-call connection message t memory room fit in (
-      λ e. read ∙ zero-status (ran .status) (sym same ∙ e),
+      λ e. read ∙ zero-status (answered connection message t memory .status) (sym same ∙ e),
       λ z. same ∙ ap succeeded (sym read ∙ z),
     )
 

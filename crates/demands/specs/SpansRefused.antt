@@ -101,6 +101,16 @@ all-lone {s} (chained-more {command} {at} {c} {a} h l r) from small =
 
 -- ---- a message that is carried out, and the calls
 
+-- a message fit to be answered is carried out just if it succeeds
+pub carried-succeeds : (connection : ℕ) (message : List ℕ) (t : Tables) (memory room : List ℕ) → Fit message t memory room
+    → carriedOut (take-message connection message t memory room) ≡ succeeded (answered connection message t memory .status)
+unfolding carriedOut replied
+carried-succeeds connection message t memory room fit =
+    let ran = answered connection message t memory in
+    ap carriedOut (fit-answered connection message t memory room fit)
+    ∙ ap statusZero (reply-read message room ran)
+    ∙ status-read message ran (answered-small connection message t memory)
+
 module _ (connection : ℕ) (s small : List ℕ) where
   -- the messages of the blocks behind it get what it left
   pub carried-calls : (b : Span) (bs : List Span) (t : Tables) (memory : List ℕ) → carriedOut (sent connection s small b t memory) ≡ true
@@ -170,11 +180,7 @@ module _ (connection : ℕ) (s small : List ℕ) where
     taken-is = taken-alone ∙ fit-answered connection (alone s b) t memory small fits
 
     pub carried-is : carriedOut taken ≡ succeeded (ran .status)
-    unfolding carriedOut replied
-    carried-is =
-        ap carriedOut taken-is
-        ∙ ap statusZero (reply-read (alone s b) small ran)
-        ∙ status-read (alone s b) ran (answered-small connection (alone s b) t memory)
+    carried-is = ap carriedOut taken-alone ∙ carried-succeeds connection (alone s b) t memory small fits
 
     pub tables-is : taken .tables ≡ ran .tables
     unfolding replied
