@@ -4,7 +4,7 @@ use mathlib.Core.Path.{_≡_, sym, ap, _∙_}
 use Prim.Native.Nat.{ℕ, min, _+_, _-_, _*_, _≤_, _<_}
 use native.Mathlib.Omega.{arith}
 use mathlib.Core.List.{List, [], _∷_}
-use lib.ListN.{length, take, drop, getD}
+use lib.ListN.{length, drop, getD}
 use lib.Seq.{getD-take, getD-drop}
 use Rattle.wire.specs.LittleEndian.{byteAt, le16At}
 use Rattle.records.specs.declared.Open.{Open}
@@ -13,7 +13,7 @@ use Rattle.claims.specs.RemovalPlain.{Closed, Disconnected, LoggedOff, Exited}
 use Rattle.chain.specs.Layout.{CLOSE, PROCESS_EXIT, READ, WRITE, TREE_DISCONNECT, LOGOFF, headerCommand, FIRST, fidAfterAndx, readMax, dataLength, dataOffset, closeFid}
 use Rattle.chain.specs.Grammar.{Span, Reading}
 use Rattle.chain.specs.Parse.{wideOffset}
-use Rattle.chain.specs.declared.block.Body.the-variants.{Read as ReadBody, Write as WriteBody, Close, Logoff, TreeDisconnect, ProcessExit}
+use Rattle.chain.specs.declared.block.Body.the-variants.{Write as WriteBody}
 use Rattle.invariants.specs.BlockParse.{bodyAt}
 use Rattle.invariants.specs.Sound.{Good}
 use Rattle.invariants.specs.Fit.{Fit}

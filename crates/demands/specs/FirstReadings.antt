@@ -1,6 +1,6 @@
 -- Refusals for conflict and the status of a message with its one reason (document 01, "Locks, reads and writes" and "Refusals on the wire"), said of the call and of
 -- the message's bytes: of any reading for the first command, and of a reading of one block for every status. Assumes nothing.
-use mathlib.Core.Path.{_≡_, ap, _∙_}
+use mathlib.Core.Path.{_≡_}
 use mathlib.Core.Logic.{_↔_}
 use Prim.Native.Nat.{ℕ}
 use mathlib.Core.Bool.{false}

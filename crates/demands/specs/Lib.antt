@@ -31,7 +31,9 @@ pub mod WireFields
 pub mod Effects
 pub mod LockEffects
 pub mod FirstReadings
+pub mod LockReasons
 pub mod SpansOneByOne
 pub mod SpansRefused
+pub mod SpansFit
 pub mod Ready
 pub mod Exported

@@ -1,13 +1,13 @@
 -- What a LOCKING that is done leaves (document 01, "Locks, reads and writes": "Unlocks go first, in order: each removes the earliest listed lock with equal FID,
 -- process, offset and length. Then locks in order, each against the list as it stands"), said of the call and of the message's bytes: every field of every lock
 -- is one of the message's. Assumes nothing.
-use mathlib.Core.Path.{_≡_, refl, sym, ap, _∙_}
+use mathlib.Core.Path.{_≡_, refl, ap, _∙_}
 use mathlib.Core.Logic.{_↔_}
-use Prim.Native.Nat.{ℕ, zero, suc, min, _+_, _*_, _/_, _%_, _^_, _≤_, _<_}
+use Prim.Native.Nat.{ℕ, zero, suc, min, _+_, _*_, _/_, _%_, _≤_, _<_}
 use native.Mathlib.Omega.{arith}
-use mathlib.Core.Bool.{Bool, true, false, cond}
+use mathlib.Core.Bool.{Bool, true, false}
 use mathlib.Core.List.{List, [], _∷_, _++_}
-use lib.ListN.{length, take, drop, length-take}
+use lib.ListN.{length, drop, length-take}
 use lib.Seq.{getD-take, getD-drop}
 use lib.Dec.{eqb}
 use borrow.Author.Tests.{eqb-true, eqb-false, eq-eqb}
@@ -22,7 +22,7 @@ use Rattle.locks.specs.declared.types.LockRange.{LockRange}
 use Rattle.chain.specs.Layout.{LOCKING, headerCommand, FIRST, byteArea, byteCount, fidAfterAndx, lockType, unlockCount, lockCount}
 use Rattle.chain.specs.Grammar.{Span, Reading}
 use Rattle.chain.specs.Chain.{blocks}
-use Rattle.chain.specs.declared.block.LockingFields.{LockingFields}
+use Rattle.chain.specs.declared.block.Block.{Block}
 use Rattle.chain.specs.declared.block.Body.the-variants.{Locking as LockingBody}
 use Rattle.invariants.specs.BlockParse.{bodyAt}
 use Rattle.invariants.specs.Chained.{read-chained}
@@ -36,10 +36,10 @@ use Rattle.message.specs.Message.{areaOf, Taken, take-message}
 use Rattle.demands.specs.Calls.{statusRead}
 use Rattle.demands.specs.Admitted.{Admitted}
 use Rattle.demands.specs.LoneLock.{InWay, sharedIn}
-use Rattle.demands.specs.LoneCall.{lockingFields, lockingArea}
+use Rattle.demands.specs.LoneCall.{area-first, lockingFields, lockingArea}
 use Rattle.demands.specs.LockWords.{TakenOut, Released, none-to-release, release-then, AllGranted, none-to-grant, grant-then}
-use Rattle.demands.specs.LockLeaves.{LocksLeft, locking-leaves}
-use Rattle.demands.specs.CommandReasons.{Announced, unlocksIn, locksIn}
+use Rattle.demands.specs.LockLeaves.{locking-leaves}
+use Rattle.demands.specs.CommandReasons.{Announced}
 use Rattle.demands.specs.ReasonCalls.{one-announced}
 use Rattle.demands.specs.DoneCall.{past-open}
 use Rattle.demands.specs.CallEffects.{gives-body, the-command}
@@ -105,10 +105,10 @@ pub record LockingDone (connection : ℕ) (s : List ℕ) (t : Tables) (memory : 
 -- ---- ranges of the block's byte area are those of the message
 
 module _ (s : List ℕ) where
-  abbrev area : List ℕ
+  abbrev pub area : List ℕ
   area = lockingArea s
 
-  abbrev large : Bool
+  abbrev pub large : Bool
   large = eqb (lockType s FIRST / 16 % 2) 1
 
   area-byte : (j : ℕ) → j < byteCount s FIRST → byteAt area j ≡ byteAt s (byteArea s FIRST + j)
@@ -138,15 +138,15 @@ module _ (s : List ℕ) where
       short-range (omega arith) (area-16 (k * 10) (omega arith)) (area-32 (k * 10) 2 (omega arith)) (area-32 (k * 10) 6 (omega arith))
 
   module _ (n : ℕ) (fits : n * rangeSize large ≤ byteCount s FIRST) where
-    range-on : (k : ℕ) → k < n → RangeOn s k (rangeAt large area k)
+    pub range-on : (k : ℕ) → k < n → RangeOn s k (rangeAt large area k)
     range-on = range-on-by large refl n fits
 
-    unlocked-from : (k m : ℕ) → k + m ≤ n → {list left : List Lock} → Released (fidAfterAndx s FIRST) (rangesAt large area k m) list left → Unlocked s k m list left
+    pub unlocked-from : (k m : ℕ) → k + m ≤ n → {list left : List Lock} → Released (fidAfterAndx s FIRST) (rangesAt large area k m) list left → Unlocked s k m list left
     unfolding rangesAt
     unlocked-from k zero h none-to-release = none-to-unlock
     unlocked-from k (suc m) h (release-then out more) = unlock-then (range-on k (omega arith)) out (unlocked-from (suc k) m (omega arith) more)
 
-    granted-lock : (r : LockRange) → GrantedLock s r (lockOf (fidAfterAndx s FIRST) (sharedIn (lockingFields s)) r)
+    pub granted-lock : (r : LockRange) → GrantedLock s r (lockOf (fidAfterAndx s FIRST) (sharedIn (lockingFields s)) r)
     unfolding lockOf
     granted-lock r =
         record {
@@ -157,12 +157,22 @@ module _ (s : List ℕ) where
           of-shared = (eqb-true (lockType s FIRST % 2) 1, eq-eqb (lockType s FIRST % 2) 1);
         }
 
-    locked-from : (t : Tables) (o : Open) (k m : ℕ) → k + m ≤ n → {list last : List Lock}
+    pub locked-from : (t : Tables) (o : Open) (k m : ℕ) → k + m ≤ n → {list last : List Lock}
         → AllGranted t o (fidAfterAndx s FIRST) (sharedIn (lockingFields s)) (rangesAt large area k m) list last → Locked s t o k m list last
     unfolding rangesAt lockOf
     locked-from t o k zero h none-to-grant = none-to-lock
     locked-from t o k (suc m) h (grant-then free more) =
         lock-then (range-on k (omega arith)) (granted-lock (rangeAt large area k)) free (locked-from t o (suc k) m (omega arith) more)
+
+-- all the ranges that a first block announces are in its byte area
+pub locking-fits : {s : List ℕ} {later : List Block} (q : FirstBlock s later) → headerCommand s ≡ LOCKING
+    → (unlockCount s FIRST + lockCount s FIRST) * rangeSize (large s) ≤ byteCount s FIRST
+unfolding blocks bodyAt
+locking-fits {s} {later} q e =
+    let long : length (lockingArea s) ≡ (unlockCount s FIRST + lockCount s FIRST) * rangeSize (large s) =
+    rw (first-area q) at (area-first (read-chained s (headerCommand s) FIRST (q .block ∷ later) (q .is-read)) (q .block) later refl (lockingFields s) (first-body q LOCKING e)) in
+    let cut : length (lockingArea s) ≡ min (byteCount s FIRST) (length (drop (byteArea s FIRST) s)) = length-take (byteCount s FIRST) (drop (byteArea s FIRST) s) in
+    rw (← long) (omega arith)
 
 -- ---- a message whose reading is one LOCKING, fit to be answered, on good tables, whose reply's Status is 0/0
 
@@ -182,9 +192,7 @@ locking-reading connection s r t memory room g fit z e =
     rw same at (gives-body c s b t memory (LockingBody f) is (ran .given)) in
     let o = past-open c t (f .fid) _ given in
     let announced : Announced (LockingBody f) (lockingArea s) = rw (same, is) at (one-announced (read-chained s (headerCommand s) FIRST (b ∷ []) (only .is-read))) in
-    let long : length (lockingArea s) ≡ (unlockCount s FIRST + lockCount s FIRST) * rangeSize (large s) = announced f refl in
-    let cut : length (lockingArea s) ≡ min (byteCount s FIRST) (length (drop (byteArea s FIRST) s)) = length-take (byteCount s FIRST) (drop (byteArea s FIRST) s) in
-    let fits : (unlockCount s FIRST + lockCount s FIRST) * rangeSize (large s) ≤ byteCount s FIRST = rw (← long) (omega arith) in
+    let fits = locking-fits only e in
     let l = locking-leaves c t memory (fit .tables-sound) f (lockingArea s) (o .0) (o .1) announced given in
     record {
       through = o .0;

@@ -152,7 +152,7 @@ area-announced (logoff h) nx f e = let z : _≡_ {A = ℕ} 0 1 = cc in absurd (o
 area-announced (tree-disconnect h) nx f e = let z : _≡_ {A = ℕ} 0 1 = cc in absurd (omega arith)
 area-announced (process-exit h) nx f e = let z : _≡_ {A = ℕ} 0 1 = cc in absurd (omega arith)
 
-area-first : {s : List ℕ} {at command : ℕ} {all : List Block} → Chained s command at all → (b : Block) (bs : List Block) → all ≡ b ∷ bs → (f : LockingFields) → b .body ≡ LockingBody f
+pub area-first : {s : List ℕ} {at command : ℕ} {all : List Block} → Chained s command at all → (b : Block) (bs : List Block) → all ≡ b ∷ bs → (f : LockingFields) → b .body ≡ LockingBody f
     → length (areaOf s b) ≡ (f .unlocks + f .locks) * rangeSize (eqb (f .kind / 16 % 2) 1)
 area-first {s} {at} {command} (chained-end h l) b bs e f body =
     let q : blockAt s command at End ≡ b = cc in rw (← q) (area-announced h End f (rw q body))

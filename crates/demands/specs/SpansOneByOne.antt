@@ -1,6 +1,6 @@
 -- "Sent one to a message" over the blocks of a reading (document 01): the message that a block makes of its own depends on its command, place and length alone, so
 -- the messages of a reading are known from the message's bytes, with no reader between. Assumes nothing.
-use mathlib.Core.Path.{_≡_, refl, sym, ap, _∙_}
+use mathlib.Core.Path.{_≡_, refl, ap, _∙_}
 use Prim.Native.Nat.{ℕ, _-_}
 use mathlib.Core.Bool.{cond}
 use mathlib.Core.List.{List, [], _∷_, _++_, map}

@@ -72,9 +72,13 @@ module _ (connection : ℕ) (s small : List ℕ) where
 
 -- ---- every block's message is read as one block
 
-data AllLone (s : List ℕ) : List Block → Type 0 where
+-- the block at 32, where it stands in its own message
+unfoldable pub atFirst : Span → Span
+atFirst b = record { command = b .command; place = FIRST; size = b .size }
+
+pub data AllLone (s : List ℕ) : List Block → Type 0 where
   lone-none : AllLone s []
-  lone-then : {b d : Block} {bs : List Block} → blocks (alone s b) ≡ some (d ∷ []) → AllLone s bs → AllLone s (b ∷ bs)
+  lone-then : {b d : Block} {bs : List Block} → blocks (alone s b) ≡ some (d ∷ []) → spanOf d ≡ atFirst (spanOf b) → AllLone s bs → AllLone s (b ∷ bs)
 
 lone-block : {s : List ℕ} {command at : ℕ} (nx : Next) → IsBlock s at command → 32 ≤ at → length s ≤ 8192
     → blocks (alone s (blockAt s command at nx)) ≡ some (movedAlone s command at FIRST ∷ [])
@@ -84,18 +88,32 @@ lone-block {s} {command} {at} nx h from small =
     let m : Moved s at (alone s (blockAt s command at nx)) FIRST command = alone-moved (blockAt s command at nx) h refl from small in
     alone-blocks (alone s (blockAt s command at nx)) h m (alone-command s (blockAt s command at nx) (omega arith)) (alone-ends (blockAt s command at nx) h refl from)
 
-all-lone : {s : List ℕ} {command at : ℕ} {bs : List Block} → Chained s command at bs → 32 ≤ at → length s ≤ 8192 → AllLone s bs
-all-lone (chained-end h l) from small = lone-then (lone-block End h from small) lone-none
+lone-span : (s : List ℕ) (command at : ℕ) (nx : Next) → spanOf (movedAlone s command at FIRST) ≡ atFirst (spanOf (blockAt s command at nx))
+unfolding blockAt movedAlone spanOf atFirst
+lone-span s command at nx = refl
+
+pub all-lone : {s : List ℕ} {command at : ℕ} {bs : List Block} → Chained s command at bs → 32 ≤ at → length s ≤ 8192 → AllLone s bs
+all-lone {s} (chained-end {command} {at} h l) from small = lone-then (lone-block End h from small) (lone-span s command at End) lone-none
 all-lone {s} (chained-more {command} {at} {c} {a} h l r) from small =
     let g : blockEnd s at ≤ a = behind c a l refl in
     let i : 32 ≤ a = omega arith in
-    lone-then (lone-block (Follow c a) h from small) (all-lone r i small)
+    lone-then (lone-block (Follow c a) h from small) (lone-span s command at (Follow c a)) (all-lone r i small)
 
 -- ---- a message that is carried out, and the calls
 
+-- a message fit to be answered is carried out just if it succeeds
+pub carried-succeeds : (connection : ℕ) (message : List ℕ) (t : Tables) (memory room : List ℕ) → Fit message t memory room
+    → carriedOut (take-message connection message t memory room) ≡ succeeded (answered connection message t memory .status)
+unfolding carriedOut replied
+carried-succeeds connection message t memory room fit =
+    let ran = answered connection message t memory in
+    ap carriedOut (fit-answered connection message t memory room fit)
+    ∙ ap statusZero (reply-read message room ran)
+    ∙ status-read message ran (answered-small connection message t memory)
+
 module _ (connection : ℕ) (s small : List ℕ) where
   -- the messages of the blocks behind it get what it left
-  carried-calls : (b : Span) (bs : List Span) (t : Tables) (memory : List ℕ) → carriedOut (sent connection s small b t memory) ≡ true
+  pub carried-calls : (b : Span) (bs : List Span) (t : Tables) (memory : List ℕ) → carriedOut (sent connection s small b t memory) ≡ true
       → (calls connection s small (b ∷ bs) t memory .tables
       ≡ calls connection s small bs (sent connection s small b t memory .tables) (sent connection s small b t memory .memory) .tables)
       × (calls connection s small (b ∷ bs) t memory .memory
@@ -149,10 +167,10 @@ module _ (connection : ℕ) (s small : List ℕ) where
   -- ---- the message of one of the reader's blocks, fit to be answered
 
   module _ (b : Block) (t : Tables) (memory : List ℕ) (fits : Fit (alone s b) t memory small) where
-    abbrev ran : Ran
+    abbrev pub ran : Ran
     ran = answered connection (alone s b) t memory
 
-    abbrev taken : Taken
+    abbrev pub taken : Taken
     taken = sent connection s small (spanOf b) t memory
 
     taken-alone : taken ≡ take-message connection (alone s b) t memory small
@@ -161,18 +179,14 @@ module _ (connection : ℕ) (s small : List ℕ) where
     taken-is : taken ≡ replied (alone s b) small ran
     taken-is = taken-alone ∙ fit-answered connection (alone s b) t memory small fits
 
-    carried-is : carriedOut taken ≡ succeeded (ran .status)
-    unfolding carriedOut replied
-    carried-is =
-        ap carriedOut taken-is
-        ∙ ap statusZero (reply-read (alone s b) small ran)
-        ∙ status-read (alone s b) ran (answered-small connection (alone s b) t memory)
+    pub carried-is : carriedOut taken ≡ succeeded (ran .status)
+    carried-is = ap carriedOut taken-alone ∙ carried-succeeds connection (alone s b) t memory small fits
 
-    tables-is : taken .tables ≡ ran .tables
+    pub tables-is : taken .tables ≡ ran .tables
     unfolding replied
     tables-is = ap (λ (x : Taken). x .tables) taken-is
 
-    memory-is : taken .memory ≡ ran .memory
+    pub memory-is : taken .memory ≡ ran .memory
     unfolding replied
     memory-is = ap (λ (x : Taken). x .memory) taken-is
 
@@ -183,7 +197,7 @@ module _ (connection : ℕ) (s small : List ℕ) where
     status-is : statusRead (taken .room) ≡ ran .status
     status-is = ap (λ (x : Taken). statusRead (x .room)) taken-alone ∙ status-call connection (alone s b) t memory small fits
 
-    not-zero : succeeded (ran .status) ≡ false → ran .status ≡ status 0 0 → ⊥
+    pub not-zero : succeeded (ran .status) ≡ false → ran .status ≡ status 0 0 → ⊥
     unfolding succeeded status
     not-zero e z = not-decided-twice (succeeded (ran .status)) (ap succeeded z) e
 
@@ -219,20 +233,20 @@ module _ (connection : ℕ) (s small : List ℕ) where
   send-none t memory = refl
 
   module _ (b : Block) (bs : List Block) (t : Tables) (memory : List ℕ) where
-    abbrev gave : Ran
+    abbrev pub gave : Ran
     gave = answered connection (alone s b) t memory
 
-    abbrev whole : Sent
+    abbrev pub whole : Sent
     whole = sendAll connection s (b ∷ bs) t memory
 
     -- what the messages leave is what those behind one carried out leave, or what the one refused does
-    send-on : succeeded (gave .status) ≡ true
+    pub send-on : succeeded (gave .status) ≡ true
         → (whole .status ≡ sendAll connection s bs (gave .tables) (gave .memory) .status) × (whole .tables ≡ sendAll connection s bs (gave .tables) (gave .memory) .tables)
         × (whole .memory ≡ sendAll connection s bs (gave .tables) (gave .memory) .memory)
     unfolding sendAll sendOn replyThen
     send-on e = rw e (refl, refl, refl)
 
-    send-off : succeeded (gave .status) ≡ false → (whole .status ≡ gave .status) × (whole .tables ≡ gave .tables) × (whole .memory ≡ gave .memory)
+    pub send-off : succeeded (gave .status) ≡ false → (whole .status ≡ gave .status) × (whole .tables ≡ gave .tables) × (whole .memory ≡ gave .memory)
     unfolding sendAll sendOn
     send-off e = rw e (refl, refl, refl)
 
@@ -256,7 +270,7 @@ module _ (connection : ℕ) (s small : List ℕ) where
       → (sendAll connection s bs t memory .status ≡ status 0 0 → ⊥)
       → RefusedAt connection s small (map spanOf bs) t memory (sendAll connection s bs t memory .status) (sendAll connection s bs t memory .tables) (sendAll connection s bs t memory .memory)
   stopped {t = t} {memory = memory} enough none-left lone-none n = absurd (n (send-none t memory))
-  stopped {t = t} {memory = memory} enough (next-fits {b} {bs} fit more) (lone-then {d = d} one rest) n =
+  stopped {t = t} {memory = memory} enough (next-fits {b} {bs} fit more) (lone-then {d = d} one there rest) n =
       stopped-by b bs t memory (fit small enough) d one n (λ z. stopped enough more rest z)
 
 -- "A command refused changes no table and no file byte, its own unlocks included. Commands before it in the chain stand; those after it aren't begun": of any

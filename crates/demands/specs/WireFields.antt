@@ -19,7 +19,7 @@ use Rattle.invariants.specs.ReaderSound.{spanOf}
 use Rattle.invariants.specs.Chained.{read-chained}
 use Rattle.readings.specs.ReaderComplete.{reader-complete}
 use Rattle.message.specs.Message.{areaOf, dataOf}
-use Rattle.demands.specs.LoneCall.{First, first-block, lockingArea}
+use Rattle.demands.specs.LoneCall.{first-block, lockingArea}
 
 -- READ: "FID 2, offset 4, max 2, .., offset high 4 if 12 words"
 abbrev pub readFrom : List ℕ → ℕ

@@ -16,10 +16,10 @@ use Rattle.claims.specs.HostReasons.{SessionReason, TreeReason, OpenReason, Loa
 use Rattle.claims.specs.HostAnswer.{Unchanged, addSession-refused, addTree-refused, addOpen-refused, loadFile-refused, loadMemory-refused, dropConnection-refused}
 use Rattle.demands.specs.MessageReasons.{MessageReason, take-message-reason, take-message-given}
 use Rattle.demands.specs.NotServed.{Known, not-served-exact}
-use Rattle.demands.specs.CommandReasons.{SessionStatus, TreeStatus, CloseStatus, ReadStatus, WriteStatus, LockingStatus}
+use Rattle.demands.specs.CommandReasons.{SessionStatus, TreeStatus, CloseStatus, ReadStatus, WriteStatus}
 use Rattle.demands.specs.WireFields.{readFields, writeFields}
-use Rattle.demands.specs.LoneCall.{lockingFields, lockingArea}
-use Rattle.demands.specs.FirstReadings.{locking-exact, read-exact, write-exact, close-exact, disconnect-exact, logoff-exact, exit-exact}
+use Rattle.demands.specs.LockReasons.{LockingReason, locking-reason-exact}
+use Rattle.demands.specs.FirstReadings.{read-exact, write-exact, close-exact, disconnect-exact, logoff-exact, exit-exact}
 use Rattle.demands.specs.RoomKept.{RoomKept, refused-writes-nothing, room-kept}
 use Rattle.demands.specs.SpansRefused.{AllCarried, spans-refused}
 use Rattle.demands.specs.CallsOneByOne.{Calls}
@@ -43,7 +43,7 @@ pub record NumberForItsReason : Type 0 where
 pub record StatusForItsReason : Type 0 where
   pub not-known : (c : Call) → Answerable c → Says c 2 22 ↔ (BeginsKnown c → ⊥)
   pub locking : (c : Call) → Answerable c → OneCommand c LOCKING → (n : Status)
-      → (statusGiven c ≡ n) ↔ LockingStatus (sender c) (c .tables) (lockingFields (c .message)) (lockingArea (c .message)) n
+      → (statusGiven c ≡ n) ↔ LockingReason (c .connection) (c .message) (c .tables) n
   pub read : (c : Call) → Answerable c → OneCommand c READ → (n : Status) → (statusGiven c ≡ n) ↔ ReadStatus (sender c) (c .tables) (readFields (c .message)) n
   pub write : (c : Call) → Answerable c → OneCommand c WRITE → (n : Status) → (statusGiven c ≡ n) ↔ WriteStatus (sender c) (c .tables) (writeFields (c .message)) n
   pub close : (c : Call) → Answerable c → OneCommand c CLOSE → (n : Status) → (statusGiven c ≡ n) ↔ CloseStatus (sender c) (c .tables) (closeFid (c .message) FIRST) n
@@ -115,7 +115,7 @@ demand-1 =
       };
       status-for-its-reason = record {
         not-known = λ c a. not-served-exact (c .connection) (c .message) (c .tables) (c .memory) (c .room) (a .fit);
-        locking = λ c a one n. locking-exact (c .connection) (c .message) (one .reading) (c .tables) (c .memory) (c .room) (a .fit) (one .is) n;
+        locking = λ c a one n. locking-reason-exact (c .connection) (c .message) (one .reading) (c .tables) (c .memory) (c .room) (a .fit) (one .is) n;
         read = λ c a one n. read-exact (c .connection) (c .message) (one .reading) (c .tables) (c .memory) (c .room) (a .fit) (one .is) n;
         write = λ c a one n. write-exact (c .connection) (c .message) (one .reading) (c .tables) (c .memory) (c .room) (a .fit) (one .is) n;
         close = λ c a one n. close-exact (c .connection) (c .message) (one .reading) (c .tables) (c .memory) (c .room) (a .fit) (one .is) n;
