@@ -1,7 +1,7 @@
 -- The laws of a chain's reading that hide its count of turns: a block that is refused, one that ends the chain, and one that is followed.
 -- Assumes nothing.
 use mathlib.Core.Path.{_≡_, refl, ap, _∙_}
-use Prim.Native.Nat.{ℕ, zero, suc, _+_, _-_, _≤_, _<_}
+use Prim.Native.Nat.{ℕ, zero, suc, _-_, _≤_, _<_}
 use native.Mathlib.Omega.{arith}
 use mathlib.Core.List.{List, [], _∷_}
 use mathlib.Core.Option.{Option, none, some}
@@ -62,34 +62,3 @@ module _ (s : List ℕ) (command at : ℕ) where
         ap (λ (p : Parsed). afterParse p (λ i j. blocksWithin (length s - at) s i j)) e
         ∙ ap (λ (n : Next). afterBlock b n (λ i j. blocksWithin (length s - at) s i j)) f
         ∙ ap (before b) same
-
--- one block more than there are turns left
-before-few : (b : Block) (o : Option (List Block)) (n : ℕ) (bs : List Block) → ((r : List Block) → o ≡ some r → length r ≤ n) → before b o ≡ some bs → length bs ≤ suc n
-unfolding before
-before-few b none n bs h e = let never : _≡_ {A = ℕ} 0 1 = cc in absurd (omega arith)
-before-few b (some r) n bs h e =
-    let same : length bs ≡ length (b ∷ r) = cc in
-    let few : length r ≤ n = h r refl in
-    omega arith
-
-next-few : (b : Block) (x : Next) (f : ℕ → ℕ → Option (List Block)) (n : ℕ) (bs : List Block) → ((c a : ℕ) (r : List Block) → f c a ≡ some r → length r ≤ n)
-    → afterBlock b x f ≡ some bs → length bs ≤ suc n
-unfolding afterBlock
-next-few b End f n bs h e = let same : length bs ≡ length (b ∷ []) = cc in omega arith
-next-few b (Follow c a) f n bs h e = before-few b (f c a) n bs (h c a) e
-
-parse-few : (p : Parsed) (f : ℕ → ℕ → Option (List Block)) (n : ℕ) (bs : List Block) → ((c a : ℕ) (r : List Block) → f c a ≡ some r → length r ≤ n)
-    → afterParse p f ≡ some bs → length bs ≤ suc n
-unfolding afterParse
-parse-few Malformed f n bs h e = let never : _≡_ {A = ℕ} 0 1 = cc in absurd (omega arith)
-parse-few (Whole b) f n bs h e = next-few b (b .next) f n bs h e
-
-turns-few : (n : ℕ) (s : List ℕ) (command at : ℕ) (bs : List Block) → blocksWithin n s command at ≡ some bs → length bs ≤ n
-unfolding blocksWithin
-turns-few zero s command at bs e = let never : _≡_ {A = ℕ} 0 1 = cc in absurd (omega arith)
-turns-few (suc n) s command at bs e = parse-few (parse s command at) (λ c a. blocksWithin n s c a) n bs (λ c a r f. turns-few n s c a r f) e
-
--- a reading has at most one block more than there are bytes from its place on
-pub chain-few : (s : List ℕ) (command at : ℕ) (bs : List Block) → blocksFrom s command at ≡ some bs → length bs ≤ length s - at + 1
-unfolding blocksFrom
-chain-few s command at bs e = let few : length bs ≤ suc (length s - at) = turns-few (suc (length s - at)) s command at bs e in omega arith

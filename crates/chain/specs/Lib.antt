@@ -5,4 +5,5 @@ pub mod Parse
 pub mod Chain
 pub mod Judged
 pub mod ParseLaws
+pub mod Rows
 pub mod ChainLaws

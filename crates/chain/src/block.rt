@@ -55,3 +55,9 @@ pub enum Parsed {
     Whole(Block),
     Malformed,
 }
+
+// The same answer where a block is judged and not taken apart: what follows a block that stands there.
+pub enum Judged {
+    Stands(Next),
+    Malformed,
+}

@@ -2,6 +2,7 @@
 
 ghost use mathlib.Core.Path.{_≡_};
 ghost use Rattle.chain.specs.Parse.{mayFollow};
+ghost use Rattle.chain.specs.Rows.{isAndx};
 
 pub const CLOSE: u8 = 0x04;
 
@@ -19,6 +20,19 @@ pub const LOGOFF: u8 = 0x74;
 
 // The AndXCommand that ends a chain.
 pub const NO_COMMAND: u8 = 0xff;
+
+// Whether the command's words begin with AndX: "Words after AndX" in the grammar's table.
+pub(crate) fn is_andx(command: u8) -> bool
+    ensures { λ r. ⌜ r ≡ isAndx command ⌝ }
+{
+    match command {
+        LOCKING => true,
+        READ => true,
+        WRITE => true,
+        LOGOFF => true,
+        _ => false,
+    }
+}
 
 // Whether `next` is in the last column of the grammar's table, in the row of `command`.
 pub fn may_follow(command: u8, next: u8) -> bool

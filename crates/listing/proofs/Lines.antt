@@ -4,7 +4,7 @@ use mathlib.Core.Path.{_≡_, refl, sym, _∙_}
 use Prim.Native.Nat.{ℕ, suc, _+_, _-_, _≤_, _<_}
 use native.Mathlib.Numerals.{add-one}
 use native.Mathlib.Omega.{arith}
-use mathlib.Core.Bool.{true, false}
+use mathlib.Core.Bool.{true, false, false≢true}
 use mathlib.Core.List.{List, [], _++_}
 use mathlib.Core.Option.{Option, none, some}
 use lib.ListN.{length}
@@ -15,11 +15,10 @@ use Rattle.chain.specs.Parse.{parse}
 use Rattle.chain.specs.ParseLaws.{placed}
 use Rattle.chain.specs.Chain.{before, blocks, blocksFrom}
 use Rattle.chain.specs.ChainLaws.{chain-refused, chain-end, chain-more}
-use Rattle.chain.specs.Judged.{judged}
+use Rattle.chain.specs.Judged.{readable, readable-blocks}
 use Rattle.chain.specs.declared.block.Block.{Block}
 use Rattle.chain.specs.declared.block.Next.the-variants.{End, Follow}
 use Rattle.chain.specs.declared.block.Parsed.the-variants.{Whole, Malformed}
-use Rattle.chain.specs.declared.reader.Chain.the-variants as chain
 use Rattle.listing.specs.Text.{line, endLine, linesFrom, notChain, droppedLine, listed, listing}
 use Rattle.listing.specs.Chained.{Sentence, linesOf}
 
@@ -88,15 +87,10 @@ pub listing-dropped : (s : List ℕ) → dropped s ≡ true → listing s ≡ dr
 unfolding listing
 listing-dropped s e = rw e
 
-judged-none : (o : Option (List Block)) → chain.NoSentence ≡ judged o → listed o ≡ notChain
-unfolding judged listed
-judged-none none e = refl
-judged-none (some bs) e = let never : _≡_ {A = ℕ} 0 1 = cc in absurd (omega arith)
-
-judged-some : (o : Option (List Block)) (n : ℕ) → chain.Sentence n ≡ judged o → (bs : List Block) × (o ≡ some bs)
-unfolding judged
-judged-some none n e = let never : _≡_ {A = ℕ} 0 1 = cc in absurd (omega arith)
-judged-some (some bs) n e = (bs, refl)
+unread-listed : (o : Option (List Block)) → readable o ≡ false → listed o ≡ notChain
+unfolding readable listed
+unread-listed none e = refl
+unread-listed (some bs) e = absurd (false≢true (sym e))
 
 listed-some : (o : Option (List Block)) (bs : List Block) → o ≡ some bs → listed o ≡ linesOf 1 o
 unfolding listed linesOf
@@ -104,15 +98,15 @@ listed-some o bs e = rw e
 
 module _ (s : List ℕ) (command : ℕ) (q : command ≡ byteAt s 4) where
   -- one that has no reading
-  pub listing-none : dropped s ≡ false → chain.NoSentence ≡ judged (blocksFrom s command 32) → listing s ≡ notChain
+  pub listing-none : dropped s ≡ false → readable (blocksFrom s command 32) ≡ false → listing s ≡ notChain
   unfolding listing blocks
-  listing-none d e = rw (d, ← q) (judged-none (blocksFrom s command 32) e)
+  listing-none d e = rw (d, ← q) (unread-listed (blocksFrom s command 32) e)
 
-  module _ (n : ℕ) (e : chain.Sentence n ≡ judged (blocksFrom s command 32)) where
+  module _ (e : readable (blocksFrom s command 32) ≡ true) where
     -- one that has a reading
     pub sentence-read : Sentence s command 32
     sentence-read =
-        let r = judged-some (blocksFrom s command 32) n e in
+        let r = readable-blocks (blocksFrom s command 32) e in
         record { blocks = r .0; read = r .1 }
 
     pub listing-lines : dropped s ≡ false → listing s ≡ linesOf 1 (blocksFrom s command 32)

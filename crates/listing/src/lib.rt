@@ -5,8 +5,7 @@ use chain::block::Next;
 use chain::block::Parsed;
 use chain::header::is_dropped;
 use chain::message_reader::block_at;
-use chain::reader::Chain;
-use chain::reader::read_chain;
+use chain::reader::is_sentence;
 use text::put_byte;
 use text::put_decimal;
 use text::put_hex;
@@ -58,9 +57,8 @@ pub fn list_message(s: &[u8], out: &mut [u8]) -> usize
         return put_text(out, 0, b"dropped\n");
     }
     let command = wire::byte_at(s, 4);
-    let chain = read_chain(s, command, 32);
-    let Chain::Sentence(_) = chain else {
+    if !is_sentence(s, command, 32) {
         return put_text(out, 0, b"not a chain\n");
-    };
+    }
     put_blocks(s, out, 0, 1, command, 32)
 }

@@ -1,8 +1,8 @@
 -- From a message's reading to the loop, and from its end to what the call gives. Assumes nothing.
-use mathlib.Core.Path.{_≡_, refl, ap, _∙_}
+use mathlib.Core.Path.{_≡_, refl, sym, ap, _∙_}
 use Prim.Native.Nat.{ℕ, _+_, _-_, _≤_, _<_}
 use native.Mathlib.Omega.{arith}
-use mathlib.Core.Bool.{Bool, true, false}
+use mathlib.Core.Bool.{true, false, false≢true}
 use mathlib.Core.List.{List, _++_}
 use mathlib.Core.Option.{Option, none, some}
 use lib.ListN.{length, take, drop, length-append}
@@ -11,15 +11,13 @@ use Rattle.lists.specs.PutLaws.{put-before, put-part}
 use Rattle.records.specs.declared.Tables.{Tables}
 use Rattle.chain.specs.Layout.{headerCommand, FIRST}
 use Rattle.chain.specs.Chain.{blocksFrom, blocks}
-use Rattle.chain.specs.Judged.{judged}
+use Rattle.chain.specs.Judged.{isWhole, readable}
 use Rattle.chain.specs.Parse.{parse}
 use Rattle.chain.specs.ParseLaws.{placed}
 use Rattle.chain.specs.declared.block.Next.{Next}
 use Rattle.chain.specs.declared.block.Next.the-variants.{End, Follow}
 use Rattle.chain.specs.declared.block.Block.{Block}
-use Rattle.chain.specs.declared.block.Parsed.the-variants.{Whole, Malformed}
-use Rattle.chain.specs.declared.reader.Chain.{Chain}
-use Rattle.chain.specs.declared.reader.Chain.the-variants.{Sentence, NoSentence}
+use Rattle.chain.specs.declared.block.Parsed.the-variants.{Whole}
 use Rattle.invariants.specs.BlockParse.{parse-complete}
 use Rattle.invariants.specs.Chained.{Chained, chained-end, chained-more, read-chained}
 use Rattle.message.specs.declared.caller.Caller.{Caller}
@@ -45,9 +43,10 @@ use Rattle.server.specs.Step.{statusAfter, goesOn}
 use Rattle.server.specs.Going.{Going, going-start, going-length, here, turn-fits, turn-end, turn-more, Finished}
 
 -- a chain's first block is there
-not-malformed : {s : List ℕ} {command at : ℕ} {bs : List Block} → Chained s command at bs → parse s command at ≡ Malformed → ⊥
-not-malformed {s} (chained-end {command} {at} h l) e = let z : _≡_ {A = ℕ} 0 1 = cc (parse-complete s at h l) in omega arith
-not-malformed {s} (chained-more {command} {at} h l r) e = let z : _≡_ {A = ℕ} 0 1 = cc (parse-complete s at h l) in omega arith
+first-stands : {s : List ℕ} {command at : ℕ} {bs : List Block} → Chained s command at bs → isWhole (parse s command at) ≡ true
+unfolding isWhole
+first-stands {s} (chained-end {command} {at} h l) = ap isWhole (parse-complete s at h l)
+first-stands {s} (chained-more {command} {at} h l r) = ap isWhole (parse-complete s at h l)
 
 -- what is gone on with is what follows
 goes-next : (a : Answer) (n : Next) (command at : ℕ) → goesOn a n ≡ Follow command at → n ≡ Follow command at
@@ -58,17 +57,6 @@ goes-next LoggedOff n command at e = e
 goes-next (Read place count) n command at e = e
 goes-next (Wrote count) n command at e = e
 goes-next Plain n command at e = e
-
--- there is a reading
-unfoldable pub readable : Option (List Block) → Bool
-readable none = false
-readable (some bs) = true
-
--- the reader's answer says so
-pub judged-readable : (o : Option (List Block)) (n : ℕ) → judged o ≡ Sentence n → readable o ≡ true
-unfolding judged readable
-judged-readable none n e = let z : _≡_ {A = ℕ} 0 1 = cc in absurd (omega arith)
-judged-readable (some bs) n e = refl
 
 -- the loop's start
 start-of : (c : Caller) (s room : List ℕ) (o : Option (List Block)) → blocks s ≡ o → readable o ≡ true → (t : Tables) (memory : List ℕ) → Good t → length memory ≡ 65536
@@ -100,8 +88,8 @@ turn-start c s room t memory r g m small enough =
 module _ {c : Caller} {s first : List ℕ} {t₀ : Tables} {memory₀ : List ℕ} {command at place : ℕ} {t : Tables} {memory room : List ℕ}
     (u : Turn c s first t₀ memory₀ command at place t memory room) where
   -- a chain has a block where it begins
-  pub turn-block : parse s command at ≡ Malformed → ⊥
-  turn-block e = not-malformed (u .going .chained) e
+  pub turn-block : isWhole (parse s command at) ≡ true
+  turn-block = first-stands (u .going .chained)
 
   pub turn-length : length room ≡ length first
   turn-length = going-length (u .going) (let b = u .most in let d = u .enough in omega arith)
@@ -184,12 +172,12 @@ pub answered-not-served : (connection : ℕ) (s : List ℕ) (t : Tables) (memory
 unfolding answered
 answered-not-served connection s t memory e = rw e
 
-none-of : (c : Caller) (s : List ℕ) (o : Option (List Block)) (t : Tables) (memory : List ℕ) → judged o ≡ NoSentence → runChain c s o t memory ≡ onlyStatus (statusOf NotSentence) t memory
-unfolding runChain judged
+none-of : (c : Caller) (s : List ℕ) (o : Option (List Block)) (t : Tables) (memory : List ℕ) → readable o ≡ false → runChain c s o t memory ≡ onlyStatus (statusOf NotSentence) t memory
+unfolding runChain readable
 none-of c s none t memory e = refl
-none-of c s (some bs) t memory e = let z : _≡_ {A = ℕ} 0 1 = cc in absurd (omega arith)
+none-of c s (some bs) t memory e = absurd (false≢true (sym e))
 
-pub answered-none : (connection : ℕ) (s : List ℕ) (t : Tables) (memory : List ℕ) → served (headerCommand s) ≡ true → judged (blocksFrom s (headerCommand s) FIRST) ≡ NoSentence
+pub answered-none : (connection : ℕ) (s : List ℕ) (t : Tables) (memory : List ℕ) → served (headerCommand s) ≡ true → readable (blocksFrom s (headerCommand s) FIRST) ≡ false
     → answered connection s t memory ≡ onlyStatus (statusOf NotSentence) t memory
 unfolding answered blocks
 answered-none connection s t memory e j = rw e (none-of (callerOf connection s) s (blocks s) t memory j)
@@ -200,6 +188,6 @@ unfolding answered
 answered-run connection s t memory e = rw e
 
 -- the reader's answer that there is a reading
-pub readable-here : (s : List ℕ) (r : Chain) (n : ℕ) → judged (blocksFrom s (headerCommand s) FIRST) ≡ r → r ≡ Sentence n → readable (blocks s) ≡ true
+pub readable-here : (s : List ℕ) → readable (blocksFrom s (headerCommand s) FIRST) ≡ true → readable (blocks s) ≡ true
 unfolding blocks
-readable-here s r n e f = judged-readable (blocks s) n (e ∙ f)
+readable-here s e = e

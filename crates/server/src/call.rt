@@ -10,8 +10,7 @@ use chain::command::READ;
 use chain::command::TREE_DISCONNECT;
 use chain::command::WRITE;
 use chain::header::is_dropped;
-use chain::reader::Chain;
-use chain::reader::read_chain;
+use chain::reader::is_sentence;
 use host::answer::DONE;
 use host::answer::NOT_SOUND;
 use host::answer::WRONG_ROOM;
@@ -122,9 +121,9 @@ fn answer_message(
     if !is_served(command) {
         return refuse_message(s, Refusal::NotServed, memory, room);
     }
-    let Chain::Sentence(_) = read_chain(s, command, 32) else {
+    if !is_sentence(s, command, 32) {
         return refuse_message(s, Refusal::NotSentence, memory, room);
-    };
+    }
     let ended = run_chain(caller_of(connection, s), s, words, memory, room);
     write_header(s, ended.status, room);
     Taken {

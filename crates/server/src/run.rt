@@ -3,11 +3,9 @@
 use crate::step::goes_on;
 use crate::step::status_after;
 use chain::block::Next;
-use chain::block::Parsed;
-use chain::message_reader::block_at;
+use chain::parse::fields_at;
 use message::answer::Answer;
 use message::caller::Caller;
-use message::refusal::Refusal;
 use message::refusal::Status;
 use reply::block::block_size;
 use reply::block::link_to;
@@ -19,13 +17,13 @@ ghost use mathlib.Core.Bool.{true};
 ghost use lib.ListN.{length};
 ghost use Rattle.lists.specs.Put.{put};
 ghost use Rattle.chain.specs.Chain.{blocks};
+ghost use Rattle.chain.specs.Judged.{readable};
 ghost use Rattle.message.specs.Message.{runChain};
 ghost use Rattle.message.specs.Given.{inside, blockOf, answerSize};
 ghost use Rattle.invariants.specs.Sound.{Good};
 ghost use Rattle.tables.specs.Words.{tablesOf, inUseFit};
 ghost use Rattle.reply.specs.Links.{linkFor};
 ghost use Rattle.server.specs.Going.{Finished};
-ghost use Rattle.server.specs.Taking.{readable};
 
 // How a chain ended: the status for the header, and where the reply ends.
 pub(crate) struct Ended {
@@ -55,7 +53,8 @@ fn add_block(answer: Answer, next: Next, place: usize, memory: &[u8], room: &mut
     end
 }
 
-// The chain of a message that is a sentence, carried out on the words.
+// The chain of a message that is a sentence, carried out on the words. It was judged whole, so each block is
+// only taken apart.
 pub(crate) fn run_chain(
     c: Caller,
     s: &[u8],
@@ -76,12 +75,7 @@ pub(crate) fn run_chain(
     let mut at: usize = 32;
     let mut place: usize = 32;
     loop {
-        let Parsed::Whole(b) = block_at(s, command, at) else {
-            return Ended {
-                status: status_after(Answer::Refused(Refusal::NotSentence)),
-                length: place,
-            };
-        };
+        let b = fields_at(s, command, at);
         let answer = perform_block(c, words, s, b, memory);
         let next = b.next;
         place = add_block(answer, next, place, memory, room);

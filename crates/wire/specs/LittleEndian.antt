@@ -29,9 +29,23 @@ le16-past s at h =
     let b1 : byteAt s (at + 1) ≡ 0 = List·getD-eq-default s 0 past in
     omega arith
 
+-- nothing of the second byte is left where the first is the last
+pub le16-last : (s : List ℕ) (at : ℕ) → length s ≤ at + 1 → le16At s at ≡ byteAt s at
+unfolding le16At
+le16-last s at h =
+    let b1 : byteAt s (at + 1) ≡ 0 = List·getD-eq-default s 0 h in
+    omega arith
+
 pub le32-past : (s : List ℕ) (at : ℕ) → length s ≤ at → le32At s at ≡ 0
 unfolding le32At
 le32-past s at h =
     let b0 : le16At s at ≡ 0 = le16-past s at h in
     let b1 : le16At s (at + 2) ≡ 0 = le16-past s (at + 2) (omega arith) in
     omega arith
+
+-- four bytes, two by two
+pub le32-bytes : (s : List ℕ) (at low high : ℕ) → low ≡ byteAt s at + 256 * byteAt s (at + 1) → high ≡ byteAt s (at + 2) + 256 * byteAt s (at + 3) → low + 65536 * high ≡ le32At s at
+unfolding le32At le16At
+le32-bytes s at low high l h =
+    let fourth : at + 2 + 1 ≡ at + 3 = omega arith in
+    rw (l, h, fourth)

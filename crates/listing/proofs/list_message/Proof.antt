@@ -4,6 +4,7 @@ use Rattle.listing.proofs.Lines.{listing-dropped, listing-none, sentenc
 use Rattle.listing.specs.Text.{droppedLine, notChain}
 use mathlib.Core.Path.{sym, _∙_}
 use native.Mathlib.Omega.{arith}
+use borrow.Author.Tests.{not-true, not-false}
 use borrow.Author.Needs.{needs}
 use Rattle.listing.proofs.list_message.Statement.{statement}
 use Rattle.listing.proofs.list_message.Tie as tie
@@ -30,14 +31,8 @@ returns c =
 byte-at-requires : tie.Need-byte-at-requires
 byte-at-requires c κs = search needs
 
-read-chain-requires : tie.Need-read-chain-requires
-read-chain-requires c κs = search needs
-
-enum-told : tie.Need-enum-told
-enum-told c = search needs
-
-enum-told-2 : tie.Need-enum-told-2
-enum-told-2 c = search needs
+is-sentence-requires : tie.Need-is-sentence-requires
+is-sentence-requires c κs = search needs
 
 slice-aggregate-put-text-2 : tie.Need-slice-aggregate-put-text-2
 slice-aggregate-put-text-2 c = search needs
@@ -51,30 +46,30 @@ same-length-2 c = search needs
 returns-2 : tie.Need-returns-2
 unfolding notChain
 returns-2 c =
-    let args = c .before .before .before .before .before .before .before .before .before .before .before .before .before .args in
-    let is-dropped = c .before .before .before .before .before .before .before .before .before .before .is-dropped in
-    let if1 = c .before .before .before .before .before .before .before .before .before .if1 in
-    let byte-at = c .before .before .before .before .before .before .before .before .byte-at in
-    let read-chain = c .before .before .before .before .before .before .before .read-chain in
-    rw (listing-none (args .s .now) (byte-at .result) (byte-at .ensures) (sym (is-dropped .ensures) ∙ if1 .left) (sym (c .before .before .before .before .before .enum-told2 .given .1) ∙ read-chain .ensures)) (c .before .before .put-text2 .ensures)
+    let args = c .before .before .before .before .before .before .before .before .before .before .before .before .args in
+    let is-dropped = c .before .before .before .before .before .before .before .before .before .is-dropped in
+    let if1 = c .before .before .before .before .before .before .before .before .if1 in
+    let byte-at = c .before .before .before .before .before .before .before .byte-at in
+    let is-sentence = c .before .before .before .before .before .before .is-sentence in
+    rw (listing-none (args .s .now) (byte-at .result) (byte-at .ensures) (sym (is-dropped .ensures) ∙ if1 .left) (sym (is-sentence .ensures) ∙ not-true (is-sentence .result) (c .before .before .before .before .before .if2 .taken))) (c .before .before .put-text2 .ensures)
 
 put-blocks-requires : tie.Need-put-blocks-requires
 put-blocks-requires c κs =
-    let args = c .before .before .before .before .before .before .before .before .before .args in
-    let byte-at = c .before .before .before .before .byte-at in
-    (omega arith, sentence-read (args .s .now) (byte-at .result) (byte-at .ensures) _ (sym (c .before .enum-told .given .1) ∙ c .before .before .before .read-chain .ensures))
+    let args = c .before .before .before .before .before .before .before .before .args in
+    let byte-at = c .before .before .before .byte-at in
+    (omega arith, sentence-read (args .s .now) (byte-at .result) (byte-at .ensures) (sym (c .before .before .is-sentence .ensures) ∙ not-false (c .before .before .is-sentence .result) (c .before .if2 .left)))
 
 same-length-3 : tie.Need-same-length-3
 same-length-3 c = search needs
 
 returns-3 : tie.Need-returns-3
 returns-3 c =
-    let args = c .before .before .before .before .before .before .before .before .before .before .before .before .args in
-    let is-dropped = c .before .before .before .before .before .before .before .before .before .is-dropped in
-    let if1 = c .before .before .before .before .before .before .before .before .if1 in
-    let byte-at = c .before .before .before .before .before .before .before .byte-at in
-    let read-chain = c .before .before .before .before .before .before .read-chain in
-    rw (listing-lines (args .s .now) (byte-at .result) (byte-at .ensures) _ (sym (c .before .before .before .before .enum-told .given .1) ∙ read-chain .ensures) (sym (is-dropped .ensures) ∙ if1 .left)) (c .before .before .put-blocks .ensures)
+    let args = c .before .before .before .before .before .before .before .before .before .before .before .args in
+    let is-dropped = c .before .before .before .before .before .before .before .before .is-dropped in
+    let if1 = c .before .before .before .before .before .before .before .if1 in
+    let byte-at = c .before .before .before .before .before .before .byte-at in
+    let is-sentence = c .before .before .before .before .before .is-sentence in
+    rw (listing-lines (args .s .now) (byte-at .result) (byte-at .ensures) (sym (is-sentence .ensures) ∙ not-false (is-sentence .result) (c .before .before .before .before .if2 .left)) (sym (is-dropped .ensures) ∙ if1 .left)) (c .before .before .put-blocks .ensures)
 
 pub list-message-spec : {M : Type 1} → statement M
 list-message-spec =
@@ -86,9 +81,7 @@ list-message-spec =
     same-length
     returns
     byte-at-requires
-    read-chain-requires
-    enum-told
-    enum-told-2
+    is-sentence-requires
     slice-aggregate-put-text-2
     put-text-requires-2
     same-length-2

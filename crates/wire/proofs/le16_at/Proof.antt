@@ -1,11 +1,39 @@
--- `wire::le16_at` meets its contract: the two bytes are those of the definition, and past the end both are 0.
+-- `wire::le16_at` meets its contract: two bytes inside are those of the definition; else the second is 0.
 -- Assumes nothing.
 use mathlib.Core.Path.{sym, _∙_}
-use Prim.Native.Nat.{_+_, _*_}
-use Rattle.wire.specs.LittleEndian.{le16At, le16-past}
+use Prim.Native.Nat.{_+_, _≤_, _<_}
+use native.Mathlib.Omega.{arith}
+use lib.ListN.{length}
+use borrow.Author.Tests.{leb-true, leb-false}
+use Rattle.wire.specs.LittleEndian.{le16At, le16-last}
 use borrow.Author.Needs.{needs}
 use Rattle.wire.proofs.le16_at.Statement.{statement}
 use Rattle.wire.proofs.le16_at.Tie as tie
+
+-- both bytes stand inside
+inside : (c : tie.Then1) → c .before .before .before .args .at + 2 ≤ length (c .before .before .before .args .s .now)
+inside c =
+    let args = c .before .before .before .args in
+    leb-true (args .at + 2) (length (args .s .now)) (sym (c .before .holds .ensures) ∙ c .if1 .taken)
+
+holds-requires : tie.Need-holds-requires
+holds-requires c κs = search needs
+
+shared-slice-read-pair : tie.Need-shared-slice-read-pair
+shared-slice-read-pair c = omega (arith, inside (c .before))
+
+add-pair : tie.Need-add-pair
+add-pair c = omega (arith, inside (c .before))
+
+shared-slice-read-pair-2 : tie.Need-shared-slice-read-pair-2
+shared-slice-read-pair-2 c = omega (arith, inside (c .before .before))
+
+pair-requires : tie.Need-pair-requires
+pair-requires c κs = search needs
+
+returns : tie.Need-returns
+unfolding le16At
+returns c = c .pair .ensures
 
 byte-at-requires : tie.Need-byte-at-requires
 byte-at-requires c κs = search needs
@@ -13,41 +41,22 @@ byte-at-requires c κs = search needs
 wide16-requires : tie.Need-wide16-requires
 wide16-requires c κs = search needs
 
-add-byte-at : tie.Need-add-byte-at
-add-byte-at c = search needs
-
-byte-at-requires-2 : tie.Need-byte-at-requires-2
-byte-at-requires-2 c κs = search needs
-
-wide16-requires-2 : tie.Need-wide16-requires-2
-wide16-requires-2 c κs = search needs
-
-mul-result : tie.Need-mul-result
-mul-result c = search needs
-
-add-result : tie.Need-add-result
-add-result c = search needs
-
-returns : tie.Need-returns
-unfolding le16At
-returns c =
-    λ i.
-    (c .before .before .wide16 .ensures ∙ c .before .before .before .byte-at .ensures) i
-    + 256 * (c .wide162 .ensures ∙ c .before .byte-at2 .ensures) i
-
 returns-2 : tie.Need-returns-2
-returns-2 c = sym (le16-past (c .before .before .args .s .now) (c .before .before .args .at) (c .if1 .left))
+returns-2 c =
+    let args = c .before .before .before .before .before .args in
+    let short : length (args .s .now) < args .at + 2 = leb-false (args .at + 2) (length (args .s .now)) (sym (c .before .before .before .holds .ensures) ∙ c .before .before .if1 .left) in
+    c .wide16 .ensures ∙ c .before .byte-at .ensures ∙ sym (le16-last (args .s .now) (args .at) (omega arith))
 
 pub le16-at-spec : {M : Type 1} → statement M
 le16-at-spec =
     tie.close
     (tie.spec
+    holds-requires
+    shared-slice-read-pair
+    add-pair
+    shared-slice-read-pair-2
+    pair-requires
+    returns
     byte-at-requires
     wide16-requires
-    add-byte-at
-    byte-at-requires-2
-    wide16-requires-2
-    mul-result
-    add-result
-    returns
     returns-2)

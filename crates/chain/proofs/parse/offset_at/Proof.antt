@@ -25,11 +25,11 @@ add-result c = search needs
 
 returns : tie.Need-returns
 unfolding wideOffset
-returns c = rw (c .before .if1 .taken) (cc)
+returns c = rw (c .before .if1 .taken, c .before .before .le32-at .ensures, c .le32-at2 .ensures)
 
 returns-2 : tie.Need-returns-2
 unfolding wideOffset
-returns-2 c = rw (c .if1 .left) (cc)
+returns-2 c = rw (c .if1 .left) (c .before .le32-at .ensures)
 
 pub offset-at-spec : {M : Type 1} → statement M
 offset-at-spec =

@@ -9,7 +9,7 @@ use native.Mathlib.Omega.{arith}
 use lib.ListN.{length}
 use borrow.Author.Tests.{not-true, not-false}
 use Rattle.chain.specs.Chain.{blocksFrom, blocks}
-use Rattle.chain.specs.Judged.{judged}
+use Rattle.chain.specs.Judged.{readable}
 use Rattle.message.specs.Caller.{callerOf}
 use Rattle.message.specs.Message.{served, runChain, replied}
 use Rattle.tables.specs.Words.{tablesOf}
@@ -40,14 +40,8 @@ returns c =
       λ f. f,
     )
 
-read-chain-requires : tie.Need-read-chain-requires
-read-chain-requires c κs = search needs
-
-enum-told : tie.Need-enum-told
-enum-told c = search needs
-
-enum-told-2 : tie.Need-enum-told-2
-enum-told-2 c = search needs
+is-sentence-requires : tie.Need-is-sentence-requires
+is-sentence-requires c κs = search needs
 
 refuse-message-requires-2 : tie.Need-refuse-message-requires-2
 refuse-message-requires-2 c κs = search needs
@@ -60,12 +54,12 @@ same-length-4 c = search needs
 
 returns-2 : tie.Need-returns-2
 returns-2 c =
-    let args = c .before .before .before .before .before .before .before .before .before .before .before .before .before .before .before .args in
-    let byte-at = c .before .before .before .before .before .before .before .before .before .before .byte-at in
-    let is-served = c .before .before .before .before .before .before .before .before .before .is-served in
-    let if1 = c .before .before .before .before .before .before .before .before .if1 in
-    let read-chain = c .before .before .before .before .before .before .before .read-chain in (
-      c .before .before .refuse-message2 .ensures (tablesOf (args .words .now)) ∙ ap (replied (args .s .now) (args .room .now)) (sym (answered-none (args .connection) (args .s .now) (tablesOf (args .words .now)) (args .memory .now) (sym (is-served .ensures ∙ ap served (byte-at .ensures)) ∙ not-false (is-served .result) (if1 .left)) (ap (λ (n : ℕ). judged (blocksFrom (args .s .now) n 32)) (sym (byte-at .ensures)) ∙ sym (read-chain .ensures) ∙ c .before .before .before .before .before .enum-told2 .given .1))),
+    let args = c .before .before .before .before .before .before .before .before .before .before .before .before .before .before .args in
+    let byte-at = c .before .before .before .before .before .before .before .before .before .byte-at in
+    let is-served = c .before .before .before .before .before .before .before .before .is-served in
+    let if1 = c .before .before .before .before .before .before .before .if1 in
+    let is-sentence = c .before .before .before .before .before .before .is-sentence in (
+      c .before .before .refuse-message2 .ensures (tablesOf (args .words .now)) ∙ ap (replied (args .s .now) (args .room .now)) (sym (answered-none (args .connection) (args .s .now) (tablesOf (args .words .now)) (args .memory .now) (sym (is-served .ensures ∙ ap served (byte-at .ensures)) ∙ not-false (is-served .result) (if1 .left)) (ap (λ (n : ℕ). readable (blocksFrom (args .s .now) n 32)) (sym (byte-at .ensures)) ∙ sym (is-sentence .ensures) ∙ not-true (is-sentence .result) (c .before .before .before .before .before .if2 .taken)))),
       λ f. f,
     )
 
@@ -74,17 +68,16 @@ caller-of-requires c κs = search needs
 
 run-chain-requires : tie.Need-run-chain-requires
 run-chain-requires c κs =
-    let pre = c .before .before .before .before .before .before .before .before .before .before .before .before .before .before .pre in
-    let args = c .before .before .before .before .before .before .before .before .before .before .before .before .before .before .args in
-    let byte-at = c .before .before .before .before .before .before .before .before .before .byte-at in
-    let read-chain = c .before .before .before .before .before .before .read-chain in
-    let enum-told = c .before .before .before .before .enum-told in
-    (pre .0, (pre .1 .0, (pre .1 .1 .1 .1 .0, (pre .1 .1 .1 .0, (pre .1 .1 .1 .1 .1, readable-here (args .s .now) (read-chain .result) (enum-told .given .0 .0) (ap (λ (n : ℕ). judged (blocksFrom (args .s .now) n 32)) (sym (byte-at .ensures)) ∙ sym (read-chain .ensures)) (enum-told .given .1))))))
+    let pre = c .before .before .before .before .before .before .before .before .before .before .before .before .before .pre in
+    let args = c .before .before .before .before .before .before .before .before .before .before .before .before .before .args in
+    let byte-at = c .before .before .before .before .before .before .before .before .byte-at in
+    let is-sentence = c .before .before .before .before .before .is-sentence in
+    (pre .0, (pre .1 .0, (pre .1 .1 .1 .1 .0, (pre .1 .1 .1 .0, (pre .1 .1 .1 .1 .1, readable-here (args .s .now) (ap (λ (n : ℕ). readable (blocksFrom (args .s .now) n 32)) (sym (byte-at .ensures)) ∙ sym (is-sentence .ensures) ∙ not-false (is-sentence .result) (c .before .before .before .before .if2 .left)))))))
 
 write-header-requires : tie.Need-write-header-requires
 write-header-requires c κs =
-    let pre = c .before .before .before .before .before .before .before .before .before .before .before .before .before .before .before .before .before .before .before .before .before .before .pre in
-    let args = c .before .before .before .before .before .before .before .before .before .before .before .before .before .before .before .before .before .before .before .before .before .before .args in
+    let pre = c .before .before .before .before .before .before .before .before .before .before .before .before .before .before .before .before .before .before .before .before .before .pre in
+    let args = c .before .before .before .before .before .before .before .before .before .before .before .before .before .before .before .before .before .before .before .before .before .args in
     let long : 35 ≤ length (args .s .now) = pre .1 .1 .0 in
     let enough : 12292 ≤ length (args .room .now) = pre .1 .1 .1 .1 .1 in
     let kept = c .before .before .before .before .before .before .before .run-chain .kept .1 .1 .1 .1 .0 in
@@ -102,11 +95,11 @@ same-length-7 c = search needs
 returns-3 : tie.Need-returns-3
 unfolding takenOf
 returns-3 c =
-    let pre = c .before .before .before .before .before .before .before .before .before .before .before .before .before .before .before .before .before .before .before .before .before .before .before .before .before .pre in
-    let args = c .before .before .before .before .before .before .before .before .before .before .before .before .before .before .before .before .before .before .before .before .before .before .before .before .before .args in
-    let byte-at = c .before .before .before .before .before .before .before .before .before .before .before .before .before .before .before .before .before .before .before .before .byte-at in
-    let is-served = c .before .before .before .before .before .before .before .before .before .before .before .before .before .before .before .before .before .before .before .is-served in
-    let if1 = c .before .before .before .before .before .before .before .before .before .before .before .before .before .before .before .before .before .before .if1 in
+    let pre = c .before .before .before .before .before .before .before .before .before .before .before .before .before .before .before .before .before .before .before .before .before .before .before .before .pre in
+    let args = c .before .before .before .before .before .before .before .before .before .before .before .before .before .before .before .before .before .before .before .before .before .before .before .before .args in
+    let byte-at = c .before .before .before .before .before .before .before .before .before .before .before .before .before .before .before .before .before .before .before .byte-at in
+    let is-served = c .before .before .before .before .before .before .before .before .before .before .before .before .before .before .before .before .before .before .is-served in
+    let if1 = c .before .before .before .before .before .before .before .before .before .before .before .before .before .before .before .before .before .if1 in
     let caller-of = c .before .before .before .before .before .before .before .before .before .before .before .before .before .before .caller-of in
     let run-chain = c .before .before .before .before .before .before .before .before .before .before .run-chain in
     let write-header = c .before .before .write-header in
@@ -130,9 +123,7 @@ answer-message-spec =
     same-length
     same-length-2
     returns
-    read-chain-requires
-    enum-told
-    enum-told-2
+    is-sentence-requires
     refuse-message-requires-2
     same-length-3
     same-length-4

@@ -5,7 +5,6 @@ use mathlib.Core.Path.{sym, _∙_}
 use lib.ListN.{length}
 use Rattle.requests.specs.Leaves.{performed}
 use Rattle.tables.specs.Words.{tablesOf}
-use Rattle.server.specs.Going.{finished-length}
 use Rattle.server.specs.Taking.{Turn, Kept, turn-start, turn-block, turn-length, turn-parse, block-fits, turn-ends, turn-goes, turn-falls}
 use Rattle.server.proofs.run.run_chain.Statement.{statement}
 use Rattle.server.proofs.run.run_chain.Tie as tie
@@ -30,11 +29,30 @@ loop-holds c =
       record { long = pre .0; fit = λ f. f },
     )
 
-block-at-requires : tie.Need-block-at-requires Inv-loop μ-loop
-block-at-requires c κs = search needs
+fields-at-requires : tie.Need-fields-at-requires Inv-loop μ-loop
+fields-at-requires c κs = turn-block (c .loop .inv .0)
 
-enum-known-b : tie.Need-enum-known-b Inv-loop μ-loop
-enum-known-b c = search needs
+perform-block-requires : tie.Need-perform-block-requires Inv-loop μ-loop
+perform-block-requires c κs =
+    let inv = c .before .before .before .loop .inv in
+    let block = c .before .before .fields-at in
+    (inv .1 .long, (inv .0 .going .good, (inv .0 .going .memory-size, turn-parse (inv .0) (block .result) (sym (block .ensures)))))
+
+add-block-requires : tie.Need-add-block-requires Inv-loop μ-loop
+add-block-requires c κs =
+    let inv = c .before .before .before .before .before .before .before .before .before .before .loop .inv in
+    let block = c .before .before .before .before .before .before .before .before .before .fields-at in
+    let done = c .before .before .before .before .before .before .perform-block in
+    let size = done .kept .1 .1 .1 .1 .0 ∙ inv .0 .going .memory-size in
+    let l = turn-length (inv .0) in
+    let n = inv .0 .enough in
+    (size, (done .ensures .0 .within, (block-fits (inv .0) (block .result) (sym (block .ensures)) (performed (done .result) (tablesOf (done .last .1 .0))) (done .last .1 .1 .1 .1 .0) (done .ensures .0) size, omega arith)))
+
+goes-on-requires : tie.Need-goes-on-requires Inv-loop μ-loop
+goes-on-requires c κs = search needs
+
+enum-known-then : tie.Need-enum-known-then Inv-loop μ-loop
+enum-known-then c = search needs
 
 enum-told : tie.Need-enum-told Inv-loop μ-loop
 enum-told c = search needs
@@ -43,81 +61,40 @@ status-after-requires : tie.Need-status-after-requires Inv-loop μ-loop
 status-after-requires c κs = search needs
 
 same-length : tie.Need-same-length Inv-loop μ-loop
-same-length c = c .before .before .before .before .loop .inv .1 .long ∙ sym (c .before .before .before .before .before .before .before .before .before .before .pre .0)
+same-length c = c .before .before .before .before .before .before .before .before .before .before .before .before .before .perform-block .kept .1 .0 ∙ c .before .before .before .before .before .before .before .before .before .before .before .before .before .before .before .before .before .loop .inv .1 .long ∙ sym (c .before .before .before .before .before .before .before .before .before .before .before .before .before .before .before .before .before .before .before .before .before .before .before .pre .0)
 
 same-length-2 : tie.Need-same-length-2 Inv-loop μ-loop
-same-length-2 c = c .before .before .before .before .loop .inv .0 .going .memory-size ∙ sym (c .before .before .before .before .before .before .before .before .before .before .pre .1 .1 .0)
+same-length-2 c = c .before .before .before .before .before .before .before .before .before .before .before .before .before .perform-block .kept .1 .1 .1 .1 .0 ∙ c .before .before .before .before .before .before .before .before .before .before .before .before .before .before .before .before .before .loop .inv .0 .going .memory-size ∙ sym (c .before .before .before .before .before .before .before .before .before .before .before .before .before .before .before .before .before .before .before .before .before .before .before .pre .1 .1 .0)
 
 same-length-3 : tie.Need-same-length-3 Inv-loop μ-loop
-same-length-3 c = turn-length (c .before .before .before .before .loop .inv .0)
+same-length-3 c = c .before .before .before .before .before .before .add-block .kept .1 .1 .1 .1 .0 ∙ turn-length (c .before .before .before .before .before .before .before .before .before .before .before .before .before .before .before .before .before .loop .inv .0)
 
 returns : tie.Need-returns Inv-loop μ-loop
 returns c =
-    absurd (turn-block (c .before .before .before .before .loop .inv .0) (sym (c .before .before .before .block-at .ensures) ∙ c .before .enum-told .given .1))
-
-perform-block-requires : tie.Need-perform-block-requires Inv-loop μ-loop
-perform-block-requires c κs =
-    let inv = c .before .before .before .before .before .before .loop .inv in
-    let b = c .before .before .before .b .given in
-    (inv .1 .long, (inv .0 .going .good, (inv .0 .going .memory-size, turn-parse (inv .0) (b .0 .0) (sym (c .before .before .before .before .before .block-at .ensures) ∙ b .1))))
-
-add-block-requires : tie.Need-add-block-requires Inv-loop μ-loop
-add-block-requires c κs =
-    let inv = c .before .before .before .before .before .before .before .before .before .before .before .before .before .loop .inv in
-    let b = c .before .before .before .before .before .before .before .before .before .before .b .given in
-    let done = c .before .before .before .before .before .before .perform-block in
-    let size = done .kept .1 .1 .1 .1 .0 ∙ inv .0 .going .memory-size in
-    let l = turn-length (inv .0) in
-    let n = inv .0 .enough in
-    (size, (done .ensures .0 .within, (block-fits (inv .0) (b .0 .0) (sym (c .before .before .before .before .before .before .before .before .before .before .before .before .block-at .ensures) ∙ b .1) (performed (done .result) (tablesOf (done .last .1 .0))) (done .last .1 .1 .1 .1 .0) (done .ensures .0) size, omega arith)))
-
-goes-on-requires : tie.Need-goes-on-requires Inv-loop μ-loop
-goes-on-requires c κs = search needs
-
-enum-known-then : tie.Need-enum-known-then Inv-loop μ-loop
-enum-known-then c = search needs
-
-enum-told-2 : tie.Need-enum-told-2 Inv-loop μ-loop
-enum-told-2 c = search needs
-
-status-after-requires-2 : tie.Need-status-after-requires-2 Inv-loop μ-loop
-status-after-requires-2 c κs = search needs
-
-same-length-4 : tie.Need-same-length-4 Inv-loop μ-loop
-same-length-4 c = c .before .before .before .before .before .before .before .before .before .before .before .before .before .perform-block .kept .1 .0 ∙ c .before .before .before .before .before .before .before .before .before .before .before .before .before .before .before .before .before .before .before .before .loop .inv .1 .long ∙ sym (c .before .before .before .before .before .before .before .before .before .before .before .before .before .before .before .before .before .before .before .before .before .before .before .before .before .before .pre .0)
-
-same-length-5 : tie.Need-same-length-5 Inv-loop μ-loop
-same-length-5 c = c .before .before .before .before .before .before .before .before .before .before .before .before .before .perform-block .kept .1 .1 .1 .1 .0 ∙ c .before .before .before .before .before .before .before .before .before .before .before .before .before .before .before .before .before .before .before .before .loop .inv .0 .going .memory-size ∙ sym (c .before .before .before .before .before .before .before .before .before .before .before .before .before .before .before .before .before .before .before .before .before .before .before .before .before .before .pre .1 .1 .0)
-
-same-length-6 : tie.Need-same-length-6 Inv-loop μ-loop
-same-length-6 c = c .before .before .before .before .before .before .add-block .kept .1 .1 .1 .1 .0 ∙ turn-length (c .before .before .before .before .before .before .before .before .before .before .before .before .before .before .before .before .before .before .before .before .loop .inv .0)
-
-returns-2 : tie.Need-returns-2 Inv-loop μ-loop
-returns-2 c =
-    let inv = c .before .before .before .before .before .before .before .before .before .before .before .before .before .before .before .before .before .before .before .before .loop .inv in
-    let b = c .before .before .before .before .before .before .before .before .before .before .before .before .before .before .before .before .before .b .given in
+    let inv = c .before .before .before .before .before .before .before .before .before .before .before .before .before .before .before .before .before .loop .inv in
+    let block = c .before .before .before .before .before .before .before .before .before .before .before .before .before .before .before .before .fields-at in
     let done = c .before .before .before .before .before .before .before .before .before .before .before .before .before .perform-block in
     let size = done .kept .1 .1 .1 .1 .0 ∙ inv .0 .going .memory-size in
     let add-block = c .before .before .before .before .before .before .add-block in (
-      rw (c .status-after2 .ensures, add-block .ensures .0) (turn-ends (inv .0) (b .0 .0) (sym (c .before .before .before .before .before .before .before .before .before .before .before .before .before .before .before .before .before .before .before .block-at .ensures) ∙ b .1) (performed (done .result) (tablesOf (done .last .1 .0))) (done .last .1 .1 .1 .1 .0) (done .ensures .0) size (add-block .last .1 .1 .1 .1 .0) (add-block .ensures .1) (sym (c .before .before .before .goes-on .ensures) ∙ c .before .enum-told2 .given .1)),
+      rw (c .status-after .ensures, add-block .ensures .0) (turn-ends (inv .0) (block .result) (sym (block .ensures)) (performed (done .result) (tablesOf (done .last .1 .0))) (done .last .1 .1 .1 .1 .0) (done .ensures .0) size (add-block .last .1 .1 .1 .1 .0) (add-block .ensures .1) (sym (c .before .before .before .goes-on .ensures) ∙ c .before .enum-told .given .1)),
       λ f. done .ensures .1 (inv .1 .fit f),
     )
 
 loop-less : tie.Need-loop-less Inv-loop μ-loop
 loop-less c =
-    let b = c .before .before .before .before .before .before .before .before .before .before .before .before .before .before .before .before .before .b .given in
+    let block = c .before .before .before .before .before .before .before .before .before .before .before .before .before .before .before .before .fields-at in
     let then = c .before .then .given in
-    turn-falls (c .before .before .before .before .before .before .before .before .before .before .before .before .before .before .before .before .before .before .before .before .loop .inv .0) (b .0 .0) (sym (c .before .before .before .before .before .before .before .before .before .before .before .before .before .before .before .before .before .before .before .block-at .ensures) ∙ b .1) (c .before .before .before .before .before .before .before .before .before .before .before .before .before .perform-block .result) (then .0 .0) (then .0 .1 .0) (sym (c .before .before .before .goes-on .ensures) ∙ then .1)
+    turn-falls (c .before .before .before .before .before .before .before .before .before .before .before .before .before .before .before .before .before .loop .inv .0) (block .result) (sym (block .ensures)) (c .before .before .before .before .before .before .before .before .before .before .before .before .before .perform-block .result) (then .0 .0) (then .0 .1 .0) (sym (c .before .before .before .goes-on .ensures) ∙ then .1)
 
 loop-again : tie.Need-loop-again Inv-loop μ-loop
 loop-again c =
-    let inv = c .before .before .before .before .before .before .before .before .before .before .before .before .before .before .before .before .before .before .before .before .loop .inv in
-    let b = c .before .before .before .before .before .before .before .before .before .before .before .before .before .before .before .before .before .b .given in
+    let inv = c .before .before .before .before .before .before .before .before .before .before .before .before .before .before .before .before .before .loop .inv in
+    let block = c .before .before .before .before .before .before .before .before .before .before .before .before .before .before .before .before .fields-at in
     let done = c .before .before .before .before .before .before .before .before .before .before .before .before .before .perform-block in
     let size = done .kept .1 .1 .1 .1 .0 ∙ inv .0 .going .memory-size in
     let add-block = c .before .before .before .before .before .before .add-block in
     let then = c .before .then .given in (
-      rw (add-block .ensures .0) (turn-goes (inv .0) (b .0 .0) (sym (c .before .before .before .before .before .before .before .before .before .before .before .before .before .before .before .before .before .before .before .block-at .ensures) ∙ b .1) (performed (done .result) (tablesOf (done .last .1 .0))) (done .last .1 .1 .1 .1 .0) (done .ensures .0) size (add-block .last .1 .1 .1 .1 .0) (add-block .ensures .1) (then .0 .0) (then .0 .1 .0) (sym (c .before .before .before .goes-on .ensures) ∙ then .1)),
+      rw (add-block .ensures .0) (turn-goes (inv .0) (block .result) (sym (block .ensures)) (performed (done .result) (tablesOf (done .last .1 .0))) (done .last .1 .1 .1 .1 .0) (done .ensures .0) size (add-block .last .1 .1 .1 .1 .0) (add-block .ensures .1) (then .0 .0) (then .0 .1 .0) (sym (c .before .before .before .goes-on .ensures) ∙ then .1)),
       record { long = done .kept .1 .0 ∙ inv .1 .long; fit = λ f. done .ensures .1 (inv .1 .fit f) },
     )
 
@@ -129,23 +106,16 @@ run-chain-spec =
     μ-loop
     byte-at-requires
     loop-holds
-    block-at-requires
-    enum-known-b
+    fields-at-requires
+    perform-block-requires
+    add-block-requires
+    goes-on-requires
+    enum-known-then
     enum-told
     status-after-requires
     same-length
     same-length-2
     same-length-3
     returns
-    perform-block-requires
-    add-block-requires
-    goes-on-requires
-    enum-known-then
-    enum-told-2
-    status-after-requires-2
-    same-length-4
-    same-length-5
-    same-length-6
-    returns-2
     loop-less
     loop-again)

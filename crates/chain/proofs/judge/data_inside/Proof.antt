@@ -1,4 +1,4 @@
--- `chain::parse::data_inside` meets its contract: the numbers read are those of the definition, and so are the two tests.
+-- `chain::judge::data_inside` meets its contract: the numbers read are those of the definition, and so are the two tests.
 -- Assumes nothing.
 use mathlib.Core.Path.{_≡_}
 use Prim.Native.Nat.{_≤_, _<_}
@@ -7,8 +7,8 @@ use borrow.Author.Tests.{lt-leb, le-leb}
 use Rattle.chain.specs.Layout.{wordCount, byteArea, dataOffset}
 use Rattle.chain.specs.Parse.{dataInside}
 use borrow.Author.Needs.{needs}
-use Rattle.chain.proofs.parse.data_inside.Statement.{statement}
-use Rattle.chain.proofs.parse.data_inside.Tie as tie
+use Rattle.chain.proofs.judge.data_inside.Statement.{statement}
+use Rattle.chain.proofs.judge.data_inside.Tie as tie
 
 add-le16-at : tie.Need-add-le16-at
 add-le16-at c = search needs

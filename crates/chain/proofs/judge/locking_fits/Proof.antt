@@ -1,4 +1,4 @@
--- `chain::parse::locking_fits` meets its contract: a block of 8 words has each number where the code reads it.
+-- `chain::judge::locking_fits` meets its contract: a block of 8 words has each number where the code reads it.
 -- Assumes nothing.
 use mathlib.Core.Path.{_≡_, sym, _∙_}
 use Prim.Native.Nat.{_+_, _*_, _^_, _≤_, _<_}
@@ -11,8 +11,8 @@ use Rattle.chain.specs.Layout.{wordCount, blockEnd}
 use Rattle.chain.specs.Parse.{shaped, isLarge, lockingFits}
 use Rattle.chain.specs.ParseLaws.{shaped-words, shaped-inside}
 use borrow.Author.Needs.{needs}
-use Rattle.chain.proofs.parse.locking_fits.Statement.{statement}
-use Rattle.chain.proofs.parse.locking_fits.Tie as tie
+use Rattle.chain.proofs.judge.locking_fits.Statement.{statement}
+use Rattle.chain.proofs.judge.locking_fits.Tie as tie
 
 -- the block has 8 words, and stands inside the message
 fits : (c : tie.Else1) → shaped (c .before .before .before .args .s .now) (c .before .before .before .args .at) 8 ≡ true

@@ -1,4 +1,4 @@
--- `chain::parse::write_fits` meets its contract: the tests are those of the definition, and a block that fits stands inside the message.
+-- `chain::judge::write_fits` meets its contract: the tests are those of the definition, and a block that fits stands inside the message.
 -- Assumes nothing.
 use mathlib.Core.Path.{_≡_, sym, _∙_}
 use mathlib.Core.Bool.{true}
@@ -6,8 +6,8 @@ use native.Mathlib.Omega.{arith}
 use Rattle.chain.specs.Parse.{shaped, writeFits}
 use Rattle.chain.specs.ParseLaws.{shaped-inside}
 use borrow.Author.Needs.{needs}
-use Rattle.chain.proofs.parse.write_fits.Statement.{statement}
-use Rattle.chain.proofs.parse.write_fits.Tie as tie
+use Rattle.chain.proofs.judge.write_fits.Statement.{statement}
+use Rattle.chain.proofs.judge.write_fits.Tie as tie
 
 has-shape-requires : tie.Need-has-shape-requires
 has-shape-requires c κs = search needs

@@ -1,9 +1,9 @@
--- `chain::parse::read_fits` meets its contract: the tests are those of the definition, in its order.
+-- `chain::judge::read_fits` meets its contract: the tests are those of the definition, in its order.
 -- Assumes nothing.
 use Rattle.chain.specs.Parse.{readFits}
 use borrow.Author.Needs.{needs}
-use Rattle.chain.proofs.parse.read_fits.Statement.{statement}
-use Rattle.chain.proofs.parse.read_fits.Tie as tie
+use Rattle.chain.proofs.judge.read_fits.Statement.{statement}
+use Rattle.chain.proofs.judge.read_fits.Tie as tie
 
 is-bare-requires : tie.Need-is-bare-requires
 is-bare-requires c κs = search needs

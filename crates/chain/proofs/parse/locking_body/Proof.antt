@@ -1,0 +1,49 @@
+-- `chain::parse::locking_body` meets its contract: the numbers read are those of the definition.
+-- Assumes nothing.
+use Rattle.chain.specs.Parse.{parse, parseLocking}
+use Rattle.chain.specs.Rows.{fits, rowFits, isAndx, nextAt}
+use borrow.Author.Needs.{needs}
+use Rattle.chain.proofs.parse.locking_body.Statement.{statement}
+use Rattle.chain.proofs.parse.locking_body.Tie as tie
+
+add-le16-at : tie.Need-add-le16-at
+add-le16-at c = search needs
+
+le16-at-requires : tie.Need-le16-at-requires
+le16-at-requires c κs = search needs
+
+add-byte-at : tie.Need-add-byte-at
+add-byte-at c = search needs
+
+byte-at-requires : tie.Need-byte-at-requires
+byte-at-requires c κs = search needs
+
+add-le16-at-2 : tie.Need-add-le16-at-2
+add-le16-at-2 c = search needs
+
+le16-at-requires-2 : tie.Need-le16-at-requires-2
+le16-at-requires-2 c κs = search needs
+
+add-le16-at-3 : tie.Need-add-le16-at-3
+add-le16-at-3 c = search needs
+
+le16-at-requires-3 : tie.Need-le16-at-requires-3
+le16-at-requires-3 c κs = search needs
+
+returns : tie.Need-returns
+unfolding parse fits rowFits isAndx nextAt parseLocking
+returns c = record { is = rw (c .before .before .before .le16-at .ensures, c .before .before .byte-at .ensures, c .before .le16-at2 .ensures, c .le16-at3 .ensures) }
+
+pub locking-body-spec : {M : Type 1} → statement M
+locking-body-spec =
+    tie.close
+    (tie.spec
+    add-le16-at
+    le16-at-requires
+    add-byte-at
+    byte-at-requires
+    add-le16-at-2
+    le16-at-requires-2
+    add-le16-at-3
+    le16-at-requires-3
+    returns)

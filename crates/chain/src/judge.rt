@@ -1,0 +1,112 @@
+// One block, judged by its command: a row of the grammar's table each. Nothing of it is taken apart.
+
+use crate::block::Judged;
+use crate::block::Next;
+use crate::command::CLOSE;
+use crate::command::LOCKING;
+use crate::command::LOGOFF;
+use crate::command::PROCESS_EXIT;
+use crate::command::READ;
+use crate::command::TREE_DISCONNECT;
+use crate::command::WRITE;
+use crate::command::is_andx;
+use crate::place::LOCK_TYPE;
+use crate::place::LOCKING_BYTE_COUNT;
+use crate::place::LOCKS;
+use crate::place::UNLOCKS;
+use crate::place::WRITE_DATA_OFFSET;
+use crate::place::WRITE_LENGTH;
+use crate::shape::block_end;
+use crate::shape::has_shape;
+use crate::shape::is_bare;
+use crate::shape::link_at;
+use crate::shape::link_fits;
+use locks::wire_form::range_size;
+ghost use mathlib.Core.Path.{_≡_};
+ghost use Prim.Native.Nat.{_<_};
+ghost use lib.ListN.{length};
+ghost use Rattle.chain.specs.Parse.{lockingFits, readFits, writeFits, dataInside, parse};
+ghost use Rattle.chain.specs.Rows.{rowFits};
+ghost use Rattle.chain.specs.Judged.{judged};
+
+// Whether the LOCKING block at a place has just the bytes of the ranges it announces.
+fn locking_fits(s: &[u8], at: usize) -> bool
+    ensures { λ r. ⌜ r ≡ lockingFits (now (s .entry)) at ⌝ }
+{
+    if !has_shape(s, at, 8) {
+        return false;
+    }
+    let kind = wire::byte_at(s, at + LOCK_TYPE);
+    let ranges = wire::le16_at(s, at + UNLOCKS) as usize + wire::le16_at(s, at + LOCKS) as usize;
+    let bytes = wire::le16_at(s, at + LOCKING_BYTE_COUNT) as usize;
+    bytes == ranges * range_size(kind / 16 % 2 == 1)
+}
+
+// Whether the READ block at a place has 10 or 12 words and no bytes.
+fn read_fits(s: &[u8], at: usize) -> bool
+    ensures { λ r. ⌜ r ≡ readFits (now (s .entry)) at ⌝ }
+{
+    if is_bare(s, at, 10) {
+        return true;
+    }
+    is_bare(s, at, 12)
+}
+
+// Whether the data of the WRITE block at a place lie inside its bytes.
+fn data_inside(s: &[u8], at: usize) -> bool
+    requires { ⌜ at < length (now s) ⌝ }
+    ensures { λ r. ⌜ r ≡ dataInside (now (s .entry)) at ⌝ }
+{
+    let from = wire::le16_at(s, at + WRITE_DATA_OFFSET) as usize;
+    let count = wire::le16_at(s, at + WRITE_LENGTH) as usize;
+    let words = wire::byte_at(s, at) as usize;
+    if from < at + 3 + 2 * words {
+        return false;
+    }
+    from + count <= block_end(s, at)
+}
+
+// Whether the WRITE block at a place has 12 or 14 words, and its data inside it.
+fn write_fits(s: &[u8], at: usize) -> bool
+    ensures { λ r. ⌜ r ≡ writeFits (now (s .entry)) at ⌝ }
+{
+    if has_shape(s, at, 12) {
+        return data_inside(s, at);
+    }
+    if has_shape(s, at, 14) {
+        return data_inside(s, at);
+    }
+    false
+}
+
+// Whether the block with that command at a place is one of its row; no other request is served.
+fn row_fits(s: &[u8], command: u8, at: usize) -> bool
+    ensures { λ r. ⌜ r ≡ rowFits (now (s .entry)) command at ⌝ }
+{
+    match command {
+        LOCKING => locking_fits(s, at),
+        READ => read_fits(s, at),
+        WRITE => write_fits(s, at),
+        CLOSE => is_bare(s, at, 3),
+        LOGOFF => is_bare(s, at, 2),
+        TREE_DISCONNECT => is_bare(s, at, 0),
+        PROCESS_EXIT => is_bare(s, at, 0),
+        _ => false,
+    }
+}
+
+// Whether a block with that command stands at a place of the message, and what follows it.
+pub fn judge_block(s: &[u8], command: u8, at: usize) -> Judged
+    ensures { λ r. ⌜ r ≡ judged (parse (now (s .entry)) command at) ⌝ }
+{
+    if !row_fits(s, command, at) {
+        return Judged::Malformed;
+    }
+    if !is_andx(command) {
+        return Judged::Stands(Next::End);
+    }
+    if !link_fits(s, command, at) {
+        return Judged::Malformed;
+    }
+    Judged::Stands(link_at(s, at))
+}
