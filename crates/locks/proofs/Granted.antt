@@ -1,21 +1,24 @@
 -- The locks of a request, range by range, against the list and the request's own earlier locks.
 -- Assumes nothing.
 use mathlib.Core.Path.{_≡_, refl, sym, ap, _∙_}
-use Prim.Native.Nat.{ℕ, _+_, _-_, _≤_}
-use mathlib.Core.Bool.{Bool, false}
+use Prim.Native.Nat.{ℕ, suc, _+_, _-_, _≤_}
+use mathlib.Core.Bool.{Bool, true, false, not, _&&_, and-true}
 use mathlib.Core.List.{List, [], _∷_, _++_, map, append-assoc, append-nil}
 use lib.ListN.{length, length-map}
+use lib.Dec.{eqb}
+use borrow.Author.Tests.{eq-eqb}
 use native.Mathlib.Omega.{arith}
 use Rattle.lists.specs.Walk.{found, foundFrom}
 use Rattle.lists.specs.FoundLaws.{firstOf, shifted, found-append, foundFrom-no}
 use Rattle.lists.specs.declared.Found.{Found}
 use Rattle.lists.specs.declared.Found.the-variants.{At, Nothing}
 use Rattle.records.specs.declared.Lock.{Lock}
-use Rattle.locks.specs.Range.{passesEnd}
-use Rattle.locks.specs.Answer.{answers}
+use Rattle.locks.specs.Range.{overlaps, passesEnd}
+use Rattle.locks.specs.Answer.{bars, inWay, answersFor, answers}
 use Rattle.locks.specs.Wire.{rangeAt, rangesAt, length-ranges, ranges-more}
 use Rattle.locks.specs.Request.{rangePasses, askOf, lockOf, Grants, granted, blocked, afterWalk, grantAll}
-use Rattle.locks.specs.Blocked.{blockedAt, conflictOf}
+use Rattle.locks.specs.Blocked.{rangeMeets, blockedAt, conflictOf}
+use Rattle.locks.specs.declared.types.Ask.{Ask}
 use Rattle.locks.specs.declared.types.LockRange.{LockRange}
 use Rattle.locks.specs.declared.types.Purpose.the-variants.{Grant}
 
@@ -43,14 +46,57 @@ map-snoc f [] r = refl
 map-snoc f (x ∷ rs) r = ap (λ (l : List Lock). f x ∷ l) (map-snoc f rs r)
 
 -- a walk that starts at a place counts from 0 there
-pub found-whole : (p : Lock → Bool) (from : ℕ) (l : List Lock) → found p l ≡ foundFrom (from - from) p l
+pub found-whole : {A : Type 0} (p : A → Bool) (from : ℕ) (l : List A) → found p l ≡ foundFrom (from - from) p l
 unfolding found
 found-whole p from l = let e : from - from ≡ 0 = omega arith in rw e
 
 -- a lock that does not answer is passed over
-pub found-next : (p : Lock → Bool) (from k : ℕ) (x : Lock) (l : List Lock) → from ≤ k → p x ≡ false
+pub found-next : {A : Type 0} (p : A → Bool) (from k : ℕ) (x : A) (l : List A) → from ≤ k → p x ≡ false
     → foundFrom (k - from) p (x ∷ l) ≡ foundFrom (k + 1 - from) p l
 found-next p from k x l h e = let next : k - from + 1 ≡ k + 1 - from = omega arith in rw (← next) (foundFrom-no p x l (k - from) e)
+
+-- ---- the request's own locks against one of its ranges
+
+module _ (file : ℕ → ℕ) (fid : ℕ) (shared : Bool) (r : LockRange) where
+  -- whether the lock of another range is in its way
+  abbrev ownBars : LockRange → Bool
+  ownBars x = answers file (askOf fid (Grant shared) r) (lockOf fid shared x)
+
+  never : (b c : Bool) → b && (false && c) ≡ false
+  never true c = refl
+  never false c = refl
+
+  -- shared ones never are
+  shared-never : shared ≡ true → (x : LockRange) → ownBars x ≡ false
+  unfolding answers answersFor inWay bars askOf lockOf
+  shared-never e x = rw e (never (overlaps (x .offset) (x .length) (r .offset) (r .length)) (eqb (file fid) (file fid)))
+
+  -- exclusive ones are where they overlap
+  exclusive-meets : shared ≡ false → (x : LockRange) → ownBars x ≡ rangeMeets (r .offset) (r .length) x
+  unfolding answers answersFor inWay bars askOf lockOf rangeMeets
+  exclusive-meets e x = rw (e, eq-eqb (file fid) (file fid) refl, and-true)
+
+  none-bars : shared ≡ true → (xs : List LockRange) (k : ℕ) → Nothing ≡ foundFrom k (answers file (askOf fid (Grant shared) r)) (map (lockOf fid shared) xs)
+  unfolding foundFrom
+  none-bars e [] k = refl
+  none-bars e (x ∷ xs) k = rw (shared-never e x) (none-bars e xs (suc k))
+
+  meets-bars : shared ≡ false → (xs : List LockRange) (k : ℕ)
+      → foundFrom k (rangeMeets (r .offset) (r .length)) xs ≡ foundFrom k (answers file (askOf fid (Grant shared) r)) (map (lockOf fid shared) xs)
+  unfolding foundFrom
+  meets-bars e [] k = refl
+  meets-bars e (x ∷ xs) k = rw (exclusive-meets e x, meets-bars e xs (suc k))
+
+  -- none of a shared request's own locks is found
+  pub own-shared : shared ≡ true → (xs : List LockRange) → Nothing ≡ found (answers file (askOf fid (Grant shared) r)) (map (lockOf fid shared) xs)
+  unfolding found
+  own-shared e xs = none-bars e xs 0
+
+  -- of an exclusive request's the first that overlaps is
+  pub own-exclusive : shared ≡ false → (q : Ask) → q ≡ askOf fid (Grant shared) r → (xs : List LockRange)
+      → found (rangeMeets (q .offset) (q .length)) xs ≡ found (answers file (askOf fid (Grant shared) r)) (map (lockOf fid shared) xs)
+  unfolding found askOf
+  own-exclusive e q f xs = rw f (meets-bars e xs 0)
 
 module _ (fid : ℕ) (shared large : Bool) (s : List ℕ) (from : ℕ) where
   -- the request's own locks, those of its ranges from..k

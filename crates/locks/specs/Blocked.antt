@@ -6,10 +6,12 @@ use mathlib.Core.List.{List, _++_, map}
 use Rattle.lists.specs.Walk.{found}
 use Rattle.lists.specs.declared.Found.{Found}
 use Rattle.lists.specs.declared.Found.the-variants.{At, Nothing}
+use Rattle.locks.specs.Range.{overlaps}
 use Rattle.locks.specs.Wire.{rangeAt, rangesAt}
 use Rattle.locks.specs.Answer.{answers}
 use Rattle.locks.specs.Request.{lockOf, askOf, Grants, granted, blocked}
 use Rattle.records.specs.declared.Lock.{Lock}
+use Rattle.locks.specs.declared.types.LockRange.{LockRange}
 use Rattle.locks.specs.declared.types.Purpose.the-variants.{Grant}
 
 -- range k against the list and, behind it, the request's own locks from..k
@@ -17,6 +19,10 @@ unfoldable pub conflictOf : (ℕ → ℕ) → ℕ → Bool → Bool → List ℕ
 conflictOf file fid shared large area from k list =
     found (answers file (askOf fid (Grant shared) (rangeAt large area k)))
     (list ++ map (lockOf fid shared) (rangesAt large area from (k - from)))
+
+-- a range overlaps the bytes from an offset
+unfoldable pub rangeMeets : ℕ → ℕ → LockRange → Bool
+rangeMeets offset length r = overlaps (r .offset) (r .length) offset length
 
 -- the place of the lock in the way, if there is one
 unfoldable pub blockedAt : Grants → Found

@@ -44,6 +44,11 @@ unfolding rangeSize
 place-small true k h = omega arith
 place-small false k h = omega arith
 
+pub size-small : (large : Bool) → rangeSize large ≤ 20
+unfolding rangeSize
+size-small true = omega arith
+size-small false = omega arith
+
 module _ (large : Bool) (s : List ℕ) where
   -- as many ranges as are asked
   pub length-ranges : (k n : ℕ) → length (rangesAt large s k n) ≡ n

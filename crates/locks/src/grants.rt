@@ -3,8 +3,9 @@
 // from the message, so that the words change only once all are granted.
 
 use crate::grant::lock_of;
-use crate::grant::own_conflict;
+use crate::range::overlap;
 use crate::release::ask_of;
+use crate::types::Ask;
 use crate::types::Purpose;
 use crate::types::Request;
 use crate::walk::first_answer;
@@ -16,6 +17,7 @@ ghost use mathlib.Core.Bool.{true};
 ghost use mathlib.Core.List.{_++_, map};
 ghost use Prim.Native.Nat.{_+_, _-_, _<_, _≤_};
 ghost use lib.ListN.{length, take};
+ghost use Rattle.lists.specs.Walk.{found};
 ghost use Rattle.lists.specs.Stored.{stored};
 ghost use Rattle.records.specs.Empty.{noLock};
 ghost use Rattle.tables.specs.Words.{word, lockArray, lockLimits, recordsFit, tableFits};
@@ -23,10 +25,27 @@ ghost use Rattle.tables.specs.Written.{locksIn};
 ghost use Rattle.locks.specs.Answer.{fileIn};
 ghost use Rattle.locks.specs.Wire.{rangesAt};
 ghost use Rattle.locks.specs.Request.{lockOf, grantAll};
-ghost use Rattle.locks.specs.Blocked.{blockedAt, conflictOf};
+ghost use Rattle.locks.specs.Blocked.{rangeMeets, blockedAt, conflictOf};
+
+// The first of the ranges from..to that overlaps what is asked.
+fn first_overlap(area: &[u8], large: bool, from: usize, to: usize, q: Ask) -> Found
+    requires { ⌜ (from ≤ to) × (to < 131072) ⌝ }
+    ensures { λ r. ⌜ r ≡ found (rangeMeets (q .offset) (q .length)) (rangesAt large (now (area .entry)) from (to - from)) ⌝ }
+{
+    let mut k = from;
+    while k < to {
+        let r = range_at(area, large, k);
+        if overlap(r.offset, r.length, q.offset, q.length) {
+            return Found::At(k - from);
+        }
+        k += 1;
+    }
+    Found::Nothing
+}
 
 // The first listed lock that stands in the way of range k, in the words or among the request's own
-// earlier ranges, which follow those.
+// earlier ranges, which follow those. These are of the same file and shared all or exclusive all, as
+// range k is: shared ones are never in its way, and each exclusive one that overlaps it is.
 fn conflict_of(
     files: &[u8; 65],
     words: &[u64],
@@ -45,7 +64,10 @@ fn conflict_of(
     if let Found::At(place) = first {
         return Found::At(place);
     }
-    let own = own_conflict(files, area, q.large, from, k, q.fid, q.shared, ask);
+    if q.shared {
+        return Found::Nothing;
+    }
+    let own = first_overlap(area, q.large, from, k, ask);
     let Found::At(place) = own else {
         return Found::Nothing;
     };

@@ -28,12 +28,15 @@ pub(crate) fn ask_of(c: Caller, fid: u16, offset: u64, count: u16, purpose: Purp
     }
 }
 
-// The first listed lock in the way: 1/33.
+// The first listed lock in the way: 1/33. Where no lock is held no table of files is made.
 pub(crate) fn first_bar(words: &[u64], q: Ask) -> Found
     requires { ⌜ length (now words) ≡ 1172 ⌝ }
     requires { ⌜ Good (tablesOf (now words)) ⌝ }
     ensures { λ r. ⌜ r ≡ barring (tablesOf (now (words .entry))) q ⌝ }
 {
+    if words[515] == 0 {
+        return Found::Nothing;
+    }
     let files = file_table(&words[130..515]);
     first_answer(&files, &words[515..1156], q)
 }

@@ -18,25 +18,28 @@ use Rattle.soundness.proofs.lock_words.locks_agree.Statement.{statement
 use Rattle.soundness.proofs.lock_words.locks_agree.Tie as tie
 
 abbrev Inv-loop : tie.InvT-loop
-Inv-loop files words count i₀ i =
+Inv-loop files words count exclusives i₀ i =
     (i ≤ count) × (agreeAll (fileIn files) (locksIn words) ≡ agreeAll (fileIn files) (rest (lockArray words) (word words 0) i))
 
 abbrev μ-loop : tie.MeasureT-loop
-μ-loop files words count i₀ i = count - i
+μ-loop files words count exclusives i₀ i = count - i
 
 shared-slice-read-count : tie.Need-shared-slice-read-count Inv-loop μ-loop
 shared-slice-read-count c = omega arith
+
+exclusives-end-requires : tie.Need-exclusives-end-requires Inv-loop μ-loop
+exclusives-end-requires c κs = search needs
 
 loop-holds : tie.Need-loop-holds Inv-loop μ-loop
 loop-holds c = (omega arith, refl)
 
 agrees-later-requires : tie.Need-agrees-later-requires Inv-loop μ-loop
-agrees-later-requires c κs = search needs
+agrees-later-requires c κs = let pre = c .before .before .before .before .before .pre in ((pre .0 .0, (pre .0 .1, omega arith)), (pre .1, c .before .before .exclusives-end .ensures))
 
 returns : tie.Need-returns Inv-loop μ-loop
 unfolding agreeAll
 returns c =
-    let start = c .before .before .before .before .before .before in
+    let start = c .before .before .before .before .before .before .before in
     let words = start .args .words .now in
     let loop = c .before .before .before .loop in
     let later = c .before .agrees-later in
@@ -52,7 +55,7 @@ loop-less c = omega arith
 loop-again : tie.Need-loop-again Inv-loop μ-loop
 unfolding agreeAll
 loop-again c =
-    let start = c .before .before .before .before .before .before in
+    let start = c .before .before .before .before .before .before .before in
     let words = start .args .words .now in
     let loop = c .before .before .before .loop in
     let later = c .before .agrees-later in
@@ -62,7 +65,7 @@ loop-again c =
 returns-2 : tie.Need-returns-2 Inv-loop μ-loop
 unfolding agreeAll
 returns-2 c =
-    let args = c .before .before .before .before .args in
+    let args = c .before .before .before .before .before .args in
     sym (c .before .loop .inv .1 ∙ tails-end (lockArray (args .words .now)) (word (args .words .now) 0) (λ l ms. all (agree (fileIn (args .files .now)) l) ms) (c .before .loop .i) (c .loop-test .left))
 
 pub locks-agree-spec : {M : Type 1} → statement M
@@ -72,6 +75,7 @@ locks-agree-spec =
     Inv-loop
     μ-loop
     shared-slice-read-count
+    exclusives-end-requires
     loop-holds
     agrees-later-requires
     returns
