@@ -297,9 +297,27 @@ conflict = record { tables = opened 2 (lock 7 4 1 ∷ []); request = message 0x2
 unfoldable pub noRecord : Row
 noRecord = record { tables = opened 2 (replicate 128 (lock 7 0 0)); request = message 0x24 0x7F 0xFF (lock100 0xFF); said = refusal 0x24 1 0x08 0x00 }
 
+-- with 127 held the last record is free
+unfoldable pub lastRecord : Row
+lastRecord =
+    record {
+      tables = opened 2 (replicate 127 (lock 7 0 0));
+      request = message 0x24 0x7F 0xFF (lock100 0xFF);
+      said = success 39 0x24 (0x02 ∷ 0xFF ∷ 0x00 ∷ 0x00 ∷ 0x00 ∷ 0x00 ∷ 0x00 ∷ []);
+    }
+
 -- "class 3, code 39, write would end past 4,096": 2 bytes at 4,095, which is 0x0FFF
 unfoldable pub noSpace : Row
 noSpace = record { tables = small; request = message 0x2F 0x7F 0xFF (writeBlock 0xFF 0xFF 0x0F); said = refusal 0x2F 3 0x27 0x00 }
+
+-- 2 bytes at 4,094 end at 4,096
+unfoldable pub lastBytes : Row
+lastBytes =
+    record {
+      tables = small;
+      request = message 0x2F 0x7F 0xFF (writeBlock 0xFF 0xFE 0x0F);
+      said = success 47 0x2F (0x06 ∷ 0xFF ∷ 0x00 ∷ 0x00 ∷ 0x00 ∷ 0x02 ∷ 0x00 ∷ 0xFF ∷ 0xFF ∷ 0x00 ∷ 0x00 ∷ 0x00 ∷ 0x00 ∷ 0x00 ∷ 0x00 ∷ []);
+    }
 
 -- ---- the table
 
@@ -330,12 +348,14 @@ table =
     ∷ passesTop
     ∷ conflict
     ∷ noRecord
+    ∷ lastRecord
     ∷ noSpace
+    ∷ lastBytes
     ∷ []
 
 -- what the definitions give is what the document says, in every row
 pub replies : map (λ r. given (r .tables) (r .request)) table ≡ map (λ r. r .said) table
-unfolding table lockingReply readReply writeReply closeReply logoffReply disconnectReply exitReply noFlags otherFlags justFlags lockReadReply writeCloseReply lockRefusedReply unserved malformed noSession noTree noOpen noRead noWrite lockType noSuchLock passesTop conflict noRecord noSpace message small tablesWith session tree open-of sizes memory given taken take-message dropped startsSmb isReply answered served replied replyOf replyHeader put runChain onlyStatus blocks blocksFrom blocksWithin afterParse afterBlock before parse answer linkFits linkAt mayFollow shaped bare le16At le32At callerOf run afterGiven after linkTo perform areaOf dataOf status statusOf replyBlock refusedBlock replySize linkWords two withSession isSession withTree withOpen isOpen openAt found foundFrom sound withinRoom fileOk treeOk permits holdsOpen openOk soundRecords lockOk agree agreeAll soundLocks fileOf isTree contains numberOk numbered any all allTails overlaps passesEnd reply success closeBlock lock100 lockBlock range100 parseLocking lockingFits isLarge rangeSize doLocking servedType requestOf locking request releaseAll afterFind removeAt named afterReleases grantAll afterWalk afterGrants settle rangesAt rangeAt rangeFrom numberAt rangePasses askOf lockOf answers answersFor inWay bars owns lockingAfter lockingEnd withLockList stored readBlock parseRead readFits wideOffset doRead unlessBarred barring asks readBytes contents sizeOf writeBlock parseWrite writeFits dataInside doWrite endsPast resized written withFiles parseClose parseLogoff parseEmpty remove sweepSessions sweepTrees sweepOpens sweepLocks sessionNamed treeNamed openNamed sessionStays treeStays openStays lockStays keep withSessions withTrees withOpens withLocks refusal opened lock
+unfolding table lockingReply readReply writeReply closeReply logoffReply disconnectReply exitReply noFlags otherFlags justFlags lockReadReply writeCloseReply lockRefusedReply unserved malformed noSession noTree noOpen noRead noWrite lockType noSuchLock passesTop conflict noRecord lastRecord noSpace lastBytes message small tablesWith session tree open-of sizes memory given taken take-message dropped startsSmb isReply answered served replied replyOf replyHeader put runChain onlyStatus blocks blocksFrom blocksWithin afterParse afterBlock before parse answer linkFits linkAt mayFollow shaped bare le16At le32At callerOf run afterGiven after linkTo perform areaOf dataOf status statusOf replyBlock refusedBlock replySize linkWords two withSession isSession withTree withOpen isOpen openAt found foundFrom sound withinRoom fileOk treeOk permits holdsOpen openOk soundRecords lockOk agree agreeAll soundLocks fileOf isTree contains numberOk numbered any all allTails overlaps passesEnd reply success closeBlock lock100 lockBlock range100 parseLocking lockingFits isLarge rangeSize doLocking servedType requestOf locking request releaseAll afterFind removeAt named afterReleases grantAll afterWalk afterGrants settle rangesAt rangeAt rangeFrom numberAt rangePasses askOf lockOf answers answersFor inWay bars owns lockingAfter lockingEnd withLockList stored readBlock parseRead readFits wideOffset doRead unlessBarred barring asks readBytes contents sizeOf writeBlock parseWrite writeFits dataInside doWrite endsPast resized written withFiles parseClose parseLogoff parseEmpty remove sweepSessions sweepTrees sweepOpens sweepLocks sessionNamed treeNamed openNamed sessionStays treeStays openStays lockStays keep withSessions withTrees withOpens withLocks refusal opened lock
 replies = refl
 
 -- ---- what else the call leaves
