@@ -2,8 +2,10 @@
 use mathlib.Core.Path.{_≡_, refl}
 use Prim.Native.Nat.{ℕ, _-_}
 use mathlib.Core.List.{List, [], _∷_, map}
-use lib.ListN.{replicate}
+use mathlib.Core.Bool.{false}
+use lib.ListN.{length, replicate}
 use Rattle.lists.specs.Walk.{any, all, allTails}
+use Rattle.records.specs.declared.Lock.{Lock}
 use Rattle.records.specs.declared.Tables.{Tables}
 use Rattle.locks.specs.Range.{overlaps, passesEnd}
 use Rattle.numbers.specs.Number.{contains, numberOk, numbered, freeFrom, smallestFree}
@@ -103,6 +105,57 @@ pub sound-4 : (addSession crowded 6 .number ≡ 4)
     × (take-message 5 short crowded memory (replicate 12292 0) .number ≡ 4)
 unfolding crowded small tablesWith session tree open-of sizes countFrom memory short take-message notTaken dropped startsSmb isReply refused done newSession addSession newTree addTree newOpen addOpen isOf loadNumber loadFile dropConnection sound withinRoom fileOk treeOk permits holdsOpen openOk soundRecords lockOk agree agreeAll soundLocks fileOf isTree contains numberOk numbered freeFrom smallestFree any all allTails overlaps passesEnd
 sound-4 = (refl, refl, refl, refl, refl, refl)
+
+-- one session of that UID, its tree of that TID and right, an open of that FID, file and access, those locks, and a first file of that size
+unfoldable pub oneOf : ℕ → ℕ → ℕ → ℕ → ℕ → ℕ → List Lock → ℕ → Tables
+oneOf uid tid right fid file access locks size =
+    record {
+      sessions = session uid 5 ∷ [];
+      nsessions = 1;
+      trees = tree tid uid right ∷ [];
+      ntrees = 1;
+      opens = open-of fid uid tid 7 file access ∷ [];
+      nopens = 1;
+      locks = locks;
+      nlocks = length locks;
+      files = record { size = size } ∷ [];
+    }
+
+-- an exclusive lock of FID 64
+unfoldable pub lock64 : ℕ → ℕ → Lock
+lock64 offset size = record { fid = 64; process = 7; offset = offset; length = size; shared = false }
+
+-- what dropping an unknown connection returns
+unfoldable pub judged : Tables → ℕ
+judged t = dropConnection t 6 .number
+
+-- "Tables are sound if counts and file sizes are within these limits; numbers are distinct and lie in 1 to 16, 1 to 32 and 1 to 64; .. rights, access and
+-- file numbers are among those listed; no open exceeds its tree's right"
+pub sound-records : (judged (oneOf 16 32 1 64 15 2 [] 4096) ≡ 0)
+    × (judged (oneOf 17 32 1 64 15 2 [] 0) ≡ 4)
+    × (judged (oneOf 0 32 1 64 15 2 [] 0) ≡ 4)
+    × (judged (oneOf 16 33 1 64 15 2 [] 0) ≡ 4)
+    × (judged (oneOf 16 0 1 64 15 2 [] 0) ≡ 4)
+    × (judged (oneOf 16 32 2 64 15 2 [] 0) ≡ 4)
+    × (judged (oneOf 16 32 1 65 15 2 [] 0) ≡ 4)
+    × (judged (oneOf 16 32 1 0 15 2 [] 0) ≡ 4)
+    × (judged (oneOf 16 32 1 64 16 2 [] 0) ≡ 4)
+    × (judged (oneOf 16 32 1 64 15 3 [] 0) ≡ 4)
+    × (judged (oneOf 16 32 0 64 15 1 [] 0) ≡ 4)
+    × (judged (oneOf 16 32 0 64 15 0 [] 0) ≡ 0)
+    × (judged (oneOf 16 32 1 64 15 2 [] 4097) ≡ 4)
+unfolding oneOf judged session tree open-of refused done dropConnection sound withinRoom fileOk treeOk permits holdsOpen openOk soundRecords lockOk agree agreeAll soundLocks fileOf isTree contains numberOk numbered freeFrom smallestFree any all allTails overlaps passesEnd
+sound-records = (refl, refl, refl, refl, refl, refl, refl, refl, refl, refl, refl, refl, refl)
+
+-- "locks 128"; "no lock passes 2^64; and two locks of one file that overlap are both shared"
+pub sound-locks : (judged (oneOf 16 32 1 64 15 2 (replicate 128 (lock64 7 0)) 0) ≡ 0)
+    × (judged (oneOf 16 32 1 64 15 2 (replicate 129 (lock64 7 0)) 0) ≡ 4)
+    × (judged (oneOf 16 32 1 64 15 2 (lock64 18446744073709551615 1 ∷ []) 0) ≡ 0)
+    × (judged (oneOf 16 32 1 64 15 2 (lock64 18446744073709551615 2 ∷ []) 0) ≡ 4)
+    × (judged (oneOf 16 32 1 64 15 2 (lock64 0 10 ∷ lock64 10 10 ∷ []) 0) ≡ 0)
+    × (judged (oneOf 16 32 1 64 15 2 (lock64 0 10 ∷ lock64 9 10 ∷ []) 0) ≡ 4)
+unfolding oneOf lock64 judged session tree open-of refused done dropConnection sound withinRoom fileOk treeOk permits holdsOpen openOk soundRecords lockOk agree agreeAll soundLocks fileOf isTree contains numberOk numbered freeFrom smallestFree any all allTails overlaps passesEnd
+sound-locks = (refl, refl, refl, refl, refl, refl)
 
 -- "5: table full": 16 sessions, 32 trees, 64 opens
 pub full-5 : (addSession full 6 .number ≡ 5)

@@ -6,3 +6,4 @@ pub mod State
 pub mod Codes
 pub mod Words
 pub mod Inside
+pub mod Replies
