@@ -29,3 +29,4 @@ pub mod ReplyBytes
 pub mod CallEffects
 pub mod Ready
 pub mod Exported
+pub mod OutOfRange
