@@ -51,8 +51,8 @@ struct host {
 struct terminal {
     uint32_t connection;
     uint32_t process;
-    uint8_t right;
-    uint8_t access;
+    uint32_t right;
+    uint32_t access;
 };
 
 static const struct terminal terminals[] = {

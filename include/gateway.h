@@ -105,19 +105,24 @@ void gateway_empty(struct gateway_tables *tables);
 /* Adds a session on a connection. On GATEWAY_DONE its UID, the smallest from 1 not in use, is in *uid. */
 uint8_t gateway_add_session(struct gateway_tables *tables, uint32_t connection, uint16_t *uid);
 
+/*
+ * The numbers that name a session, a tree or a file, rights and accesses are handed over in 32 bits and are never cut: a
+ * right of 256 is GATEWAY_OUT_OF_RANGE and not 0, a UID of 65,537 is GATEWAY_NO_SUCH and not 1.
+ */
+
 /* Adds a tree to the session of that UID. On GATEWAY_DONE its TID is in *tid. */
-uint8_t gateway_add_tree(struct gateway_tables *tables, uint16_t uid, uint8_t right, uint16_t *tid);
+uint8_t gateway_add_tree(struct gateway_tables *tables, uint32_t uid, uint32_t right, uint16_t *tid);
 
 /* Opens a file through the tree of that TID and UID, for a process. On GATEWAY_DONE the FID is in *fid. */
-uint8_t gateway_add_open(struct gateway_tables *tables, uint16_t uid, uint16_t tid, uint32_t process, uint8_t file,
-                         uint8_t access, uint16_t *fid);
+uint8_t gateway_add_open(struct gateway_tables *tables, uint32_t uid, uint32_t tid, uint32_t process, uint32_t file,
+                         uint32_t access, uint16_t *fid);
 
 /*
  * Sets a file that has no open to these contents: its size to contents_length, at most 4,096, and its bytes in the file
  * memory to the contents and zeros behind them. memory_length must be GATEWAY_MEMORY.
  */
-uint8_t gateway_load_file(struct gateway_tables *tables, uint8_t file, const uint8_t *contents, size_t contents_length,
-                          uint8_t *memory, size_t memory_length);
+uint8_t gateway_load_file(struct gateway_tables *tables, uint32_t file, const uint8_t *contents,
+                          size_t contents_length, uint8_t *memory, size_t memory_length);
 
 /*
  * The connection has ended: removes its sessions with their trees, opens and locks. A connection with no session is

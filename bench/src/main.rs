@@ -20,7 +20,7 @@ const ROUNDS: usize = 101;
 
 /// The file that is opened or loaded where stack is measured; it has no open
 /// but in full tables.
-const LAST_FILE: u8 = 15;
+const LAST_FILE: u32 = 15;
 
 fn main() {
     let rounds = match std::env::args().nth(1).map(|word| word.parse()) {
@@ -164,7 +164,8 @@ fn host_calls(scenes: &[Scene], stack: &mut Stack) -> Vec<(&'static str, usize)>
 
 fn host_call_stack(scene: &Scene, which: usize, stack: &mut Stack) -> usize {
     let Scene { asker, .. } = scene;
-    let (uid, tid, connection) = (asker.header.uid, asker.header.tid, asker.connection);
+    let (uid, tid) = (asker.header.uid.into(), asker.header.tid.into());
+    let connection = asker.connection;
     let (mut words, mut memory) = (scene.words, scene.memory.clone());
     let (contents, mut out) = (vec![1; FILE_BYTES], 0);
     stack.used(&mut || {

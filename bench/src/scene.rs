@@ -44,7 +44,7 @@ impl Scene {
         };
         for file in 0..FILES as u8 {
             let contents = vec![b'a' + file; FILE_BYTES];
-            load_file(&mut scene.words, file, &contents, &mut scene.memory).unwrap();
+            load_file(&mut scene.words, file.into(), &contents, &mut scene.memory).unwrap();
         }
         scene
     }
@@ -60,12 +60,20 @@ impl Scene {
     }
 
     fn tree(&mut self) {
-        self.asker.header.tid = add_tree(&mut self.words, self.asker.header.uid, 1).unwrap();
+        self.asker.header.tid = add_tree(&mut self.words, self.asker.header.uid.into(), 1).unwrap();
     }
 
     fn open(&mut self, file: u8) {
         let Header { uid, tid, pid } = self.asker.header;
-        self.asker.fid = add_open(&mut self.words, uid, tid, pid.into(), file, 2).unwrap();
+        self.asker.fid = add_open(
+            &mut self.words,
+            uid.into(),
+            tid.into(),
+            pid.into(),
+            file.into(),
+            2,
+        )
+        .unwrap();
     }
 
     /// Takes locks of the scene's type through the asker's open.

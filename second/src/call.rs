@@ -9,18 +9,18 @@ pub enum Call {
         connection: u32,
     },
     AddTree {
-        uid: u16,
-        right: u8,
+        uid: u32,
+        right: u32,
     },
     AddOpen {
-        uid: u16,
-        tid: u16,
+        uid: u32,
+        tid: u32,
         process: u32,
-        file: u8,
-        access: u8,
+        file: u32,
+        access: u32,
     },
     LoadFile {
-        file: u8,
+        file: u32,
         contents: Vec<u8>,
     },
     DropConnection {

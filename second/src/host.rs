@@ -1,9 +1,10 @@
 //! The host's calls other than taking a message. Each refuses in the order
-//! of "What a call returns": 2, 4, 7, 6, 8, 9, 5.
+//! of "What a call returns": 2, 4, 7, 6, 8, 9, 5. A number that the host names
+//! has 32 bits, and is the number given: 65,537 is no UID 1, 256 no right 0.
 
 use crate::refusals::{CallRefusal, Outcome};
 use crate::tables::{
-    exceeds, smallest_free, Open, Session, Tables, Tree, FILES, FILE_BYTES, LARGEST_ACCESS,
+    exceeds, smallest_free, Open, Session, Tables, Tree, FILE_BYTES, LARGEST_ACCESS, LARGEST_FILE,
     LARGEST_RIGHT, MEMORY_BYTES,
 };
 
@@ -16,6 +17,17 @@ pub(crate) fn ensure(condition: bool, refusal: CallRefusal) -> Outcome<()> {
     }
 }
 
+/// "number out of range" above the largest.
+fn within(value: u32, largest: u8) -> Outcome<u8> {
+    let small = u8::try_from(value).ok().filter(|&small| small <= largest);
+    small.ok_or(CallRefusal::OutOfRange)
+}
+
+/// A UID or TID, where some record could have it.
+fn number(value: u32) -> Outcome<u16> {
+    u16::try_from(value).map_err(|_| CallRefusal::NoSuch)
+}
+
 /// Adds a session; gives its UID.
 pub fn add_session(tables: &mut Tables, connection: u32) -> Outcome<u16> {
     ensure(tables.sound(), CallRefusal::NotSound)?;
@@ -26,9 +38,10 @@ pub fn add_session(tables: &mut Tables, connection: u32) -> Outcome<u16> {
 }
 
 /// Adds a tree; gives its TID.
-pub fn add_tree(tables: &mut Tables, uid: u16, right: u8) -> Outcome<u16> {
+pub fn add_tree(tables: &mut Tables, uid: u32, right: u32) -> Outcome<u16> {
     ensure(tables.sound(), CallRefusal::NotSound)?;
-    ensure(right <= LARGEST_RIGHT, CallRefusal::OutOfRange)?;
+    let right = within(right, LARGEST_RIGHT)?;
+    let uid = number(uid)?;
     ensure(tables.session(uid).is_some(), CallRefusal::NoSuch)?;
     ensure(!tables.trees.is_full(), CallRefusal::Full)?;
     let tid = smallest_free(tables.trees.in_use().iter().map(|t| t.tid));
@@ -39,15 +52,16 @@ pub fn add_tree(tables: &mut Tables, uid: u16, right: u8) -> Outcome<u16> {
 /// Adds an open; gives its FID.
 pub fn add_open(
     tables: &mut Tables,
-    uid: u16,
-    tid: u16,
+    uid: u32,
+    tid: u32,
     process: u32,
-    file: u8,
-    access: u8,
+    file: u32,
+    access: u32,
 ) -> Outcome<u16> {
     ensure(tables.sound(), CallRefusal::NotSound)?;
-    ensure(usize::from(file) < FILES, CallRefusal::OutOfRange)?;
-    ensure(access <= LARGEST_ACCESS, CallRefusal::OutOfRange)?;
+    let file = within(file, LARGEST_FILE)?;
+    let access = within(access, LARGEST_ACCESS)?;
+    let (uid, tid) = (number(uid)?, number(tid)?);
     // "no such session, or no such tree of that session": a tree's session
     // is there.
     let tree = tables.tree(tid, uid).ok_or(CallRefusal::NoSuch)?;
@@ -67,10 +81,15 @@ pub fn add_open(
 
 /// "A load sets the size and puts zeros after the loaded bytes, up to
 /// 4,096."
-pub fn load_file(tables: &mut Tables, file: u8, contents: &[u8], memory: &mut [u8]) -> Outcome<()> {
+pub fn load_file(
+    tables: &mut Tables,
+    file: u32,
+    contents: &[u8],
+    memory: &mut [u8],
+) -> Outcome<()> {
     ensure(memory.len() == MEMORY_BYTES, CallRefusal::Room)?;
     ensure(tables.sound(), CallRefusal::NotSound)?;
-    ensure(usize::from(file) < FILES, CallRefusal::OutOfRange)?;
+    let file = within(file, LARGEST_FILE)?;
     ensure(contents.len() <= FILE_BYTES, CallRefusal::OutOfRange)?;
     let has_open = tables.opens.in_use().iter().any(|o| o.file == file);
     ensure(!has_open, CallRefusal::HasOpen)?;

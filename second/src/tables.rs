@@ -18,6 +18,8 @@ pub const LARGEST_RIGHT: u8 = 1;
 pub const ACCESS_READ: u8 = 0;
 pub const ACCESS_WRITE: u8 = 1;
 pub const LARGEST_ACCESS: u8 = 2;
+/// "Files: 16, numbered from 0"
+pub const LARGEST_FILE: u8 = 15;
 
 #[derive(Clone, Copy, Debug, Default, PartialEq, Eq)]
 pub struct Session {

@@ -213,24 +213,24 @@ pub fn add_session(words: &mut Words, connection: u32) -> Outcome<u16> {
     on_tables(words, |tables| host::add_session(tables, connection))
 }
 
-pub fn add_tree(words: &mut Words, uid: u16, right: u8) -> Outcome<u16> {
+pub fn add_tree(words: &mut Words, uid: u32, right: u32) -> Outcome<u16> {
     on_tables(words, |tables| host::add_tree(tables, uid, right))
 }
 
 pub fn add_open(
     words: &mut Words,
-    uid: u16,
-    tid: u16,
+    uid: u32,
+    tid: u32,
     process: u32,
-    file: u8,
-    access: u8,
+    file: u32,
+    access: u32,
 ) -> Outcome<u16> {
     on_tables(words, |tables| {
         host::add_open(tables, uid, tid, process, file, access)
     })
 }
 
-pub fn load_file(words: &mut Words, file: u8, contents: &[u8], memory: &mut [u8]) -> Outcome<()> {
+pub fn load_file(words: &mut Words, file: u32, contents: &[u8], memory: &mut [u8]) -> Outcome<()> {
     // Row 2 comes before row 4, so also before the words are looked at.
     host::ensure(memory.len() == MEMORY_BYTES, CallRefusal::Room)?;
     on_tables(words, |tables| {

@@ -179,7 +179,7 @@ fn random_ask(rng: &mut Rng, follows: Option<&Ask>) -> Ask {
 fn random_world(rng: &mut Rng) -> World {
     let mut world = World::with_size(rng.below(60));
     for access in [2, 2, 0, 1] {
-        let file = rng.below(2) as u8;
+        let file = rng.below(2) as u32;
         host::add_open(&mut world.tables, 1, 1, 7, file, access).unwrap();
     }
     for _ in 0..rng.below(4) {

@@ -56,6 +56,35 @@ fn refusals_in_their_order() {
     assert_eq!(open(1, 1, 15, 2), Err(CallRefusal::ExceedsRight));
 }
 
+/// A number wider than a record's field is the number given, not its low bits.
+#[test]
+fn wide_numbers() {
+    let mut tables = Tables::empty();
+    add_session(&mut tables, 1).unwrap();
+    for (uid, right, refusal) in [
+        (1, 256, CallRefusal::OutOfRange),
+        (1, u32::MAX, CallRefusal::OutOfRange),
+        (65_537, 257, CallRefusal::OutOfRange),
+        (65_537, 1, CallRefusal::NoSuch),
+        (u32::MAX, 0, CallRefusal::NoSuch),
+    ] {
+        assert_eq!(add_tree(&mut tables, uid, right), Err(refusal));
+    }
+    add_tree(&mut tables, 1, 1).unwrap();
+    for (uid, tid, file, access, refusal) in [
+        (1, 1, 256, 0, CallRefusal::OutOfRange),
+        (1, 1, 0, 258, CallRefusal::OutOfRange),
+        (65_537, 1, 0, 0, CallRefusal::NoSuch),
+        (1, 65_537, 0, 0, CallRefusal::NoSuch),
+    ] {
+        let outcome = add_open(&mut tables, uid, tid, 7, file, access);
+        assert_eq!(outcome, Err(refusal));
+    }
+    let mut memory = vec![0; MEMORY_BYTES];
+    let outcome = load_file(&mut tables, 256, &[], &mut memory);
+    assert_eq!(outcome, Err(CallRefusal::OutOfRange));
+}
+
 #[test]
 fn loads() {
     let mut tables = Tables::empty();

@@ -37,3 +37,4 @@ pub mod SpansRefused
 pub mod SpansFit
 pub mod Ready
 pub mod Exported
+pub mod OutOfRange

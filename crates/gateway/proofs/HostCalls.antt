@@ -46,6 +46,10 @@ module _ (w : List ℕ) (a : Answer) where
         (λ e. absurd (let four : r .number ≡ 4 = l .row ∙ on-unfit e in let no : ⊥ = omega arith in no))
         (decided (inUseFit w))
 
+-- what a call leaves that answers another argument alike
+pub alike : {a b : Answer} {w out : List ℕ} {r : Outcome} → a ≡ b → Left a w out r → Left b w out r
+alike e l = rw (← e) l
+
 -- ---- a load
 
 module _ (w : List ℕ) (file : ℕ) (contents memory : List ℕ) where

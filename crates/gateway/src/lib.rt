@@ -1,5 +1,10 @@
-// The gateway as a C program calls it (include/gateway.h): the tables are 1172 words of the host's.
+// The gateway as a C program calls it (include/gateway.h): the tables are 1172 words of the host's. A number that names a record, a
+// right, a file or an access is 32 bits wide, and one that its field cannot hold is answered as document 01 says for that number.
 
+mod argument;
+
+use crate::argument::to_number;
+use crate::argument::to_small;
 use host::answer::DONE;
 use host::connection::drop_connection;
 use host::empty::empty_words;
@@ -49,15 +54,17 @@ pub extern "C" fn gateway_add_session(
 #[no_mangle]
 pub extern "C" fn gateway_add_tree(
     tables: &mut [u64; 1172],
-    uid: u16,
-    right: u8,
+    uid: u32,
+    right: u32,
     tid: &mut u16,
 ) -> u8
     ensures { λ r. ⌜ r ≡ numberOf (now (tables .entry)) (treeAdded (now (tables .entry)) uid right) ⌝ }
     ensures { λ _. ⌜ now (tid .exit) ≡ idAfter (now (tid .entry)) (now (tables .entry)) (treeAdded (now (tables .entry)) uid right) ⌝ }
     ensures { λ r. ⌜ ForNext (now (tables .entry)) (now (tables .exit)) r (treeAdded (now (tables .entry)) uid right .tables) ⌝ }
 {
-    let a = add_tree(tables, uid, right);
+    let narrow_uid = to_number(uid);
+    let narrow_right = to_small(right);
+    let a = add_tree(tables, narrow_uid, narrow_right);
     let number = a.number;
     if number != DONE {
         return number;
@@ -70,18 +77,29 @@ pub extern "C" fn gateway_add_tree(
 #[no_mangle]
 pub extern "C" fn gateway_add_open(
     tables: &mut [u64; 1172],
-    uid: u16,
-    tid: u16,
+    uid: u32,
+    tid: u32,
     process: u32,
-    file: u8,
-    access: u8,
+    file: u32,
+    access: u32,
     fid: &mut u16,
 ) -> u8
     ensures { λ r. ⌜ r ≡ numberOf (now (tables .entry)) (openAdded (now (tables .entry)) uid tid process file access) ⌝ }
     ensures { λ _. ⌜ now (fid .exit) ≡ idAfter (now (fid .entry)) (now (tables .entry)) (openAdded (now (tables .entry)) uid tid process file access) ⌝ }
     ensures { λ r. ⌜ ForNext (now (tables .entry)) (now (tables .exit)) r (openAdded (now (tables .entry)) uid tid process file access .tables) ⌝ }
 {
-    let a = add_open(tables, uid, tid, process, file, access);
+    let narrow_uid = to_number(uid);
+    let narrow_tid = to_number(tid);
+    let narrow_file = to_small(file);
+    let narrow_access = to_small(access);
+    let a = add_open(
+        tables,
+        narrow_uid,
+        narrow_tid,
+        process,
+        narrow_file,
+        narrow_access,
+    );
     let number = a.number;
     if number != DONE {
         return number;
@@ -94,7 +112,7 @@ pub extern "C" fn gateway_add_open(
 #[no_mangle]
 pub extern "C" fn gateway_load_file(
     tables: &mut [u64; 1172],
-    file: u8,
+    file: u32,
     contents: &[u8],
     memory: &mut [u8],
 ) -> u8
@@ -102,7 +120,8 @@ pub extern "C" fn gateway_load_file(
     ensures { λ _. ⌜ now (memory .exit) ≡ memoryAfter (now (tables .entry)) file (now (contents .entry)) (now (memory .entry)) ⌝ }
     ensures { λ r. ⌜ ForNext (now (tables .entry)) (now (tables .exit)) r (fileLoaded (now (tables .entry)) file (now (contents .entry)) (now (memory .entry)) .tables) ⌝ }
 {
-    let a = load_file(tables, file, contents, memory);
+    let narrow_file = to_small(file);
+    let a = load_file(tables, narrow_file, contents, memory);
     let number = a.number;
     if number != DONE {
         return number;

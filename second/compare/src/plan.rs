@@ -179,7 +179,10 @@ impl Planner {
         };
         let right = self.rng.pick(&[0, 1, 1, 1, 1]);
         let right = self.seldom(right, &[2, 3, 255]);
-        Trial::plain(Call::AddTree { uid, right })
+        Trial::plain(Call::AddTree {
+            uid: self.seldom_wide(uid.into()),
+            right: self.seldom_wide(right),
+        })
     }
 
     fn add_open(&mut self, tables: &Tables) -> Trial {
@@ -196,16 +199,17 @@ impl Planner {
             tid = self.any_number();
         }
         let file = self.rng.pick(&[0, 0, 0, 1, 1, 2, 3, 15]);
-        let any_file = self.rng.below(16) as u8;
+        let any_file = self.rng.below(16) as u32;
         let file = self.seldom(file, &[16, 17, 128, 255, any_file, any_file]);
         let access = self.rng.pick(&[0, 1, 2, 2, 2]);
+        let access = self.seldom(access, &[3, 4, 255]);
         let low = u32::from(self.rng.pick(&PROCESSES));
         Trial::plain(Call::AddOpen {
-            uid,
-            tid,
+            uid: self.seldom_wide(uid.into()),
+            tid: self.seldom_wide(tid.into()),
             process: self.rng.pick(&[low, low, low, low + 0x1_0000, u32::MAX]),
-            file,
-            access: self.seldom(access, &[3, 4, 255]),
+            file: self.seldom_wide(file),
+            access: self.seldom_wide(access),
         })
     }
 
@@ -214,13 +218,14 @@ impl Planner {
         let opens = tables.opens.in_use();
         let unopened = (0..16).find(|&file| opens.iter().all(|open| open.file != file));
         let file = self.rng.pick(&[any, unopened.unwrap_or(any)]);
+        let file = self.seldom(file.into(), &[16, 17, 255]);
         let small = self.rng.below(200);
         let length = self
             .rng
             .pick(&[small, small, small, 0, 4095, 4096, 4096, 4097, 9000]);
         Trial::Call {
             call: Call::LoadFile {
-                file: self.seldom(file, &[16, 17, 255]),
+                file: self.seldom_wide(file),
                 contents: self.rng.bytes(length),
             },
             memory: self.memory_length(),
@@ -232,6 +237,24 @@ impl Planner {
     fn seldom<T: Copy>(&mut self, value: T, others: &[T]) -> T {
         if self.once_in(16) {
             self.rng.pick(others)
+        } else {
+            value
+        }
+    }
+
+    /// The value, or once in 20 one that is it in its low 8 or 16 bits, or
+    /// that no field holds.
+    fn seldom_wide(&mut self, value: u32) -> u32 {
+        if self.once_in(20) {
+            self.rng.pick(&[
+                value + 0x100,
+                value + 0x1_0000,
+                value + 0x8000_0000,
+                256,
+                257,
+                65_537,
+                u32::MAX,
+            ])
         } else {
             value
         }

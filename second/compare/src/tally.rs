@@ -19,6 +19,8 @@ pub struct Tally {
     pub damaged: usize,
     pub damaged_but_sound: usize,
     numbers: BTreeMap<(&'static str, u8), usize>,
+    /// Refused for an argument wider than its field.
+    wide: BTreeMap<&'static str, usize>,
     /// By command; the header's for 2/22 (as 0) and 2/1.
     refused: BTreeMap<(WireRefusal, u8), usize>,
     refused_later: BTreeMap<WireRefusal, usize>,
@@ -38,6 +40,44 @@ const NUMBERS: [(&str, &[u8]); 6] = [
     ("load_file", &[0, 2, 4, 7, 9]),
     ("drop_connection", &[0, 4]),
     ("take_message", &[0, 1, 2, 4]),
+];
+
+/// A call's arguments that can be wider than their fields: what it is, its
+/// value, the field's largest value, and the refusal above that.
+fn arguments(call: &Call) -> Vec<(&'static str, u32, u32, u8)> {
+    const NUMBER: u32 = u16::MAX as u32;
+    const SMALL: u32 = u8::MAX as u32;
+    match *call {
+        Call::AddTree { uid, right } => vec![
+            ("a tree's UID", uid, NUMBER, 6),
+            ("a tree's right", right, SMALL, 7),
+        ],
+        Call::AddOpen {
+            uid,
+            tid,
+            file,
+            access,
+            ..
+        } => vec![
+            ("an open's UID", uid, NUMBER, 6),
+            ("an open's TID", tid, NUMBER, 6),
+            ("an open's file", file, SMALL, 7),
+            ("an open's access", access, SMALL, 7),
+        ],
+        Call::LoadFile { file, .. } => vec![("a load's file", file, SMALL, 7)],
+        _ => Vec::new(),
+    }
+}
+
+/// Each that [`arguments`] names.
+const WIDE: [&str; 7] = [
+    "a tree's UID",
+    "a tree's right",
+    "an open's UID",
+    "an open's TID",
+    "an open's file",
+    "an open's access",
+    "a load's file",
 ];
 
 /// Whether a command can be refused so.
@@ -78,6 +118,11 @@ impl Tally {
             .numbers
             .entry((trial.name(), given.number))
             .or_default() += 1;
+        for (name, value, largest, refusal) in trial.call().map(arguments).unwrap_or_default() {
+            if value > largest && given.number == refusal {
+                *self.wide.entry(name).or_default() += 1;
+            }
+        }
         if let (Some(Call::TakeMessage { message, .. }), 0) = (trial.call(), given.number) {
             self.count_reply(message, &reply[..given.value]);
         }
@@ -147,6 +192,7 @@ impl Tally {
         let parts = [
             full,
             self.print_numbers(),
+            self.print_wide(),
             self.print_refused(),
             self.print_done(),
             self.print_chains(),
@@ -169,6 +215,17 @@ impl Tally {
                 let count = self.numbers.get(&(name, number)).copied().unwrap_or(0);
                 good &= enough(count, LEAST, &format!("{name} giving {number}"));
             }
+        }
+        good
+    }
+
+    fn print_wide(&self) -> bool {
+        let mut good = true;
+        println!("refused with an argument wider than its field:");
+        for name in WIDE {
+            let count = self.wide.get(name).copied().unwrap_or(0);
+            println!("  {name}: {count}");
+            good &= enough(count, LEAST, &format!("{name} wider than its field"));
         }
         good
     }

@@ -7,19 +7,19 @@ pub mod guarded;
 extern "C" {
     pub fn gateway_empty(tables: *mut u64);
     pub fn gateway_add_session(tables: *mut u64, connection: u32, uid: *mut u16) -> u8;
-    pub fn gateway_add_tree(tables: *mut u64, uid: u16, right: u8, tid: *mut u16) -> u8;
+    pub fn gateway_add_tree(tables: *mut u64, uid: u32, right: u32, tid: *mut u16) -> u8;
     pub fn gateway_add_open(
         tables: *mut u64,
-        uid: u16,
-        tid: u16,
+        uid: u32,
+        tid: u32,
         process: u32,
-        file: u8,
-        access: u8,
+        file: u32,
+        access: u32,
         fid: *mut u16,
     ) -> u8;
     pub fn gateway_load_file(
         tables: *mut u64,
-        file: u8,
+        file: u32,
         contents: *const u8,
         contents_length: usize,
         memory: *mut u8,

@@ -18,8 +18,8 @@ pub fn encode(call: &Call, history: &mut Vec<u8>) {
         }
         Call::AddTree { uid, right } => {
             history.push(2);
-            history.extend(uid.to_le_bytes());
-            history.push(*right);
+            put_u16(history, *uid);
+            put_u8(history, *right);
         }
         Call::AddOpen {
             uid,
@@ -29,13 +29,15 @@ pub fn encode(call: &Call, history: &mut Vec<u8>) {
             access,
         } => {
             history.push(3);
-            history.extend(uid.to_le_bytes());
-            history.extend(tid.to_le_bytes());
+            put_u16(history, *uid);
+            put_u16(history, *tid);
             history.extend(process.to_le_bytes());
-            history.extend([*file, *access]);
+            put_u8(history, *file);
+            put_u8(history, *access);
         }
         Call::LoadFile { file, contents } => {
-            history.extend([4, *file]);
+            history.push(4);
+            put_u8(history, *file);
             put_counted(history, contents);
         }
         Call::DropConnection { connection } => {
@@ -61,18 +63,18 @@ pub fn decode(history: &mut &[u8]) -> Option<Call> {
             connection: take_u32(history)?,
         },
         2 => Call::AddTree {
-            uid: take_u16(history)?,
-            right: take_u8(history)?,
+            uid: take_u16(history)?.into(),
+            right: take_u8(history)?.into(),
         },
         3 => Call::AddOpen {
-            uid: take_u16(history)?,
-            tid: take_u16(history)?,
+            uid: take_u16(history)?.into(),
+            tid: take_u16(history)?.into(),
             process: take_u32(history)?,
-            file: take_u8(history)?,
-            access: take_u8(history)?,
+            file: take_u8(history)?.into(),
+            access: take_u8(history)?.into(),
         },
         4 => Call::LoadFile {
-            file: take_u8(history)?,
+            file: take_u8(history)?.into(),
             contents: take_counted(history)?,
         },
         5 => Call::DropConnection {
@@ -84,6 +86,16 @@ pub fn decode(history: &mut &[u8]) -> Option<Call> {
         },
         _ => return None,
     })
+}
+
+/// A history's numbers are as wide as the fields of the records.
+fn put_u8(history: &mut Vec<u8>, value: u32) {
+    history.push(u8::try_from(value).expect("a number of 8 bits"));
+}
+
+fn put_u16(history: &mut Vec<u8>, value: u32) {
+    let value = u16::try_from(value).expect("a number of 16 bits");
+    history.extend(value.to_le_bytes());
 }
 
 /// A 16-bit length, then the bytes.

@@ -38,13 +38,13 @@ fn host_call(rng: &mut Rng, tables: &Tables, lot: usize) -> Option<Call> {
     Some(match lot {
         0..=1 => Call::AddSession { connection },
         2..=4 => Call::AddTree {
-            uid: 1 + rng.below(tables.sessions.count + 1) as u16,
+            uid: 1 + rng.below(tables.sessions.count + 1) as u32,
             right: rng.pick(&[0, 1, 1]),
         },
         5..=11 => any_open(rng, tables),
         12..=21 if few => any_open(rng, tables),
         22..=23 => Call::LoadFile {
-            file: (BUSY_FILES - 1 + rng.below(16 - BUSY_FILES)) as u8,
+            file: (BUSY_FILES - 1 + rng.below(16 - BUSY_FILES)) as u32,
             contents: some_bytes(rng, 90),
         },
         24 => Call::DropConnection { connection },
@@ -68,10 +68,10 @@ fn any_open(rng: &mut Rng, tables: &Tables) -> Call {
     };
     let high = u32::from(rng.below(12) == 0) << 16;
     Call::AddOpen {
-        uid,
-        tid,
+        uid: uid.into(),
+        tid: tid.into(),
         process: u32::from(rng.pick(&PROCESSES)) + high,
-        file: rng.below(BUSY_FILES) as u8,
+        file: rng.below(BUSY_FILES) as u32,
         access: match right {
             0 => rng.pick(&[0, 0, 0, 0, 1]),
             _ => rng.pick(&[0, 1, 2, 2, 2, 2]),

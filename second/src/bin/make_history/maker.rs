@@ -90,6 +90,7 @@ impl Maker {
     }
 
     pub fn tree(&mut self, uid: u16, right: u8) -> u16 {
+        let (uid, right) = (uid.into(), right.into());
         self.host(Call::AddTree { uid, right }, 0)
     }
 
@@ -112,6 +113,7 @@ impl Maker {
 
     pub fn load(&mut self, file: u8, size: usize) {
         let contents = self.rng.bytes(size);
+        let file = file.into();
         self.host(Call::LoadFile { file, contents }, 0);
     }
 
@@ -183,11 +185,11 @@ impl Maker {
 
 pub fn open_call(user: User, process: u32, file: u8, access: u8) -> Call {
     Call::AddOpen {
-        uid: user.uid,
-        tid: user.tid,
+        uid: user.uid.into(),
+        tid: user.tid.into(),
         process,
-        file,
-        access,
+        file: file.into(),
+        access: access.into(),
     }
 }
 

@@ -652,7 +652,7 @@ fn evening(maker: &mut Maker) {
     let tables = maker.tables();
     let busy = tables.opens.in_use().iter().map(|open| open.file).take(3);
     for file in busy {
-        let contents = vec![1, 2, 3];
+        let (file, contents) = (file.into(), vec![1, 2, 3]);
         maker.host(Call::LoadFile { file, contents }, 9);
     }
     for session in tables.sessions.in_use().iter().take(2) {

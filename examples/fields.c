@@ -1,0 +1,232 @@
+/*
+ * Reads every field of the tables by its name in gateway.h. The calls below give a field of some record a value that no
+ * other field of the record has, and each count another, so a field that the header has in another place than the library
+ * is read with a wrong value.
+ *
+ * Exit status: 0 if every field is as given and stands at its word; 1 if not, with each that is not; 2 if a call was
+ * refused.
+ */
+#include "gateway.h"
+
+#include <stdio.h>
+#include <stdlib.h>
+
+#define MESSAGE 71 /* bytes of a LOCKING message with one range of 20 bytes */
+
+static struct gateway_tables tables;
+static uint8_t memory[GATEWAY_MEMORY];
+static unsigned long read_fields, wrong;
+
+/* What the tables hold after the calls; records not named are all 0. */
+static const struct gateway_tables expected = {
+    .session_count = 5,
+    .sessions = {{.uid = 1, .connection = 70001},
+                 {.uid = 2, .connection = 70002},
+                 {.uid = 3, .connection = 70003},
+                 {.uid = 4, .connection = 70004},
+                 {.uid = 5, .connection = 70005}},
+    .tree_count = 4,
+    .trees = {{.tid = 1, .uid = 2, .right = 0},
+              {.tid = 2, .uid = 3, .right = 1},
+              {.tid = 3, .uid = 2, .right = 1},
+              {.tid = 4, .uid = 3, .right = 1}},
+    .open_count = 3,
+    .opens = {{.fid = 1, .uid = 3, .tid = 4, .process = 65541, .file = 9, .access = 2},
+              {.fid = 2, .uid = 3, .tid = 4, .process = 7, .file = 5, .access = 1},
+              {.fid = 3, .uid = 3, .tid = 4, .process = 8, .file = 6, .access = 0}},
+    .lock_count = 2,
+    .locks = {{.fid = 1, .process = 4321, .offset = 10, .length = 20, .shared = 0},
+              {.fid = 2, .process = 1234, .offset = 4294967301, .length = 8589934598, .shared = 1}},
+    .files = {[3] = {.size = 300}, [9] = {.size = 77}},
+};
+
+static void require_done(uint8_t number, const char *call)
+{
+    if (number == GATEWAY_DONE)
+        return;
+    fprintf(stderr, "fields: %s returned %u\n", call, (unsigned)number);
+    exit(2);
+}
+
+static void load(uint32_t file, size_t length)
+{
+    static const uint8_t contents[GATEWAY_FILE_SIZE];
+    require_done(gateway_load_file(&tables, file, contents, length, memory, sizeof memory), "gateway_load_file");
+}
+
+/* The number given out must be the one expected. */
+static void require_number(uint16_t given, uint64_t number, const char *call)
+{
+    if (given == number)
+        return;
+    fprintf(stderr, "fields: %s gave out %u\n", call, (unsigned)given);
+    exit(2);
+}
+
+static void add_session(uint32_t connection, uint64_t number)
+{
+    uint16_t uid;
+    require_done(gateway_add_session(&tables, connection, &uid), "gateway_add_session");
+    require_number(uid, number, "gateway_add_session");
+}
+
+static void add_tree(uint32_t uid, uint32_t right, uint64_t number)
+{
+    uint16_t tid;
+    require_done(gateway_add_tree(&tables, uid, right, &tid), "gateway_add_tree");
+    require_number(tid, number, "gateway_add_tree");
+}
+
+static void add_open(uint32_t process, uint32_t file, uint32_t access, uint64_t number)
+{
+    uint16_t fid;
+    require_done(gateway_add_open(&tables, 3, 4, process, file, access, &fid), "gateway_add_open");
+    require_number(fid, number, "gateway_add_open");
+}
+
+/* Puts a number at a place, the low byte first. */
+static void put(uint8_t *message, size_t place, size_t count, uint64_t number)
+{
+    for (size_t byte = 0; byte < count; byte++)
+        message[place + byte] = (uint8_t)(number >> (8 * byte));
+}
+
+/* A lock by a LOCKING message of UID 3 and TID 4 on connection 70003; its ranges have 20 bytes, type bit 0x10. */
+static void lock(uint16_t fid, uint8_t type, uint16_t process, uint64_t offset, uint64_t length)
+{
+    static uint8_t room[GATEWAY_ROOM];
+    uint8_t message[MESSAGE] = {0xFF, 0x53, 0x4D, 0x42, 0x24, [32] = 8, 0xFF};
+    size_t reply_length = 0;
+    put(message, 24, 2, 4); /* TID */
+    put(message, 28, 2, 3); /* UID */
+    put(message, 37, 2, fid);
+    put(message, 39, 1, type | 0x10);
+    put(message, 47, 2, 1);  /* one lock */
+    put(message, 49, 2, 20); /* ByteCount */
+    put(message, 51, 2, process);
+    put(message, 55, 4, offset >> 32);
+    put(message, 59, 4, offset);
+    put(message, 63, 4, length >> 32);
+    put(message, 67, 4, length);
+    require_done(gateway_take_message(&tables, 70003, message, sizeof message, memory, sizeof memory, room, sizeof room,
+                                      &reply_length),
+                 "gateway_take_message");
+    if (room[5] != 0) {
+        fprintf(stderr, "fields: the lock was refused with class %u\n", (unsigned)room[5]);
+        exit(2);
+    }
+}
+
+static void fill(void)
+{
+    gateway_empty(&tables);
+    load(3, 300);
+    load(9, 77);
+    add_session(70001, 1);
+    add_session(70002, 2);
+    add_session(70003, 3);
+    add_session(70004, 4);
+    add_session(70005, 5);
+    add_tree(2, 0, 1);
+    add_tree(3, 1, 2);
+    add_tree(2, 1, 3);
+    add_tree(3, 1, 4);
+    add_open(65541, 9, 2, 1);
+    add_open(7, 5, 1, 2);
+    add_open(8, 6, 0, 3);
+    lock(1, 0x00, 4321, 10, 20);
+    lock(2, 0x01, 1234, 4294967301, 8589934598);
+}
+
+static void same(const char *name, size_t place, uint64_t value, uint64_t given)
+{
+    read_fields++;
+    if (value == given)
+        return;
+    wrong++;
+    fprintf(stderr, "fields: %s of record %zu is %llu and not %llu\n", name, place, (unsigned long long)value,
+            (unsigned long long)given);
+}
+
+#define COUNT(field) same(#field, 0, tables.field, expected.field)
+#define FIELD(table, place, field) same(#table "." #field, place, tables.table[place].field, expected.table[place].field)
+
+static void read_records(void)
+{
+    COUNT(session_count);
+    COUNT(tree_count);
+    COUNT(open_count);
+    COUNT(lock_count);
+    for (size_t place = 0; place < GATEWAY_SESSIONS; place++) {
+        FIELD(sessions, place, uid);
+        FIELD(sessions, place, connection);
+    }
+    for (size_t place = 0; place < GATEWAY_TREES; place++) {
+        FIELD(trees, place, tid);
+        FIELD(trees, place, uid);
+        FIELD(trees, place, right);
+    }
+    for (size_t place = 0; place < GATEWAY_OPENS; place++) {
+        FIELD(opens, place, fid);
+        FIELD(opens, place, uid);
+        FIELD(opens, place, tid);
+        FIELD(opens, place, process);
+        FIELD(opens, place, file);
+        FIELD(opens, place, access);
+    }
+    for (size_t place = 0; place < GATEWAY_LOCKS; place++) {
+        FIELD(locks, place, fid);
+        FIELD(locks, place, process);
+        FIELD(locks, place, offset);
+        FIELD(locks, place, length);
+        FIELD(locks, place, shared);
+    }
+    for (size_t place = 0; place < GATEWAY_FILES; place++)
+        FIELD(files, place, size);
+}
+
+#define WORD(field, word) same("the word of " #field, 0, offsetof(struct gateway_tables, field) / 8, word)
+
+/* The words as the library has them: the first record of each table, the start of its second, and its last word. */
+static void read_words(void)
+{
+    WORD(session_count, 0);
+    WORD(sessions[0].uid, 1);
+    WORD(sessions[0].connection, 2);
+    WORD(sessions[1].uid, 3);
+    WORD(sessions[15].connection, 32);
+    WORD(tree_count, 33);
+    WORD(trees[0].tid, 34);
+    WORD(trees[0].uid, 35);
+    WORD(trees[0].right, 36);
+    WORD(trees[1].tid, 37);
+    WORD(trees[31].right, 129);
+    WORD(open_count, 130);
+    WORD(opens[0].fid, 131);
+    WORD(opens[0].uid, 132);
+    WORD(opens[0].tid, 133);
+    WORD(opens[0].process, 134);
+    WORD(opens[0].file, 135);
+    WORD(opens[0].access, 136);
+    WORD(opens[1].fid, 137);
+    WORD(opens[63].access, 514);
+    WORD(lock_count, 515);
+    WORD(locks[0].fid, 516);
+    WORD(locks[0].process, 517);
+    WORD(locks[0].offset, 518);
+    WORD(locks[0].length, 519);
+    WORD(locks[0].shared, 520);
+    WORD(locks[1].fid, 521);
+    WORD(locks[127].shared, 1155);
+    WORD(files[0].size, 1156);
+    WORD(files[15].size, 1171);
+}
+
+int main(void)
+{
+    fill();
+    read_records();
+    read_words();
+    printf("fields: %lu read, %lu wrong\n", read_fields, wrong);
+    return wrong == 0 ? 0 : 1;
+}
