@@ -9,7 +9,7 @@ use lib.ListN.{length}
 use lib.Dec.{eqb, ltb}
 use Rattle.records.specs.declared.Tables.{Tables}
 use Rattle.soundness.specs.Sound.{sound}
-use Rattle.host.specs.declared.answer.Answer.{Answer}
+use Rattle.host.specs.declared.answer.Returned.{Returned}
 use Rattle.host.specs.HostCall.{addSession, addTree, addOpen, loadFile, loadMemory, dropConnection}
 use Rattle.message.specs.Message.{Taken, notTaken, take-message}
 use Rattle.tables.specs.Words.{inUseFit, tablesOf}
@@ -28,32 +28,32 @@ pub record ForNext (w out : List ℕ) (r : ℕ) (t : Tables) : Type 0 where
   pub again : ready w ≡ true → ready out ≡ true
 
 -- the number returned, where the core answers a
-unfoldable pub numberOf : List ℕ → Answer → ℕ
+unfoldable pub numberOf : List ℕ → Returned → ℕ
 numberOf w a = cond (inUseFit w) (a .number) 4
 
 -- the call is done
-unfoldable pub isDone : List ℕ → Answer → Bool
+unfoldable pub isDone : List ℕ → Returned → Bool
 isDone w a = inUseFit w && eqb (a .number) 0
 
 -- the out-parameter after the call
-unfoldable pub idAfter : ℕ → List ℕ → Answer → ℕ
+unfoldable pub idAfter : ℕ → List ℕ → Returned → ℕ
 idAfter id w a = cond (isDone w a) (a .id) id
 
 -- ---- what the core answers, on words
 
-unfoldable pub sessionAdded : List ℕ → ℕ → Answer
+unfoldable pub sessionAdded : List ℕ → ℕ → Returned
 sessionAdded w connection = addSession (tablesOf w) connection
 
-unfoldable pub treeAdded : List ℕ → ℕ → ℕ → Answer
+unfoldable pub treeAdded : List ℕ → ℕ → ℕ → Returned
 treeAdded w uid right = addTree (tablesOf w) uid right
 
-unfoldable pub openAdded : List ℕ → ℕ → ℕ → ℕ → ℕ → ℕ → Answer
+unfoldable pub openAdded : List ℕ → ℕ → ℕ → ℕ → ℕ → ℕ → Returned
 openAdded w uid tid process file access = addOpen (tablesOf w) uid tid process file access
 
-unfoldable pub connectionDropped : List ℕ → ℕ → Answer
+unfoldable pub connectionDropped : List ℕ → ℕ → Returned
 connectionDropped w connection = dropConnection (tablesOf w) connection
 
-unfoldable pub fileLoaded : List ℕ → ℕ → List ℕ → List ℕ → Answer
+unfoldable pub fileLoaded : List ℕ → ℕ → List ℕ → List ℕ → Returned
 fileLoaded w file contents memory = loadFile (tablesOf w) file contents memory
 
 -- a load: file memory that is not 65,536 bytes is refused before the words are looked at

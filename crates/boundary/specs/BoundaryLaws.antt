@@ -9,7 +9,7 @@ use mathlib.Core.List.{List}
 use lib.ListN.{length, replicate}
 use lib.Dec.{eqb}
 use borrow.Author.Tests.{eq-eqb, ne-eqb}
-use Rattle.host.specs.declared.answer.Answer.{Answer}
+use Rattle.host.specs.declared.answer.Returned.{Returned}
 use Rattle.host.specs.HostCall.{loadNumber, loadFile, loadMemory, refused, done, noTables}
 use Rattle.lists.specs.Walk.{all}
 use Rattle.lists.specs.Truth.{decided, both-hold, hold-both}
@@ -64,12 +64,12 @@ done-next w out t f e keeps =
 -- ---- a host call
 
 -- what a call that gives back r leaves: the words out, and the out-parameter `after`
-pub record Leaves (w : List ℕ) (id : ℕ) (a : Answer) (r : ℕ) (out : List ℕ) (after : ℕ) : Type 0 where
+pub record Leaves (w : List ℕ) (id : ℕ) (a : Returned) (r : ℕ) (out : List ℕ) (after : ℕ) : Type 0 where
   pub number : r ≡ numberOf w a
   pub given : after ≡ idAfter id w a
   pub next : ForNext w out r (a .tables)
 
-module _ (w : List ℕ) (id : ℕ) (a : Answer) where
+module _ (w : List ℕ) (id : ℕ) (a : Returned) where
   pub unfit : inUseFit w ≡ false → Leaves w id a 4 w id
   unfolding numberOf idAfter isDone
   unfit e = record { number = rw e; given = rw e; next = undone-next w 4 (a .tables) (λ z. omega arith) }

@@ -75,24 +75,24 @@ pub record Placed (s : List ℕ) (at : ℕ) (b : Block) : Type 0 where
   pub ahead : (c a : ℕ) → b .next ≡ Follow c a → blockEnd s at ≤ a
 
 -- a block is yielded only where it fits, with the follower given
-answered : (s : List ℕ) (command at : ℕ) (fits : Bool) (body : Body) (next : Next) (b : Block) → answer s command at fits body next ≡ Whole b
+answer-whole : (s : List ℕ) (command at : ℕ) (fits : Bool) (body : Body) (next : Next) (b : Block) → answer s command at fits body next ≡ Whole b
     → (fits ≡ true) × (b .next ≡ next)
 unfolding answer
-answered s command at true body next b e = (refl, cc)
-answered s command at false body next b e = let never : _≡_ {A = ℕ} 0 1 = cc in absurd (omega arith)
+answer-whole s command at true body next b e = (refl, cc)
+answer-whole s command at false body next b e = let never : _≡_ {A = ℕ} 0 1 = cc in absurd (omega arith)
 
 module _ (s : List ℕ) (command at : ℕ) (fits : Bool) (body : Body) (b : Block) (inside : fits ≡ true → blockEnd s at ≤ length s) where
   -- a block with AndX words, both of them fitting
   placed-link : answer s command at (fits && linkFits s command at) body (linkAt s at) ≡ Whole b → Placed s at b
   placed-link e =
-      let told = answered s command at (fits && linkFits s command at) body (linkAt s at) b e in
+      let told = answer-whole s command at (fits && linkFits s command at) body (linkAt s at) b e in
       let both = both-hold fits (linkFits s command at) (told .0) in
       record { inside = inside (both .0); ahead = λ c a f. link-ahead s command at c a (both .1) (sym (told .1) ∙ f) }
 
   -- one that nothing follows
   placed-end : answer s command at fits body End ≡ Whole b → Placed s at b
   placed-end e =
-      let told = answered s command at fits body End b e in
+      let told = answer-whole s command at fits body End b e in
       record { inside = inside (told .0); ahead = λ c a f. let never : _≡_ {A = ℕ} 0 1 = cc (told .1) in absurd (omega arith) }
 
 module _ (s : List ℕ) (at : ℕ) (b : Block) where

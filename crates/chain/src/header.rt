@@ -1,7 +1,26 @@
-// Row 1 of document 01's "What a call returns": which messages are dropped.
+// The header's places (document 01, "Header"; specs/Layout.antt and message/specs/Caller.antt have the same), and row 1 of its "What a call returns": which messages
+// are dropped.
 
 ghost use mathlib.Core.Path.{_≡_};
 ghost use Rattle.chain.specs.Header.{startsSmb, dropped};
+
+pub const COMMAND: usize = 4;
+
+const FLAGS: usize = 9;
+
+pub const TID: usize = 24;
+
+pub const PID_LOW: usize = 26;
+
+pub const UID: usize = 28;
+
+// Where the header ends and the first block stands.
+pub const FIRST: usize = 32;
+
+// The shortest message has a block of no words and no bytes.
+pub const SHORTEST: usize = 35;
+
+const LONGEST: usize = 8192;
 
 // Whether the message starts FF 53 4D 42.
 fn starts_smb(s: &[u8]) -> bool
@@ -23,14 +42,14 @@ fn starts_smb(s: &[u8]) -> bool
 pub fn is_dropped(s: &[u8]) -> bool
     ensures { λ r. ⌜ r ≡ dropped (now (s .entry)) ⌝ }
 {
-    if s.len() < 35 {
+    if s.len() < SHORTEST {
         return true;
     }
-    if 8192 < s.len() {
+    if LONGEST < s.len() {
         return true;
     }
     if !starts_smb(s) {
         return true;
     }
-    128 <= wire::byte_at(s, 9)
+    128 <= wire::byte_at(s, FLAGS)
 }

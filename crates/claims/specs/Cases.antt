@@ -24,7 +24,7 @@ use Rattle.soundness.specs.File.{fileOf}
 use Rattle.soundness.specs.Lookup.{isTree}
 use Rattle.message.specs.Refusal.{status, statusOf}
 use Rattle.message.specs.declared.refusal.Status.{Status}
-use Rattle.message.specs.Command.{Given, refused, done, isSession, withSession, withTree, isOpen, openAt, withOpen, lockingEnd, lockingAfter, askOf as asks, unlessBarred, barring, endsPast, doWrite}
+use Rattle.message.specs.Command.{Given, refused, done, isSession, withSession, withTree, isOpen, openAt, withOpen, lockingEnd, lockingAfter, askBy, unlessBarred, barring, endsPast, doWrite}
 
 -- a case of the document: its number, what the definitions give, and what the document says
 pub record Case : Type 0 where
@@ -40,8 +40,8 @@ unfoldable pub held : ℕ → ℕ → Bool → Lock
 held offset size shared = record { fid = 1; process = 7; offset = offset; length = size; shared = shared }
 
 -- one session on connection 5, its tree, and an open of file 0 for both by process 7; no lock
-unfoldable pub small : Tables
-small =
+unfoldable pub oneTerminal : Tables
+oneTerminal =
     record {
       sessions = record { uid = 1; connection = 5 } ∷ [];
       nsessions = 1;
@@ -61,13 +61,13 @@ statusIn (done t memory said) = status 0 0
 
 -- the status of a request of FID 1 for one lock, where one lock is listed, all FIDs being of one file
 unfoldable pub asking : Bool → LockRange → Lock → Status
-asking shared r l = statusIn (lockingAfter small [] (settle (l ∷ []) 1 (request (λ fid. 0) 1 shared [] (r ∷ []) (l ∷ []))))
+asking shared r l = statusIn (lockingAfter oneTerminal [] (settle (l ∷ []) 1 (request (λ fid. 0) 1 shared [] (r ∷ []) (l ∷ []))))
 
 -- the status of a write of one byte at an offset, through that open
 unfoldable pub writing : ℕ → Status
 writing offset =
     statusIn
-    (doWrite (record { connection = 5; uid = 1; tid = 1; process = 7 }) small [] (record { fid = 1; offset = offset; count = 1; from = 63 }) (0xAA ∷ []))
+    (doWrite (record { connection = 5; uid = 1; tid = 1; process = 7 }) oneTerminal [] (record { fid = 1; offset = offset; count = 1; from = 63 }) (0xAA ∷ []))
 
 -- The message of document 01's listing, with its AndXOffset and the bytes between its two blocks left open: the header
 -- (LOCKING, TID 1, PID 7, UID 1, MID 3), the LOCKING block, and the READ block.
@@ -109,5 +109,5 @@ table =
 
 -- what the definitions give is what the document says, in every row
 pub cases : map (λ c. c .given) table ≡ map (λ c. c .said) table
-unfolding table message reading blocks blocksFrom blocksWithin afterParse afterBlock before parse parseLocking parseRead answer lockingFits readFits linkFits linkAt mayFollow shaped bare isLarge le16At rangeSize asking range held status statusOf settle stored request afterReleases afterGrants grantAll afterWalk releaseAll afterFind removeAt rangePasses askOf lockOf answers answersFor inWay bars named owns overlaps passesEnd any found foundFrom statusIn lockingAfter lockingEnd writing small doWrite withOpen withTree withSession isSession isTree isOpen openAt unlessBarred barring asks endsPast fileOf
+unfolding table message reading blocks blocksFrom blocksWithin afterParse afterBlock before parse parseLocking parseRead answer lockingFits readFits linkFits linkAt mayFollow shaped bare isLarge le16At rangeSize asking range held status statusOf settle stored request afterReleases afterGrants grantAll afterWalk releaseAll afterFind removeAt rangePasses askOf lockOf answers answersFor inWay bars named owns overlaps passesEnd any found foundFrom statusIn lockingAfter lockingEnd writing oneTerminal doWrite withOpen withTree withSession isSession isTree isOpen openAt unlessBarred barring askBy endsPast fileOf
 cases = refl

@@ -14,7 +14,7 @@ use Rattle.records.specs.Held.{sessionsOf, treesOf, opensOf}
 use Rattle.numbers.specs.Number.{contains, smallestFree}
 use Rattle.numbers.specs.Column.{uidOf, tidOf, fidOf}
 use Rattle.host.specs.HostCall.{refused, done, newSession, addSession, newTree, addTree, newOpen, addOpen, loadNumber, loadFile, loadMemory, dropConnection}
-use Rattle.host.specs.declared.answer.Answer.{Answer}
+use Rattle.host.specs.declared.answer.Returned.{Returned}
 use Rattle.lists.specs.Truth.{decided}
 use Rattle.invariants.specs.Number.{smallest-low, smallest-high, smallest-free, smallest-least}
 use Rattle.invariants.specs.Shaped.{sessions-with, trees-with, opens-with}
@@ -45,7 +45,7 @@ smallest-new f limit n xs h =
     }
 
 -- a refusal's number is not 0
-pub refused-not-done : (P : Answer → Type 0) (t : Tables) (n : ℕ) → 1 ≤ n → refused n t .number ≡ 0 → P (refused n t)
+pub refused-not-done : (P : Returned → Type 0) (t : Tables) (n : ℕ) → 1 ≤ n → refused n t .number ≡ 0 → P (refused n t)
 unfolding refused
 refused-not-done P t n h e = absurd (let z : ⊥ = omega arith in z)
 
@@ -106,21 +106,21 @@ module _ (t : Tables) where
       addOpen-either t Held (refused-not-done HeldBy t) uid tid process file access
       (λ p e. opens-with t (opensOf t ++ (newOpen t uid tid process file access ∷ [])))
     where
-      HeldBy : Answer → Type 0
+      HeldBy : Returned → Type 0
       HeldBy a = opensOf (a .tables) ≡ opensOf t ++ (record { fid = a .id; uid = uid; tid = tid; process = process; file = file; access = access } ∷ [])
 
-      Held : Answer → Type 0
+      Held : Returned → Type 0
       Held a = a .number ≡ 0 → HeldBy a
 
 -- ---- "A refusal of this table writes nothing at all"
 
 -- the tables are those given, and the number beside is 0
-pub record Unchanged (t : Tables) (a : Answer) : Type 0 where
+pub record Unchanged (t : Tables) (a : Returned) : Type 0 where
   pub same-tables : a .tables ≡ t
   pub no-number : a .id ≡ 0
 
 module _ (t : Tables) where
-  unless-done : Answer → Type 0
+  unless-done : Returned → Type 0
   unless-done a = (a .number ≡ 0 → ⊥) → Unchanged t a
 
   refused-unchanged : (n : ℕ) → 1 ≤ n → unless-done (refused n t)

@@ -16,7 +16,7 @@ use Rattle.removal.specs.Removal.{remove}
 use Rattle.removal.specs.declared.Gone.{Gone}
 use Rattle.removal.specs.declared.Gone.the-variants.{Connection}
 use Rattle.host.specs.HostCall.{refused, done, newSession, addSession, newTree, addTree, newOpen, addOpen, loadFile, loadMemory, dropConnection}
-use Rattle.host.specs.declared.answer.Answer.{Answer}
+use Rattle.host.specs.declared.answer.Returned.{Returned}
 use Rattle.invariants.specs.Shaped.{Shaped, sessions-with, trees-with, opens-with}
 use Rattle.invariants.specs.HostCases.{addSession-either, addTree-either, addOpen-either, loadFile-either, dropConnection-either}
 use Rattle.invariants.specs.RemovalSound.{left, remove-left, left-sessions, left-trees, left-opens, left-locks}
@@ -48,7 +48,7 @@ pub record Counted (t : Tables) : Type 0 where
 -- ---- what a call leaves
 
 -- one session behind the others, on that connection, with the UID given out; nothing else is touched
-pub record SessionAdded (t : Tables) (connection : ℕ) (a : Answer) : Type 0 where
+pub record SessionAdded (t : Tables) (connection : ℕ) (a : Returned) : Type 0 where
   pub new : Session
   pub its-uid : new .uid ≡ a .id
   pub its-connection : new .connection ≡ connection
@@ -61,7 +61,7 @@ pub record SessionAdded (t : Tables) (connection : ℕ) (a : Answer) : Type 0 wh
   pub sizes : FilesStand t (a .tables)
 
 -- one tree behind the others, of that session, with that right and the TID given out; nothing else is touched
-pub record TreeAdded (t : Tables) (uid right : ℕ) (a : Answer) : Type 0 where
+pub record TreeAdded (t : Tables) (uid right : ℕ) (a : Returned) : Type 0 where
   pub new : Tree
   pub its-tid : new .tid ≡ a .id
   pub its-uid : new .uid ≡ uid
@@ -76,7 +76,7 @@ pub record TreeAdded (t : Tables) (uid right : ℕ) (a : Answer) : Type 0 where
 
 -- one open behind the others, through that tree of that session, for that process, of that file, with that access and the FID
 -- given out; nothing else is touched
-pub record OpenAdded (t : Tables) (uid tid process file access : ℕ) (a : Answer) : Type 0 where
+pub record OpenAdded (t : Tables) (uid tid process file access : ℕ) (a : Returned) : Type 0 where
   pub new : Open
   pub its-fid : new .fid ≡ a .id
   pub its-uid : new .uid ≡ uid
@@ -93,7 +93,7 @@ pub record OpenAdded (t : Tables) (uid tid process file access : ℕ) (a : Answe
   pub sizes : FilesStand t (a .tables)
 
 -- the file has the bytes and their number as its size; no other byte, size or table is touched, and no number is given out
-pub record FileLoaded (t : Tables) (file : ℕ) (bytes memory : List ℕ) (a : Answer) (after : List ℕ) : Type 0 where
+pub record FileLoaded (t : Tables) (file : ℕ) (bytes memory : List ℕ) (a : Returned) (after : List ℕ) : Type 0 where
   pub its-size : getD (a .tables .files) file noFile .size ≡ length bytes
   pub other-sizes : (i : ℕ) → (i ≡ file → ⊥) → getD (a .tables .files) i noFile .size ≡ getD (t .files) i noFile .size
   pub file-bytes : Loaded file bytes memory after
@@ -105,7 +105,7 @@ pub record FileLoaded (t : Tables) (file : ℕ) (bytes memory : List ℕ) (a : A
 
 -- the sessions of the connection are gone with what hangs on them; every other record stands in its order, each count is that of
 -- the records left, no size is touched, and no number is given out
-pub record ConnectionDropped (t : Tables) (connection : ℕ) (a : Answer) : Type 0 where
+pub record ConnectionDropped (t : Tables) (connection : ℕ) (a : Returned) : Type 0 where
   pub records : ConnectionGone connection t (a .tables)
   pub counts : Counted (a .tables)
   pub no-number : a .id ≡ 0

@@ -24,7 +24,7 @@ use Rattle.numbers.specs.Column.{uidOf, tidOf}
 use Rattle.soundness.specs.Sound.{sound, holdsOpen}
 use Rattle.host.specs.HostCall.{refused, done, addSession, addTree, newOpen, addOpen, isOf, loadNumber, loadFile, dropConnection}
 use Rattle.soundness.specs.Lookup.{isTree}
-use Rattle.host.specs.declared.answer.Answer.{Answer}
+use Rattle.host.specs.declared.answer.Returned.{Returned}
 use Rattle.invariants.specs.Numbered.{named-one, one-named, numbered-same}
 use Rattle.invariants.specs.SoundParts.{sound-says}
 use Rattle.invariants.specs.RuleLaws.{holds-says}
@@ -208,7 +208,7 @@ addOpen-reason t uid tid process file access =
     (λ y. let full : 64 ≤ t .nopens = leb-true 64 (t .nopens) y in open-full e a b held (omega arith)) λ y.
     open-done e a b held (leb-false 64 (t .nopens) y)
   where
-    Given : Answer → Type 0
+    Given : Returned → Type 0
     Given a = OpenReason t uid tid file access (a .number)
 
 load-reason : (t : Tables) (file size memory : ℕ) → LoadReason t file size memory (loadNumber t file size memory)

@@ -39,7 +39,7 @@ use Rattle.message.specs.Refusal.{status, statusOf}
 use Rattle.message.specs.declared.refusal.Status.{Status}
 use Rattle.message.specs.declared.refusal.Refusal.the-variants.{NoAccess, LockType, NoSpace}
 use Rattle.message.specs.Contents.{readBytes, written, resized}
-use Rattle.message.specs.Command.{Given, Said, refused, done, read, wrote, withSession, withTree, withOpen, servedType, requestOf, lockingEnd, lockingAfter, doLocking, askOf, unlessBarred, barring, doRead, endsPast, doWrite, perform}
+use Rattle.message.specs.Command.{Given, Said, refused, done, read, wrote, withSession, withTree, withOpen, servedType, requestOf, lockingEnd, lockingAfter, doLocking, askBy, unlessBarred, barring, doRead, endsPast, doWrite, perform}
 use Rattle.demands.specs.LoneLock.{Conflicts, May, InWay, Owner, read-conflict as read-exact, write-conflict as write-exact, sharedIn}
 use Rattle.demands.specs.Admitted.{SessionHere, Admitted, NoSessionFor, NoTreeFor, NoOpenFor, admitted-may, session-or, tree-or, open-or, with-session, with-tree, with-open, session-given, tree-given, open-given}
 use Rattle.demands.specs.LockWords.{Released, Unnamed, Releasing, all-released, one-unnamed, release-means, released-is, unnamed-is, released-was, PastEnd, past-means, past-is, AllGranted, OneBlocked, Opened, Granting, all-granted, one-blocked, grant-means, granted-is, blocked-is}
@@ -231,7 +231,7 @@ module _ (c : Caller) (t : Tables) (memory : List ℕ) (ok : sound t ≡ true) w
     unfolding doRead
     read-refused e = with-open c t (f .fid) k _ may ∙ rw e
 
-    read-is : eqb (read-open .access) 1 ≡ false → doRead c t memory f ≡ unlessBarred (barring t (askOf c (f .fid) (f .offset) (f .max) Reading)) read-end
+    read-is : eqb (read-open .access) 1 ≡ false → doRead c t memory f ≡ unlessBarred (barring t (askBy c (f .fid) (f .offset) (f .max) Reading)) read-end
     unfolding doRead
     read-is e = with-open c t (f .fid) k _ may ∙ rw e
 
@@ -259,7 +259,7 @@ module _ (c : Caller) (t : Tables) (memory : List ℕ) (ok : sound t ≡ true) w
         | inl h ↦ rw (read-given-open f (h .1)) (read-not (h .1))
         | inr (k, may, a) ↦ elim (decided (eqb (getD (opensOf t) k noOpen .access) 1)) [
           | inl e ↦ rw (read-refused f k may e) (read-access a (eqb-true (getD (opensOf t) k noOpen .access) 1 e))
-          | inr e ↦ elim (read-ends f k may e (barring t (askOf c (f .fid) (f .offset) (f .max) Reading)) (read-is f k may e)) [
+          | inr e ↦ elim (read-ends f k may e (barring t (askBy c (f .fid) (f .offset) (f .max) Reading)) (read-is f k may e)) [
             | inl w ↦ rw (w .1) (read-barred a (eqb-false (getD (opensOf t) k noOpen .access) 1 e) (w .0))
             | inr w ↦ rw (w .1) (read-done a (eqb-false (getD (opensOf t) k noOpen .access) 1 e) (w .0))
           ]
@@ -277,7 +277,7 @@ module _ (c : Caller) (t : Tables) (memory : List ℕ) (ok : sound t ≡ true) w
       let m = admitted-may c t (f .fid) ok o a in
       let e = ne-eqb (getD (opensOf t) (m .0) noOpen .access) 1 (λ x. n (ap (λ (p : Open). p .access) (sym (m .2)) ∙ x)) in
       let b′ : BarsRead c t f (getD (opensOf t) (m .0) noOpen) = rw (m .2) b in
-      elim (read-ends f (m .0) (m .1) e (barring t (askOf c (f .fid) (f .offset) (f .max) Reading)) (read-is f (m .0) (m .1) e)) [
+      elim (read-ends f (m .0) (m .1) e (barring t (askBy c (f .fid) (f .offset) (f .max) Reading)) (read-is f (m .0) (m .1) e)) [
         | inl w ↦ w .1
         | inr w ↦ absurd (w .0 b′)
       ]
@@ -285,7 +285,7 @@ module _ (c : Caller) (t : Tables) (memory : List ℕ) (ok : sound t ≡ true) w
       let m = admitted-may c t (f .fid) ok o a in
       let e = ne-eqb (getD (opensOf t) (m .0) noOpen .access) 1 (λ x. n (ap (λ (p : Open). p .access) (sym (m .2)) ∙ x)) in
       let b′ : BarsRead c t f (getD (opensOf t) (m .0) noOpen) → ⊥ = rw (m .2) b in
-      elim (read-ends f (m .0) (m .1) e (barring t (askOf c (f .fid) (f .offset) (f .max) Reading)) (read-is f (m .0) (m .1) e)) [
+      elim (read-ends f (m .0) (m .1) e (barring t (askBy c (f .fid) (f .offset) (f .max) Reading)) (read-is f (m .0) (m .1) e)) [
         | inl w ↦ absurd (b′ (w .0))
         | inr w ↦ w .1
       ]
@@ -310,7 +310,7 @@ module _ (c : Caller) (t : Tables) (memory : List ℕ) (ok : sound t ≡ true) w
 
       write-is : eqb (write-open .access) 0 ≡ false
           → doWrite c t memory f bytes
-          ≡ unlessBarred (barring t (askOf c (f .fid) (f .offset) (f .count) Writing)) (cond (endsPast (f .offset) (f .count)) (refused NoSpace) (write-end write-open))
+          ≡ unlessBarred (barring t (askBy c (f .fid) (f .offset) (f .count) Writing)) (cond (endsPast (f .offset) (f .count)) (refused NoSpace) (write-end write-open))
       unfolding doWrite
       write-is e = with-open c t (f .fid) k _ may ∙ rw e
 
@@ -335,7 +335,7 @@ module _ (c : Caller) (t : Tables) (memory : List ℕ) (ok : sound t ≡ true) w
           | inl h ↦ rw (write-given-open (h .1)) (write-not (h .1))
           | inr (k, may, a) ↦ elim (decided (eqb (getD (opensOf t) k noOpen .access) 0)) [
             | inl e ↦ rw (write-refused k may e) (write-access a (eqb-true (getD (opensOf t) k noOpen .access) 0 e))
-            | inr e ↦ elim (write-ends k may e (barring t (askOf c (f .fid) (f .offset) (f .count) Writing)) (write-is k may e)) [
+            | inr e ↦ elim (write-ends k may e (barring t (askBy c (f .fid) (f .offset) (f .count) Writing)) (write-is k may e)) [
               | inl w ↦ rw (w .1) (write-barred a (eqb-false (getD (opensOf t) k noOpen .access) 0 e) (w .0))
               | inr w ↦ elim (decided (endsPast (f .offset) (f .count))) [
                 | inl p ↦
@@ -354,7 +354,7 @@ module _ (c : Caller) (t : Tables) (memory : List ℕ) (ok : sound t ≡ true) w
         let m = admitted-may c t (f .fid) ok o a in
         let e = ne-eqb (getD (opensOf t) (m .0) noOpen .access) 0 (λ x. n (ap (λ (p : Open). p .access) (sym (m .2)) ∙ x)) in
         let b′ : BarsWrite c t f (getD (opensOf t) (m .0) noOpen) → ⊥ = rw (m .2) b in
-        elim (write-ends (m .0) (m .1) e (barring t (askOf c (f .fid) (f .offset) (f .count) Writing)) (write-is (m .0) (m .1) e)) [
+        elim (write-ends (m .0) (m .1) e (barring t (askBy c (f .fid) (f .offset) (f .count) Writing)) (write-is (m .0) (m .1) e)) [
           | inl w ↦ absurd (b′ (w .0))
           | inr w ↦ w .1
         ]
@@ -370,7 +370,7 @@ module _ (c : Caller) (t : Tables) (memory : List ℕ) (ok : sound t ≡ true) w
         let m = admitted-may c t (f .fid) ok o a in
         let e = ne-eqb (getD (opensOf t) (m .0) noOpen .access) 0 (λ x. n (ap (λ (p : Open). p .access) (sym (m .2)) ∙ x)) in
         let b′ : BarsWrite c t f (getD (opensOf t) (m .0) noOpen) = rw (m .2) b in
-        elim (write-ends (m .0) (m .1) e (barring t (askOf c (f .fid) (f .offset) (f .count) Writing)) (write-is (m .0) (m .1) e)) [
+        elim (write-ends (m .0) (m .1) e (barring t (askBy c (f .fid) (f .offset) (f .count) Writing)) (write-is (m .0) (m .1) e)) [
           | inl w ↦ w .1
           | inr w ↦ absurd (w .0 b′)
         ]

@@ -12,7 +12,7 @@ use lib.ListN.{length}
 use lib.Dec.{eqb}
 use borrow.Author.Tests.{eqb-true, eq-eqb}
 use Rattle.lists.specs.Truth.{decided, both-hold}
-use Rattle.host.specs.declared.answer.Answer.{Answer}
+use Rattle.host.specs.declared.answer.Returned.{Returned}
 use Rattle.host.specs.HostCall.{refused, done, addSession, addTree, addOpen, loadFile, loadMemory, dropConnection}
 use Rattle.message.specs.Message.{Taken, notTaken, take-message}
 use Rattle.invariants.specs.GivenCases.{cond-case}
@@ -28,12 +28,12 @@ use Rattle.demands.specs.RoomKept.{refused-writes-nothing}
 -- ---- the plain words
 
 -- what the host reads off after a call: the number returned, the number given out, and the tables in the words
-abbrev pub readOff : ℕ → ℕ → List ℕ → Answer
+abbrev pub readOff : ℕ → ℕ → List ℕ → Returned
 readOff r id out = record { number = r; id = id; tables = tablesOf out }
 
 -- a call on the words w, the out-parameter id before it, where the core answers a: it returns r, and leaves the words out and the
 -- out-parameter `after`
-pub record Seen (Left : Answer → Type 0) (w : List ℕ) (id : ℕ) (a : Answer) (r : ℕ) (out : List ℕ) (after : ℕ) : Type 0 where
+pub record Seen (Left : Returned → Type 0) (w : List ℕ) (id : ℕ) (a : Returned) (r : ℕ) (out : List ℕ) (after : ℕ) : Type 0 where
   -- the core's number; a word in use that its field cannot hold is "tables not sound"
   pub number : inUseFit w ≡ true → r ≡ a .number
   pub unfit : inUseFit w ≡ false → r ≡ 4
@@ -71,7 +71,7 @@ pub record MessageSeen (connection : ℕ) (s w memory room : List ℕ) (long r :
 
 -- ---- a host call
 
-module _ (w : List ℕ) (id : ℕ) (a : Answer) (r : ℕ) (out : List ℕ) (after : ℕ)
+module _ (w : List ℕ) (id : ℕ) (a : Returned) (r : ℕ) (out : List ℕ) (after : ℕ)
     (number : r ≡ numberOf w a) (given : after ≡ idAfter id w a) (next : ForNext w out r (a .tables)) where
   number-fit : inUseFit w ≡ true → r ≡ a .number
   unfolding numberOf
@@ -100,7 +100,7 @@ module _ (w : List ℕ) (id : ℕ) (a : Answer) (r : ℕ) (out : List ℕ) (afte
       (λ b. let both = both-hold (inUseFit w) (eqb (a .number) 0) b in absurd (n (number-fit (both .0) ∙ eqb-true (a .number) 0 (both .1))))
       (λ _. refl)
 
-  pub seen : (Left : Answer → Type 0) → (a .number ≡ 0 → Left a) → Seen Left w id a r out after
+  pub seen : (Left : Returned → Type 0) → (a .number ≡ 0 → Left a) → Seen Left w id a r out after
   seen Left frame =
       record {
         number = number-fit;

@@ -35,7 +35,7 @@ use Rattle.chain.specs.declared.block.ReadFields.{ReadFields}
 use Rattle.chain.specs.declared.block.WriteFields.{WriteFields}
 use Rattle.message.specs.declared.caller.Caller.{Caller}
 use Rattle.message.specs.Contents.{resized, written}
-use Rattle.message.specs.Command.{Given, Said, wrote, refused, done, isSession, withSession, withTree, isOpen, openAt, withOpen, servedType, requestOf, lockingEnd, lockingAfter, doLocking, askOf, unlessBarred, barring, doRead, endsPast, doWrite}
+use Rattle.message.specs.Command.{Given, Said, wrote, refused, done, isSession, withSession, withTree, isOpen, openAt, withOpen, servedType, requestOf, lockingEnd, lockingAfter, doLocking, askBy, unlessBarred, barring, doRead, endsPast, doWrite}
 use Rattle.message.specs.declared.refusal.Refusal.the-variants.{Conflict, NoSpace}
 use Rattle.invariants.specs.GivenCases.{cond-case}
 use Rattle.invariants.specs.FoundFacts.{found-hit, found-miss}
@@ -179,29 +179,29 @@ module _ (c : Caller) (t : Tables) (memory : List ℕ) (k : ℕ) (ok : sound t �
   pub read-conflict : (f : ReadFields) (may : May c t (f .fid) k) → eqb (asked c t (f .fid) k may .access) 1 ≡ false
       → Conflicts (doRead c t memory f)
       ↔ InWay t (asked c t (f .fid) k may) (locksOf t) (f .offset) (f .max) (λ l. (l .shared ≡ false) × (Owner (f .fid) (c .process) l → ⊥))
-  unfolding doRead barring askOf answers answersFor bars
+  unfolding doRead barring askBy answers answersFor bars
   read-conflict f may access =
       rw (with-open c t (f .fid) k may, access) (
         λ h. let e = unless-exact _ _ (done-not _ _ _) .0 h in
-            hit-way c t (f .fid) k may ok (askOf c (f .fid) (f .offset) (f .max) Reading) refl _ (read-bars (askOf c (f .fid) (f .offset) (f .max) Reading)) (λ l. refl) (e .0) (e .1) noLock,
+            hit-way c t (f .fid) k may ok (askBy c (f .fid) (f .offset) (f .max) Reading) refl _ (read-bars (askBy c (f .fid) (f .offset) (f .max) Reading)) (λ l. refl) (e .0) (e .1) noLock,
         λ w. unless-exact _ _ (done-not _ _ _) .1
-            (way-hit c t (f .fid) k may ok (askOf c (f .fid) (f .offset) (f .max) Reading) refl _ (read-bars (askOf c (f .fid) (f .offset) (f .max) Reading)) (λ l. refl) w),
+            (way-hit c t (f .fid) k may ok (askBy c (f .fid) (f .offset) (f .max) Reading) refl _ (read-bars (askBy c (f .fid) (f .offset) (f .max) Reading)) (λ l. refl) w),
       )
 
   -- "A write is refused 1/33 exactly if any lock overlaps it save the writer's own exclusive ones."
   pub write-conflict : (f : WriteFields) (bytes : List ℕ) (may : May c t (f .fid) k) → eqb (asked c t (f .fid) k may .access) 0 ≡ false
       → Conflicts (doWrite c t memory f bytes)
       ↔ InWay t (asked c t (f .fid) k may) (locksOf t) (f .offset) (f .count) (λ l. (l .shared ≡ false) × Owner (f .fid) (c .process) l → ⊥)
-  unfolding doWrite barring askOf answers answersFor bars
+  unfolding doWrite barring askBy answers answersFor bars
   write-conflict f bytes may access =
       let n : Conflicts (cond (endsPast (f .offset) (f .count)) (refused NoSpace)
       (done (resized t (asked c t (f .fid) k may .file) (f .offset) (f .count)) (written t memory (asked c t (f .fid) k may .file) (f .offset) bytes) (wrote (f .count)))) → ⊥ =
       cond-case (λ (g : Given). Conflicts g → ⊥) (endsPast (f .offset) (f .count)) (refused NoSpace) _ (λ _. space-not) (λ _. done-not _ _ _) in
       rw (with-open c t (f .fid) k may, access) (
         λ h. let e = unless-exact _ _ n .0 h in
-            hit-way c t (f .fid) k may ok (askOf c (f .fid) (f .offset) (f .count) Writing) refl _ (write-bars (askOf c (f .fid) (f .offset) (f .count) Writing)) (λ l. refl) (e .0) (e .1) noLock,
+            hit-way c t (f .fid) k may ok (askBy c (f .fid) (f .offset) (f .count) Writing) refl _ (write-bars (askBy c (f .fid) (f .offset) (f .count) Writing)) (λ l. refl) (e .0) (e .1) noLock,
         λ w. unless-exact _ _ n .1
-            (way-hit c t (f .fid) k may ok (askOf c (f .fid) (f .offset) (f .count) Writing) refl _ (write-bars (askOf c (f .fid) (f .offset) (f .count) Writing)) (λ l. refl) w),
+            (way-hit c t (f .fid) k may ok (askBy c (f .fid) (f .offset) (f .count) Writing) refl _ (write-bars (askBy c (f .fid) (f .offset) (f .count) Writing)) (λ l. refl) w),
       )
 
 -- ---- a lone lock

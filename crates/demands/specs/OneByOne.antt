@@ -19,7 +19,7 @@ use Rattle.chain.specs.declared.block.Block.{Block}
 use Rattle.chain.specs.declared.block.Next.{Next}
 use Rattle.chain.specs.declared.block.Next.the-variants.{End, Follow}
 use Rattle.invariants.specs.BlockTests.{Served, plain as plainServed, andx as andxServed}
-use Rattle.invariants.specs.BlockParse.{bodyAt, blockAt, block-inside, block-served, Link as Linked, link-plain, link-end, link-next, behind}
+use Rattle.invariants.specs.BlockParse.{bodyAt, blockAt, block-inside, block-served, Linked, link-plain, link-end, link-next, behind}
 use Rattle.readings.specs.Moved.{Moved}
 use Rattle.readings.specs.Alone.{movedAlone, alone-blocks}
 use Rattle.invariants.specs.ReaderSound.{spanOf}

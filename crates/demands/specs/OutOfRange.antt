@@ -14,7 +14,7 @@ use Rattle.lists.specs.Members.{in-map}
 use Rattle.records.specs.declared.Tables.{Tables}
 use Rattle.numbers.specs.Column.{uidOf, tidOf}
 use Rattle.soundness.specs.Sound.{sound}
-use Rattle.host.specs.declared.answer.Answer.{Answer}
+use Rattle.host.specs.declared.answer.Returned.{Returned}
 use Rattle.invariants.specs.Numbered.{numbered-within}
 use Rattle.invariants.specs.SoundParts.{sound-says}
 use Rattle.claims.specs.SoundPlain.{sound-plain}
@@ -45,7 +45,7 @@ module _ (w : List ℕ) (h : ready w ≡ true) where
   unfolding ready
   ready-says = both-hold (inUseFit w) (sound (tablesOf w)) h
 
-  core-number : (a : Answer) {n : ℕ} → a .number ≡ n → numberOf w a ≡ n
+  core-number : (a : Returned) {n : ℕ} → a .number ≡ n → numberOf w a ≡ n
   unfolding numberOf
   core-number a e = rw (ready-says .0) e
 

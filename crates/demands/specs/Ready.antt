@@ -11,7 +11,7 @@ use borrow.Author.Tests.{not-true}
 use Rattle.lists.specs.Truth.{not-decided-twice, both-hold}
 use Rattle.records.specs.declared.Tables.{Tables}
 use Rattle.soundness.specs.Sound.{sound}
-use Rattle.host.specs.declared.answer.Answer.{Answer}
+use Rattle.host.specs.declared.answer.Returned.{Returned}
 use Rattle.chain.specs.Header.{dropped}
 use Rattle.message.specs.Message.{Taken, notTaken, replied, answered, take-message}
 use Rattle.claims.specs.HostReasons.{SessionReason, session-unsound, session-full, session-done, TreeReason, tree-unsound, tree-range, tree-nobody, tree-full, tree-done, OpenReason, open-unsound, open-range, open-nowhere, open-exceeds, open-full, open-done, LoadReason, load-memory, load-unsound, load-range, load-opened, load-done, DropReason, drop-unsound, drop-done, addSession-reason, addTree-reason, addOpen-reason, loadFile-reason, dropConnection-reason}
@@ -75,7 +75,7 @@ module _ (w : List ℕ) (h : ready w ≡ true) where
   unfolding ready
   ready-says = both-hold (inUseFit w) (sound (tablesOf w)) h
 
-  number-takes : (a : Answer) → Takes (a .number) → Takes (numberOf w a)
+  number-takes : (a : Returned) → Takes (a .number) → Takes (numberOf w a)
   unfolding numberOf
   number-takes a n = rw (ready-says .0) n
 

@@ -11,14 +11,14 @@ use borrow.Author.Tests.{eq-eqb, ne-eqb}
 use Rattle.lists.specs.Truth.{decided}
 use Rattle.tables.specs.Words.{tablesOf, inUseFit}
 use Rattle.soundness.specs.Sound.{sound}
-use Rattle.host.specs.declared.answer.Answer.{Answer}
-use Rattle.host.specs.declared.answer.Outcome.{Outcome}
+use Rattle.host.specs.declared.answer.Returned.{Returned}
+use Rattle.host.specs.declared.answer.Row.{Row}
 use Rattle.host.specs.HostCall.{refused}
 use Rattle.host.specs.OnWords.{onWords, loadOnWords, memoryOnWords, Left}
 use Rattle.boundary.specs.Boundary.{ForNext, fileLoaded, loadNumberOf, memoryAfter}
 use Rattle.boundary.specs.BoundaryLaws.{Leaves, unfit, refused-leaves, done-leaves, undone-next, wrong-number, right-number, unfit-memory, fit-memory}
 
-module _ (w : List ℕ) (a : Answer) where
+module _ (w : List ℕ) (a : Returned) where
   on-fit : inUseFit w ≡ true → onWords w a ≡ a
   unfolding onWords
   on-fit e = rw e
@@ -27,11 +27,11 @@ module _ (w : List ℕ) (a : Answer) where
   unfolding onWords refused
   on-unfit e = rw e
 
-  module _ (id : ℕ) (out : List ℕ) (r : Outcome) (l : Left (onWords w a) w out r) where
+  module _ (id : ℕ) (out : List ℕ) (r : Row) (l : Left (onWords w a) w out r) where
     pub refused-call : (r .number ≡ 0 → ⊥) → Leaves w id a (r .number) out id
     refused-call n =
         ⊎-elim
-        (λ e. rw (l .stays n) (refused-leaves w id a e (r .number) (l .row ∙ ap (λ (x : Answer). x .number) (on-fit e)) n))
+        (λ e. rw (l .stays n) (refused-leaves w id a e (r .number) (l .row ∙ ap (λ (x : Returned). x .number) (on-fit e)) n))
         (λ e. rw (l .stays n, l .row ∙ on-unfit e) (unfit w id a e))
         (decided (inUseFit w))
 
@@ -39,15 +39,15 @@ module _ (w : List ℕ) (a : Answer) where
     done-call keeps z =
         ⊎-elim
         (λ e.
-        done-leaves w id a e keeps (sym (l .row ∙ ap (λ (x : Answer). x .number) (on-fit e)) ∙ z) out (r .id)
-        (l .given ∙ ap (λ (x : Answer). x .id) (on-fit e))
+        done-leaves w id a e keeps (sym (l .row ∙ ap (λ (x : Returned). x .number) (on-fit e)) ∙ z) out (r .id)
+        (l .given ∙ ap (λ (x : Returned). x .id) (on-fit e))
         (l .fit e)
-        (l .tables ∙ ap (λ (x : Answer). x .tables) (on-fit e)))
+        (l .tables ∙ ap (λ (x : Returned). x .tables) (on-fit e)))
         (λ e. absurd (let four : r .number ≡ 4 = l .row ∙ on-unfit e in let no : ⊥ = omega arith in no))
         (decided (inUseFit w))
 
 -- what a call leaves that answers another argument alike
-pub alike : {a b : Answer} {w out : List ℕ} {r : Outcome} → a ≡ b → Left a w out r → Left b w out r
+pub alike : {a b : Returned} {w out : List ℕ} {r : Row} → a ≡ b → Left a w out r → Left b w out r
 alike e l = rw (← e) l
 
 -- ---- a load
@@ -66,7 +66,7 @@ module _ (w : List ℕ) (file : ℕ) (contents memory : List ℕ) where
   unfolding loadOnWords refused
   wrong n = rw (ne-eqb (length memory) 65536 n)
 
-  module _ (out : List ℕ) (r : Outcome) (l : Left (loadOnWords w file contents memory) w out r) where
+  module _ (out : List ℕ) (r : Row) (l : Left (loadOnWords w file contents memory) w out r) where
     as-any : length memory ≡ 65536 → Left (onWords w (fileLoaded w file contents memory)) w out r
     as-any e = rw (right e) at l
 

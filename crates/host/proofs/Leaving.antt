@@ -16,8 +16,8 @@ use Rattle.numbers.specs.Column.{uidOf, tidOf, fidOf}
 use Rattle.soundness.specs.Sound.{sound, soundRecords, soundLocks, withinRoom, fileOk}
 use Rattle.removal.specs.Filter.{Numbered}
 use Rattle.tables.specs.Words.{word, part, tablesOf, inUseFit}
-use Rattle.host.specs.declared.answer.Answer.{Answer}
-use Rattle.host.specs.declared.answer.Outcome.{Outcome}
+use Rattle.host.specs.declared.answer.Returned.{Returned}
+use Rattle.host.specs.declared.answer.Row.{Row}
 use Rattle.host.specs.HostCall.{refused, done, dropConnection}
 use Rattle.host.specs.OnWords.{onWords, Left}
 
@@ -29,7 +29,7 @@ first-word w from n h =
 
 -- ---- how a call ends
 
-pub left-refused : (w : List ℕ) (n : ℕ) (a : Answer) → a ≡ refused n (tablesOf w) → Left a w w (record { number = n; id = 0 })
+pub left-refused : (w : List ℕ) (n : ℕ) (a : Returned) → a ≡ refused n (tablesOf w) → Left a w w (record { number = n; id = 0 })
 unfolding refused
 left-refused w n a e =
     record {
@@ -40,7 +40,7 @@ left-refused w n a e =
       fit = λ f. f;
     }
 
-pub left-done : (w v : List ℕ) (id : ℕ) (a : Answer) (t : Tables) → a ≡ done id t → tablesOf v ≡ t → (inUseFit w ≡ true → inUseFit v ≡ true)
+pub left-done : (w v : List ℕ) (id : ℕ) (a : Returned) (t : Tables) → a ≡ done id t → tablesOf v ≡ t → (inUseFit w ≡ true → inUseFit v ≡ true)
     → Left a w v (record { number = 0; id = id })
 unfolding done
 left-done w v id a t e held fit =
@@ -54,7 +54,7 @@ left-done w v id a t e held fit =
 
 -- ---- a call on words, by whether they are words of sound tables
 
-pub on-unsound : (w : List ℕ) (a : Answer) → (inUseFit w && sound (tablesOf w)) ≡ false → (sound (tablesOf w) ≡ false → a ≡ refused 4 (tablesOf w))
+pub on-unsound : (w : List ℕ) (a : Returned) → (inUseFit w && sound (tablesOf w)) ≡ false → (sound (tablesOf w) ≡ false → a ≡ refused 4 (tablesOf w))
     → onWords w a ≡ refused 4 (tablesOf w)
 unfolding onWords
 on-unsound w a e says =
@@ -62,11 +62,11 @@ on-unsound w a e says =
     (λ f. let s : sound (tablesOf w) ≡ false = rw f at e in rw f (says s))
     (λ f. rw f)
 
-pub on-sound : (w : List ℕ) (a : Answer) → (inUseFit w && sound (tablesOf w)) ≡ true → onWords w a ≡ a
+pub on-sound : (w : List ℕ) (a : Returned) → (inUseFit w && sound (tablesOf w)) ≡ true → onWords w a ≡ a
 unfolding onWords
 on-sound w a e = rw (both-hold (inUseFit w) (sound (tablesOf w)) e .0)
 
-pub left-same : (a b : Answer) (w v : List ℕ) (r : Outcome) → b ≡ a → Left a w v r → Left b w v r
+pub left-same : (a b : Returned) (w v : List ℕ) (r : Row) → b ≡ a → Left a w v r → Left b w v r
 left-same a b w v r e l = rw e l
 
 -- ---- what sound tables are known for

@@ -19,7 +19,7 @@ use Rattle.numbers.specs.Column.{uidOf, tidOf, fidOf}
 use Rattle.soundness.specs.Lookup.{isTree}
 use Rattle.soundness.specs.Sound.{sound, holdsOpen}
 use Rattle.removal.specs.Removal.{remove}
-use Rattle.host.specs.declared.answer.Answer.{Answer}
+use Rattle.host.specs.declared.answer.Returned.{Returned}
 use Rattle.removal.specs.declared.Gone.the-variants.{Connection}
 
 -- tables with no record in use and every file empty
@@ -38,11 +38,11 @@ noTables =
     }
 
 -- refused with that number: the tables stay
-unfoldable pub refused : ℕ → Tables → Answer
+unfoldable pub refused : ℕ → Tables → Returned
 refused number t = record { number = number; id = 0; tables = t }
 
 -- done, with the new number where one was given out
-unfoldable pub done : ℕ → Tables → Answer
+unfoldable pub done : ℕ → Tables → Returned
 done id t = record { number = 0; id = id; tables = t }
 
 -- ---- adding a session
@@ -50,7 +50,7 @@ done id t = record { number = 0; id = id; tables = t }
 unfoldable pub newSession : Tables → ℕ → Session
 newSession t connection = record { uid = smallestFree (map uidOf (sessionsOf t)); connection = connection }
 
-unfoldable pub addSession : Tables → ℕ → Answer
+unfoldable pub addSession : Tables → ℕ → Returned
 addSession t connection =
     cond (not (sound t)) (refused 4 t)
     (cond (leb 16 (t .nsessions)) (refused 5 t)
@@ -61,7 +61,7 @@ addSession t connection =
 unfoldable pub newTree : Tables → ℕ → ℕ → Tree
 newTree t uid right = record { tid = smallestFree (map tidOf (treesOf t)); uid = uid; right = right }
 
-unfoldable pub addTree : Tables → ℕ → ℕ → Answer
+unfoldable pub addTree : Tables → ℕ → ℕ → Returned
 addTree t uid right =
     cond (not (sound t)) (refused 4 t)
     (cond (ltb 1 right) (refused 7 t)
@@ -75,7 +75,7 @@ unfoldable pub newOpen : Tables → ℕ → ℕ → ℕ → ℕ → ℕ → Open
 newOpen t uid tid process file access =
     record { fid = smallestFree (map fidOf (opensOf t)); uid = uid; tid = tid; process = process; file = file; access = access }
 
-unfoldable pub addOpen : Tables → ℕ → ℕ → ℕ → ℕ → ℕ → Answer
+unfoldable pub addOpen : Tables → ℕ → ℕ → ℕ → ℕ → ℕ → Returned
 addOpen t uid tid process file access =
     cond (not (sound t)) (refused 4 t)
     (cond (ltb 15 file || ltb 2 access) (refused 7 t)
@@ -102,7 +102,7 @@ loadNumber t file size memory =
 unfoldable pub withSize : Tables → ℕ → ℕ → Tables
 withSize t file size = withFiles t (set (t .files) file (record { size = size }))
 
-unfoldable pub loadFile : Tables → ℕ → List ℕ → List ℕ → Answer
+unfoldable pub loadFile : Tables → ℕ → List ℕ → List ℕ → Returned
 loadFile t file bytes memory =
     cond (eqb (loadNumber t file (length bytes) (length memory)) 0) (done 0 (withSize t file (length bytes)))
     (refused (loadNumber t file (length bytes) (length memory)) t)
@@ -116,5 +116,5 @@ loadMemory t file bytes memory =
 
 -- ---- dropping a connection
 
-unfoldable pub dropConnection : Tables → ℕ → Answer
+unfoldable pub dropConnection : Tables → ℕ → Returned
 dropConnection t connection = cond (not (sound t)) (refused 4 t) (done 0 (remove (Connection connection) t))

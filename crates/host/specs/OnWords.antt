@@ -9,15 +9,15 @@ use lib.ListN.{length, take}
 use lib.Dec.{eqb}
 use Rattle.tables.specs.Words.{word, tableFits, tablesOf, inUseFit}
 use Rattle.tables.specs.Written.{Holds}
-use Rattle.host.specs.declared.answer.Answer.{Answer}
-use Rattle.host.specs.declared.answer.Outcome.{Outcome}
+use Rattle.host.specs.declared.answer.Returned.{Returned}
+use Rattle.host.specs.declared.answer.Row.{Row}
 use Rattle.host.specs.HostCall.{refused, loadFile, loadMemory}
 
-unfoldable pub onWords : List ℕ → Answer → Answer
+unfoldable pub onWords : List ℕ → Returned → Returned
 onWords w a = cond (inUseFit w) a (refused 4 (tablesOf w))
 
 -- a load: a file memory that is not 65,536 bytes is refused before the words are looked at
-unfoldable pub loadOnWords : List ℕ → ℕ → List ℕ → List ℕ → Answer
+unfoldable pub loadOnWords : List ℕ → ℕ → List ℕ → List ℕ → Returned
 loadOnWords w file bytes memory =
     cond (not (eqb (length memory) 65536)) (refused 2 (tablesOf w)) (onWords w (loadFile (tablesOf w) file bytes memory))
 
@@ -26,7 +26,7 @@ memoryOnWords w file bytes memory = cond (inUseFit w) (loadMemory (tablesOf w) f
 
 -- what a call that answers a leaves, where the words were `before`: the row and the number given out, words of the tables after the
 -- call, every word as it was where it is refused, and words in use that fit where they did
-pub record Left (a : Answer) (before after : List ℕ) (r : Outcome) : Type 0 where
+pub record Left (a : Returned) (before after : List ℕ) (r : Row) : Type 0 where
   pub row : r .number ≡ a .number
   pub given : r .id ≡ a .id
   pub tables : tablesOf after ≡ a .tables

@@ -20,14 +20,14 @@ pub const EXCEEDS_RIGHT: u8 = 8;
 pub const FILE_OPEN: u8 = 9;
 
 // The row, the number given out (0 where none was), and the tables after the call.
-pub struct Answer {
+pub struct Returned {
     pub number: u8,
     pub id: u16,
     pub tables: Tables,
 }
 
 // The same of a call on the words: the tables after the call are in the words.
-pub struct Outcome {
+pub struct Row {
     pub number: u8,
     pub id: u16,
 }

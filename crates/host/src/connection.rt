@@ -3,7 +3,7 @@
 
 use crate::answer::DONE;
 use crate::answer::NOT_SOUND;
-use crate::answer::Outcome;
+use crate::answer::Row;
 use removal::Gone;
 use removal::sweep::remove_named;
 use soundness::whole::is_sound;
@@ -16,23 +16,23 @@ ghost use Rattle.host.specs.HostCall.{dropConnection};
 ghost use Rattle.host.specs.OnWords.{onWords, Left};
 
 // A connection dropped from sound tables.
-fn drop_sound(words: &mut [u64], connection: u32) -> Outcome
+fn drop_sound(words: &mut [u64], connection: u32) -> Row
     requires { ⌜ (length (now words) ≡ 1172) × (sound (tablesOf (now words)) ≡ true) ⌝ }
     ensures { λ r. ⌜ Left (dropConnection (tablesOf (now (words .entry))) connection) (now (words .entry)) (now (words .exit)) r ⌝ }
 {
     remove_named(words, Gone::Connection(connection));
-    Outcome {
+    Row {
         number: DONE,
         id: 0,
     }
 }
 
 // A connection dropped; no number is given out.
-pub fn drop_connection(words: &mut [u64; 1172], connection: u32) -> Outcome
+pub fn drop_connection(words: &mut [u64; 1172], connection: u32) -> Row
     ensures { λ r. ⌜ Left (onWords (now (words .entry)) (dropConnection (tablesOf (now (words .entry))) connection)) (now (words .entry)) (now (words .exit)) r ⌝ }
 {
     if !is_sound(words) {
-        return Outcome {
+        return Row {
             number: NOT_SOUND,
             id: 0,
         };

@@ -4,7 +4,7 @@ use crate::answer::DONE;
 use crate::answer::FILE_OPEN;
 use crate::answer::NOT_SOUND;
 use crate::answer::OUT_OF_RANGE;
-use crate::answer::Outcome;
+use crate::answer::Row;
 use crate::answer::WRONG_ROOM;
 use soundness::whole::is_sound;
 use tables::file::put_size;
@@ -66,7 +66,7 @@ fn fill_file(contents: &[u8], room: &mut [u8])
 }
 
 // A load into sound tables and a whole file memory.
-fn load_sound(words: &mut [u64], file: u8, contents: &[u8], memory: &mut [u8]) -> Outcome
+fn load_sound(words: &mut [u64], file: u8, contents: &[u8], memory: &mut [u8]) -> Row
     requires { ⌜ (length (now words) ≡ 1172) × ((sound (tablesOf (now words)) ≡ true) × (length (now memory) ≡ 65536)) ⌝ }
     ensures { λ r. ⌜ Left (loadFile (tablesOf (now (words .entry))) file (now (contents .entry)) (now (memory .entry))) (now (words .entry)) (now (words .exit)) r ⌝ }
     ensures { λ _. ⌜ now (memory .exit) ≡ loadMemory (tablesOf (now (words .entry))) file (now (contents .entry)) (now (memory .entry)) ⌝ }
@@ -74,32 +74,35 @@ fn load_sound(words: &mut [u64], file: u8, contents: &[u8], memory: &mut [u8]) -
     let size = contents.len();
     let number = load_number(words, file, size);
     if number != DONE {
-        return Outcome { number, id: 0 };
+        return Row { number, id: 0 };
     }
     let at = file as usize;
     let from = at * 4096;
     let to = from + 4096;
     fill_file(contents, &mut memory[from..to]);
     put_size(&mut words[1156..1172], at, size);
-    Outcome {
+    Row {
         number: DONE,
         id: 0,
     }
 }
 
+// "file memory 65,536": 16 files of 4,096 bytes.
+pub const MEMORY: usize = 65536;
+
 // The bytes of a file that has no open, put into the file memory.
-pub fn load_file(words: &mut [u64; 1172], file: u8, contents: &[u8], memory: &mut [u8]) -> Outcome
+pub fn load_file(words: &mut [u64; 1172], file: u8, contents: &[u8], memory: &mut [u8]) -> Row
     ensures { λ r. ⌜ Left (loadOnWords (now (words .entry)) file (now (contents .entry)) (now (memory .entry))) (now (words .entry)) (now (words .exit)) r ⌝ }
     ensures { λ _. ⌜ now (memory .exit) ≡ memoryOnWords (now (words .entry)) file (now (contents .entry)) (now (memory .entry)) ⌝ }
 {
-    if memory.len() != 65536 {
-        return Outcome {
+    if memory.len() != MEMORY {
+        return Row {
             number: WRONG_ROOM,
             id: 0,
         };
     }
     if !is_sound(words) {
-        return Outcome {
+        return Row {
             number: NOT_SOUND,
             id: 0,
         };

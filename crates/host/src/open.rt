@@ -6,7 +6,7 @@ use crate::answer::FULL;
 use crate::answer::NO_SUCH;
 use crate::answer::NOT_SOUND;
 use crate::answer::OUT_OF_RANGE;
-use crate::answer::Outcome;
+use crate::answer::Row;
 use numbers::column_words::free_fid;
 use records::Open;
 use soundness::tree_words::some_tree_holds;
@@ -34,24 +34,24 @@ fn append_open(words: &mut [u64], o: Open)
 }
 
 // An open in sound tables.
-fn add_sound(words: &mut [u64], uid: u16, tid: u16, process: u32, file: u8, access: u8) -> Outcome
+fn add_sound(words: &mut [u64], uid: u16, tid: u16, process: u32, file: u8, access: u8) -> Row
     requires { ⌜ (length (now words) ≡ 1172) × (sound (tablesOf (now words)) ≡ true) ⌝ }
     ensures { λ r. ⌜ Left (addOpen (tablesOf (now (words .entry))) uid tid process file access) (now (words .entry)) (now (words .exit)) r ⌝ }
 {
     if 15 < file {
-        return Outcome {
+        return Row {
             number: OUT_OF_RANGE,
             id: 0,
         };
     }
     if 2 < access {
-        return Outcome {
+        return Row {
             number: OUT_OF_RANGE,
             id: 0,
         };
     }
     if !some_tree_is(&words[33..130], tid, uid) {
-        return Outcome {
+        return Row {
             number: NO_SUCH,
             id: 0,
         };
@@ -66,19 +66,19 @@ fn add_sound(words: &mut [u64], uid: u16, tid: u16, process: u32, file: u8, acce
         access,
     };
     if !some_tree_holds(&words[33..130], o) {
-        return Outcome {
+        return Row {
             number: EXCEEDS_RIGHT,
             id: 0,
         };
     }
     if 64 <= words[130] {
-        return Outcome {
+        return Row {
             number: FULL,
             id: 0,
         };
     }
     append_open(&mut words[130..515], o);
-    Outcome {
+    Row {
         number: DONE,
         id: fid,
     }
@@ -92,11 +92,11 @@ pub fn add_open(
     process: u32,
     file: u8,
     access: u8,
-) -> Outcome
+) -> Row
     ensures { λ r. ⌜ Left (onWords (now (words .entry)) (addOpen (tablesOf (now (words .entry))) uid tid process file access)) (now (words .entry)) (now (words .exit)) r ⌝ }
 {
     if !is_sound(words) {
-        return Outcome {
+        return Row {
             number: NOT_SOUND,
             id: 0,
         };

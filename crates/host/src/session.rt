@@ -3,7 +3,7 @@
 use crate::answer::DONE;
 use crate::answer::FULL;
 use crate::answer::NOT_SOUND;
-use crate::answer::Outcome;
+use crate::answer::Row;
 use numbers::column_words::free_uid;
 use records::Session;
 use soundness::whole::is_sound;
@@ -29,30 +29,30 @@ fn append_session(words: &mut [u64], s: Session)
 }
 
 // A session in sound tables.
-fn add_sound(words: &mut [u64], connection: u32) -> Outcome
+fn add_sound(words: &mut [u64], connection: u32) -> Row
     requires { ⌜ (length (now words) ≡ 1172) × (sound (tablesOf (now words)) ≡ true) ⌝ }
     ensures { λ r. ⌜ Left (addSession (tablesOf (now (words .entry))) connection) (now (words .entry)) (now (words .exit)) r ⌝ }
 {
     if 16 <= words[0] {
-        return Outcome {
+        return Row {
             number: FULL,
             id: 0,
         };
     }
     let uid = free_uid(&words[0..33]);
     append_session(&mut words[0..33], Session { uid, connection });
-    Outcome {
+    Row {
         number: DONE,
         id: uid,
     }
 }
 
 // A session on a connection; the number given out is its UID.
-pub fn add_session(words: &mut [u64; 1172], connection: u32) -> Outcome
+pub fn add_session(words: &mut [u64; 1172], connection: u32) -> Row
     ensures { λ r. ⌜ Left (onWords (now (words .entry)) (addSession (tablesOf (now (words .entry))) connection)) (now (words .entry)) (now (words .exit)) r ⌝ }
 {
     if !is_sound(words) {
-        return Outcome {
+        return Row {
             number: NOT_SOUND,
             id: 0,
         };

@@ -5,7 +5,7 @@ use crate::answer::FULL;
 use crate::answer::NO_SUCH;
 use crate::answer::NOT_SOUND;
 use crate::answer::OUT_OF_RANGE;
-use crate::answer::Outcome;
+use crate::answer::Row;
 use numbers::column_words::free_tid;
 use numbers::column_words::has_session;
 use records::Tree;
@@ -32,42 +32,42 @@ fn append_tree(words: &mut [u64], t: Tree)
 }
 
 // A tree in sound tables.
-fn add_sound(words: &mut [u64], uid: u16, right: u8) -> Outcome
+fn add_sound(words: &mut [u64], uid: u16, right: u8) -> Row
     requires { ⌜ (length (now words) ≡ 1172) × (sound (tablesOf (now words)) ≡ true) ⌝ }
     ensures { λ r. ⌜ Left (addTree (tablesOf (now (words .entry))) uid right) (now (words .entry)) (now (words .exit)) r ⌝ }
 {
     if 1 < right {
-        return Outcome {
+        return Row {
             number: OUT_OF_RANGE,
             id: 0,
         };
     }
     if !has_session(&words[0..33], uid) {
-        return Outcome {
+        return Row {
             number: NO_SUCH,
             id: 0,
         };
     }
     if 32 <= words[33] {
-        return Outcome {
+        return Row {
             number: FULL,
             id: 0,
         };
     }
     let tid = free_tid(&words[33..130]);
     append_tree(&mut words[33..130], Tree { tid, uid, right });
-    Outcome {
+    Row {
         number: DONE,
         id: tid,
     }
 }
 
 // A tree of a session; the number given out is its TID.
-pub fn add_tree(words: &mut [u64; 1172], uid: u16, right: u8) -> Outcome
+pub fn add_tree(words: &mut [u64; 1172], uid: u16, right: u8) -> Row
     ensures { λ r. ⌜ Left (onWords (now (words .entry)) (addTree (tablesOf (now (words .entry))) uid right)) (now (words .entry)) (now (words .exit)) r ⌝ }
 {
     if !is_sound(words) {
-        return Outcome {
+        return Row {
             number: NOT_SOUND,
             id: 0,
         };

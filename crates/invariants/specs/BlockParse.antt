@@ -44,14 +44,14 @@ unfoldable pub blockAt : List ℕ → ℕ → ℕ → Next → Block
 blockAt s command at next = record { command = command; at = at; length = blockEnd s at - at; body = bodyAt s command at; next = next }
 
 -- the AndX words by the grammar: what may follow a block at a place
-pub data Link (s : List ℕ) (command at : ℕ) : Next → Type 0 where
-  link-plain : Plain command → Link s command at End
-  link-end : NamedAndx command → andxCommand s at ≡ NO_COMMAND → Link s command at End
+pub data Linked (s : List ℕ) (command at : ℕ) : Next → Type 0 where
+  link-plain : Plain command → Linked s command at End
+  link-end : NamedAndx command → andxCommand s at ≡ NO_COMMAND → Linked s command at End
   link-next : MayFollow command (andxCommand s at) → blockEnd s at ≤ andxOffset s at
-      → Link s command at (Follow (andxCommand s at) (andxOffset s at))
+      → Linked s command at (Follow (andxCommand s at) (andxOffset s at))
 
 -- a follower stands behind
-pub behind : {s : List ℕ} {command at : ℕ} {nx : Next} (c a : ℕ) → Link s command at nx → nx ≡ Follow c a → blockEnd s at ≤ a
+pub behind : {s : List ℕ} {command at : ℕ} {nx : Next} (c a : ℕ) → Linked s command at nx → nx ≡ Follow c a → blockEnd s at ≤ a
 behind c a (link-plain p) e = let z : _≡_ {A = ℕ} 0 1 = cc in absurd (omega arith)
 behind c a (link-end n f) e = let z : _≡_ {A = ℕ} 0 1 = cc in absurd (omega arith)
 behind {s} {command} {at} c a (link-next f g) e = let z : andxOffset s at ≡ a = cc in omega arith
@@ -189,7 +189,7 @@ module _ (s : List ℕ) (at : ℕ) where
       (λ _ e. let no : _≡_ {A = ℕ} 0 1 = cc in absurd (omega arith))))))))
 
   -- AndX words that pass the test are those of the grammar
-  link-sound : {command : ℕ} → NamedAndx command → linkFits s command at ≡ true → Link s command at (linkAt s at)
+  link-sound : {command : ℕ} → NamedAndx command → linkFits s command at ≡ true → Linked s command at (linkAt s at)
   unfolding linkFits linkAt
   link-sound {command} a e =
       test-cases (eqb (andxCommand s at) NO_COMMAND) (λ p. rw p (link-end a (eqb-true (andxCommand s at) NO_COMMAND p)))
@@ -198,7 +198,7 @@ module _ (s : List ℕ) (at : ℕ) where
       rw p (link-next (follow-sound command (andxCommand s at) (h .0)) (leb-true (blockEnd s at) (andxOffset s at) (h .1))))
 
   -- and those of the grammar pass it
-  link-complete : {command : ℕ} {next : Next} → NamedAndx command → Link s command at next → (linkFits s command at ≡ true) × (linkAt s at ≡ next)
+  link-complete : {command : ℕ} {next : Next} → NamedAndx command → Linked s command at next → (linkFits s command at ≡ true) × (linkAt s at ≡ next)
   unfolding linkFits linkAt
   link-complete a (link-plain p) = absurd (plain-not-andx p a)
   link-complete a (link-end _ e) = let p = eq-eqb (andxCommand s at) NO_COMMAND e in (rw p, rw p)
@@ -210,16 +210,16 @@ module _ (s : List ℕ) (at : ℕ) where
       )
 
   -- "Otherwise the command must be in the last column and the offset ... at least the end of this block": the test says no more and no less
-  pub link-exact : {command : ℕ} → NamedAndx command → (linkFits s command at ≡ true) ↔ Link s command at (linkAt s at)
+  pub link-exact : {command : ℕ} → NamedAndx command → (linkFits s command at ≡ true) ↔ Linked s command at (linkAt s at)
   link-exact a = (link-sound a, λ l. link-complete a l .0)
 
   -- a block that the reader yields: it is one of the table, its AndX words are those of the grammar, and its fields are the bytes'
   pub record Accepted (command : ℕ) (b : Block) : Type 0 where
     pub block : IsBlock s at command
-    pub link : Link s command at (b .next)
+    pub link : Linked s command at (b .next)
     pub same : b ≡ blockAt s command at (b .next)
 
-  accepted : (command : ℕ) (next : Next) (b : Block) → IsBlock s at command → Link s command at next → b ≡ blockAt s command at next
+  accepted : (command : ℕ) (next : Next) (b : Block) → IsBlock s at command → Linked s command at next → b ≡ blockAt s command at next
       → Accepted command b
   unfolding blockAt
   accepted command next b h l e =
@@ -240,7 +240,7 @@ module _ (s : List ℕ) (at : ℕ) where
   pub parse-sound : (command : ℕ) (b : Block) → parse s command at ≡ Whole b → Accepted command b
   parse-sound command b e = parse-sound-by (parse-served command b e) b e
 
-  parse-complete-by : {command : ℕ} {next : Next} → Served command → IsBlock s at command → Link s command at next
+  parse-complete-by : {command : ℕ} {next : Next} → Served command → IsBlock s at command → Linked s command at next
       → parse s command at ≡ Whole (blockAt s command at next)
   unfolding blockAt
   parse-complete-by {command} (plain p) h (link-plain _) =
@@ -255,6 +255,6 @@ module _ (s : List ℕ) (at : ℕ) where
       (hold-both (fits s command at) (linkFits s command at) (fits-complete s at h) (g .0)))
 
   -- and every block by the rules is yielded
-  pub parse-complete : {command : ℕ} {next : Next} → IsBlock s at command → Link s command at next
+  pub parse-complete : {command : ℕ} {next : Next} → IsBlock s at command → Linked s command at next
       → parse s command at ≡ Whole (blockAt s command at next)
   parse-complete h l = parse-complete-by (block-served h) h l

@@ -10,14 +10,14 @@ use Rattle.chain.specs.Grammar.{IsBlock, Span, ReadingFrom, plain-end, andx-end
 use Rattle.chain.specs.Chain.{before, blocksFrom}
 use Rattle.chain.specs.declared.block.Next.the-variants.{End, Follow}
 use Rattle.chain.specs.declared.block.Block.{Block}
-use Rattle.invariants.specs.BlockParse.{blockAt, Link, link-plain, link-end, link-next, parse-complete}
+use Rattle.invariants.specs.BlockParse.{blockAt, Linked, link-plain, link-end, link-next, parse-complete}
 use Rattle.chain.specs.ChainLaws.{chain-end, chain-more}
 use Rattle.invariants.specs.ReaderSound.{reader-sound-from}
 
 -- a reading with the fields of its blocks: each is one of the table, linked to the next by the rules
 pub data Chained (s : List ℕ) : ℕ → ℕ → List Block → Type 0 where
-  chained-end : {command at : ℕ} → IsBlock s at command → Link s command at End → Chained s command at (blockAt s command at End ∷ [])
-  chained-more : {command at c a : ℕ} {rest : List Block} → IsBlock s at command → Link s command at (Follow c a) → Chained s c a rest
+  chained-end : {command at : ℕ} → IsBlock s at command → Linked s command at End → Chained s command at (blockAt s command at End ∷ [])
+  chained-more : {command at c a : ℕ} {rest : List Block} → IsBlock s at command → Linked s command at (Follow c a) → Chained s c a rest
       → Chained s command at (blockAt s command at (Follow c a) ∷ rest)
 
 -- each is what the reader answers

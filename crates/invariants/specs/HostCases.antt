@@ -17,7 +17,7 @@ use Rattle.soundness.specs.Sound.{sound, holdsOpen}
 use Rattle.removal.specs.Removal.{remove}
 use Rattle.host.specs.HostCall.{refused, done, newSession, addSession, newTree, addTree, newOpen, addOpen, isOf, loadNumber, withSize, loadFile, dropConnection}
 use Rattle.soundness.specs.Lookup.{isTree}
-use Rattle.host.specs.declared.answer.Answer.{Answer}
+use Rattle.host.specs.declared.answer.Returned.{Returned}
 use Rattle.removal.specs.declared.Gone.the-variants.{Connection}
 use Rattle.lists.specs.Truth.{neither-holds}
 
@@ -62,7 +62,7 @@ pub record OpenPassed (t : Tables) (uid tid process file access : ℕ) : Type 0 
   pub held : any (holdsOpen (newOpen t uid tid process file access)) (treesOf t) ≡ true
   pub room : t .nopens < 64
 
-module _ (t : Tables) (P : Answer → Type 0) (no : (n : ℕ) → 1 ≤ n → P (refused n t)) where
+module _ (t : Tables) (P : Returned → Type 0) (no : (n : ℕ) → 1 ≤ n → P (refused n t)) where
   -- "4 tables not sound", "5 table full"; else done
   pub addSession-either : (connection : ℕ)
       → (sound t ≡ true → t .nsessions < 16 → P (done (newSession t connection .uid) (withSessions t (sessionsOf t ++ (newSession t connection ∷ [])))))

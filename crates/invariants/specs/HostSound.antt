@@ -13,7 +13,7 @@ use Rattle.lists.specs.Walk.{all, allTails}
 use Rattle.numbers.specs.Number.{contains, numbered}
 use Rattle.soundness.specs.Sound.{sound, withinRoom, fileOk, soundRecords, soundLocks, agreeAll}
 use Rattle.host.specs.HostCall.{noTables, refused, done, newSession, addSession, newTree, addTree, newOpen, addOpen, withSize, loadFile, dropConnection}
-use Rattle.host.specs.declared.answer.Answer.{Answer}
+use Rattle.host.specs.declared.answer.Returned.{Returned}
 use Rattle.removal.specs.declared.Gone.the-variants.{Connection}
 use Rattle.lists.specs.Members.{all-set}
 use Rattle.lists.specs.RoomLaws.{held-fewer, held-more}
@@ -92,7 +92,7 @@ module _ (t : Tables) (s : Sound t) where
 
 -- ---- "Every call on sound tables leaves sound tables"
 
-SoundAfter : Answer → Type 0
+SoundAfter : Returned → Type 0
 SoundAfter a = sound (a .tables) ≡ true
 
 module _ (t : Tables) (e : sound t ≡ true) where
@@ -129,7 +129,7 @@ module _ (t : Tables) (e : sound t ≡ true) where
 
 -- ---- "Sessions 16 .. trees 32 .. opens 64 .. locks 128 .. Files: 16": the arrays keep their room, of tables not sound too
 
-ShapedAfter : Answer → Type 0
+ShapedAfter : Returned → Type 0
 ShapedAfter a = Shaped (a .tables)
 
 module _ (t : Tables) (s : Shaped t) where

@@ -14,7 +14,7 @@ use Rattle.chain.specs.declared.block.Next.{Next}
 use Rattle.chain.specs.declared.block.Block.{Block}
 use Rattle.chain.specs.declared.block.Parsed.{Parsed}
 use Rattle.chain.specs.declared.block.Parsed.the-variants.{Whole, Malformed}
-use Rattle.invariants.specs.BlockParse.{blockAt, Link, link-plain, link-end, link-next, parse-sound}
+use Rattle.invariants.specs.BlockParse.{blockAt, Linked, link-plain, link-end, link-next, parse-sound}
 
 -- a block of the reader's answer as one of a reading
 unfoldable pub spanOf : Block → Span
@@ -35,7 +35,7 @@ before-some b (some rest) bs e = (rest, refl, (cc))
 module _ (s : List ℕ) (chain : ℕ → ℕ → Option (List Block))
     (sound : (c a : ℕ) (rest : List Block) → chain c a ≡ some rest → ReadingFrom s c a (map spanOf rest)) where
   -- a block by the rules with what follows it
-  sound-link : {command at : ℕ} {next : Next} → IsBlock s at command → Link s command at next → (b : Block) → spanAt s command at ≡ spanOf b
+  sound-link : {command at : ℕ} {next : Next} → IsBlock s at command → Linked s command at next → (b : Block) → spanAt s command at ≡ spanOf b
       → (bs : List Block) → afterBlock b next chain ≡ some bs → ReadingFrom s command at (map spanOf bs)
   unfolding afterBlock
   sound-link h (link-plain p) b e bs f = let g : b ∷ [] ≡ bs = cc in rw (← g, ← e) (plain-end h p)

@@ -26,7 +26,7 @@ use Rattle.chain.specs.declared.block.WriteFields.{WriteFields}
 use Rattle.chain.specs.declared.block.Block.{Block}
 use Rattle.chain.specs.declared.block.Next.{Next}
 use Rattle.chain.specs.declared.block.Next.the-variants.{End, Follow}
-use Rattle.invariants.specs.BlockParse.{bodyAt, blockAt, blockSize, behind, block-inside, Link as Linked, link-plain, link-end, link-next}
+use Rattle.invariants.specs.BlockParse.{bodyAt, blockAt, blockSize, behind, block-inside, Linked, link-plain, link-end, link-next}
 use Rattle.invariants.specs.Chained.{Chained, chained-end, chained-more, read-chained}
 use Rattle.message.specs.Caller.{callerOf}
 use Rattle.message.specs.declared.caller.Caller.{Caller}

@@ -20,7 +20,7 @@ use Rattle.chain.specs.declared.block.Block.{Block}
 use Rattle.chain.specs.declared.block.Next.the-variants.{End, Follow}
 use Rattle.chain.specs.declared.block.Parsed.the-variants.{Whole, Malformed}
 use Rattle.listing.specs.Text.{line, endLine, linesFrom, notChain, droppedLine, listed, listing}
-use Rattle.listing.specs.Chained.{Sentence, linesOf}
+use Rattle.listing.specs.Lines.{SentenceFrom, linesOf}
 
 module _ (s : List ℕ) (command place k : ℕ) where
   -- where a block is refused nothing is printed
@@ -45,7 +45,7 @@ lines-before k b o r e = rw e
 
 -- the block b at a place of a chain that has a reading, followed by one with the command c at the place a
 pub record Followed (s : List ℕ) (command place : ℕ) (b : Block) (c a : ℕ) : Type 0 where
-  pub chained : Sentence s command place
+  pub chained : SentenceFrom s command place
   pub whole : parse s command place ≡ Whole b
   pub follows : b .next ≡ Follow c a
 
@@ -54,7 +54,7 @@ module _ {s : List ℕ} {command place : ℕ} {b : Block} {c a : ℕ} (h : Follo
   more = chain-more s command place b (h .whole) c a (h .follows)
 
   -- the rest has a reading
-  pub sentence-more : Sentence s c a
+  pub sentence-more : SentenceFrom s c a
   sentence-more =
       let rest = sentence-after b (blocksFrom s c a) (h .chained .blocks) (sym more ∙ h .chained .read) in
       record { blocks = rest .0; read = rest .1 }
@@ -104,7 +104,7 @@ module _ (s : List ℕ) (command : ℕ) (q : command ≡ byteAt s 4) where
 
   module _ (e : readable (blocksFrom s command 32) ≡ true) where
     -- one that has a reading
-    pub sentence-read : Sentence s command 32
+    pub sentence-read : SentenceFrom s command 32
     sentence-read =
         let r = readable-blocks (blocksFrom s command 32) e in
         record { blocks = r .0; read = r .1 }

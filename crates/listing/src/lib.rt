@@ -3,6 +3,8 @@
 use chain::block::Block;
 use chain::block::Next;
 use chain::block::Parsed;
+use chain::header::COMMAND;
+use chain::header::FIRST;
 use chain::header::is_dropped;
 use chain::message_reader::block_at;
 use chain::reader::is_sentence;
@@ -14,19 +16,21 @@ ghost use mathlib.Core.Path.{_≡_};
 ghost use Prim.Native.Nat.{_≤_};
 ghost use Rattle.chain.specs.Chain.{blocksFrom};
 ghost use Rattle.listing.specs.Text.{line, listing};
-ghost use Rattle.listing.specs.Chained.{Sentence, linesOf};
+ghost use Rattle.listing.specs.Lines.{SentenceFrom, linesOf};
 ghost use Rattle.text.specs.Over.{Written};
+
+const SPACE: u8 = b' ';
 
 // The line of a block that stands k-th.
 fn put_line(out: &mut [u8], at: usize, k: usize, b: Block) -> usize
     ensures { λ r. ⌜ Written (now (out .entry)) at (line k b) (now (out .exit)) r ⌝ }
 {
     let a1 = put_decimal(out, at, k);
-    let a2 = put_byte(out, a1, 32);
+    let a2 = put_byte(out, a1, SPACE);
     let a3 = put_hex(out, a2, b.command);
-    let a4 = put_byte(out, a3, 32);
+    let a4 = put_byte(out, a3, SPACE);
     let a5 = put_decimal(out, a4, b.at);
-    let a6 = put_byte(out, a5, 32);
+    let a6 = put_byte(out, a5, SPACE);
     let a7 = put_decimal(out, a6, b.length);
     put_byte(out, a7, 10)
 }
@@ -35,7 +39,7 @@ fn put_line(out: &mut [u8], at: usize, k: usize, b: Block) -> usize
 // `end`. A block takes three bytes at least, so k stays below the place.
 fn put_blocks(s: &[u8], out: &mut [u8], at: usize, k: usize, command: u8, place: usize) -> usize
     requires { ⌜ k ≤ place ⌝ }
-    requires { ⌜ Sentence (now s) command place ⌝ }
+    requires { ⌜ SentenceFrom (now s) command place ⌝ }
     ensures { λ r. ⌜ Written (now (out .entry)) at (linesOf k (blocksFrom (now (s .entry)) command place)) (now (out .exit)) r ⌝ }
 {
     let Parsed::Whole(b) = block_at(s, command, place) else {
@@ -56,9 +60,9 @@ pub fn list_message(s: &[u8], out: &mut [u8]) -> usize
     if is_dropped(s) {
         return put_text(out, 0, b"dropped\n");
     }
-    let command = wire::byte_at(s, 4);
-    if !is_sentence(s, command, 32) {
+    let command = wire::byte_at(s, COMMAND);
+    if !is_sentence(s, command, FIRST) {
         return put_text(out, 0, b"not a chain\n");
     }
-    put_blocks(s, out, 0, 1, command, 32)
+    put_blocks(s, out, 0, 1, command, FIRST)
 }

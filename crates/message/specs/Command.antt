@@ -128,8 +128,8 @@ doLocking c t memory f area =
 -- ---- reading and writing
 
 -- the header's process asks for the range, through the FID
-unfoldable pub askOf : Caller → ℕ → ℕ → ℕ → Purpose → Ask
-askOf c fid offset count purpose = record { fid = fid; process = c .process; offset = offset; length = count; purpose = purpose }
+unfoldable pub askBy : Caller → ℕ → ℕ → ℕ → Purpose → Ask
+askBy c fid offset count purpose = record { fid = fid; process = c .process; offset = offset; length = count; purpose = purpose }
 
 unfoldable pub unlessBarred : Found → Given → Given
 unlessBarred (At place) next = refused (Conflict place)
@@ -144,7 +144,7 @@ doRead c t memory f =
     withOpen c t (f .fid)
     (λ o.
     cond (eqb (o .access) 1) (refused NoAccess)
-    (unlessBarred (barring t (askOf c (f .fid) (f .offset) (f .max) Reading))
+    (unlessBarred (barring t (askBy c (f .fid) (f .offset) (f .max) Reading))
     (done t memory (read (readBytes t memory (o .file) (f .offset) (f .max))))))
 
 -- "or a write on access 0"; "write would end past 4,096"; "Length 0 writes nothing, changes no size and is done at any offset"
@@ -156,7 +156,7 @@ doWrite c t memory f bytes =
     withOpen c t (f .fid)
     (λ o.
     cond (eqb (o .access) 0) (refused NoAccess)
-    (unlessBarred (barring t (askOf c (f .fid) (f .offset) (f .count) Writing))
+    (unlessBarred (barring t (askBy c (f .fid) (f .offset) (f .count) Writing))
     (cond (endsPast (f .offset) (f .count)) (refused NoSpace)
     (done (resized t (o .file) (f .offset) (f .count)) (written t memory (o .file) (f .offset) bytes) (wrote (f .count))))))
 

@@ -30,7 +30,7 @@ use Rattle.chain.specs.Parse.{shaped, bare, isLarge, lockingFits, readFits, may
 use Rattle.chain.specs.Chain.{before, afterBlock, afterParse, blocksWithin, blocksFrom, blocks}
 use Rattle.message.specs.Caller.{callerOf}
 use Rattle.message.specs.Refusal.{status, statusOf}
-use Rattle.message.specs.Command.{isSession, withSession, withTree, isOpen, openAt, withOpen, servedType, requestOf, withLockList, lockingEnd, lockingAfter, doLocking, askOf as asks, unlessBarred, barring, doRead, perform}
+use Rattle.message.specs.Command.{isSession, withSession, withTree, isOpen, openAt, withOpen, servedType, requestOf, withLockList, lockingEnd, lockingAfter, doLocking, askBy, unlessBarred, barring, doRead, perform}
 use Rattle.message.specs.Contents.{sizeOf, contents, readBytes}
 use Rattle.message.specs.Reply.{two, linkWords, replySize, replyBlock, refusedBlock}
 use Rattle.message.specs.Message.{areaOf, dataOf, after, linkTo, afterGiven, run, served, runChain, answered}
@@ -128,7 +128,7 @@ answer-to s t class code size =
 
 -- on an open for both LOCKING and READ are done; on one for writing READ is refused (1/5) behind LOCKING's block; beside the shared lock LOCKING is (1/33)
 answers-given : answer-to (message 61 []) (plant 2 0) 0 0 34 × answer-to (message 61 []) (plant 1 0) 1 5 10 × answer-to (message 61 []) (plant 2 1) 1 33 3
-unfolding asked message blocks blocksFrom blocksWithin afterParse afterBlock before parse parseLocking parseRead answer lockingFits readFits linkFits linkAt mayFollow shaped bare isLarge le16At le32At wideOffset rangeSize answered served runChain run afterGiven after perform doLocking withOpen withTree withSession isSession isTree isOpen openAt found foundFrom any servedType requestOf lockingAfter lockingEnd withLockList locking rangesAt rangeFrom rangeAt numberAt request afterReleases afterGrants grantAll afterWalk releaseAll afterFind removeAt rangePasses passesEnd askOf lockOf answers answersFor inWay bars named owns overlaps settle stored doRead unlessBarred barring asks fileOf callerOf areaOf dataOf status statusOf plant answer-to readBytes contents sizeOf replySize replyBlock refusedBlock linkTo linkWords two
+unfolding asked message blocks blocksFrom blocksWithin afterParse afterBlock before parse parseLocking parseRead answer lockingFits readFits linkFits linkAt mayFollow shaped bare isLarge le16At le32At wideOffset rangeSize answered served runChain run afterGiven after perform doLocking withOpen withTree withSession isSession isTree isOpen openAt found foundFrom any servedType requestOf lockingAfter lockingEnd withLockList locking rangesAt rangeFrom rangeAt numberAt request afterReleases afterGrants grantAll afterWalk releaseAll afterFind removeAt rangePasses passesEnd askOf lockOf answers answersFor inWay bars named owns overlaps settle stored doRead unlessBarred barring askBy fileOf callerOf areaOf dataOf status statusOf plant answer-to readBytes contents sizeOf replySize replyBlock refusedBlock linkTo linkWords two
 answers-given = ((refl, refl), (refl, refl), (refl, refl))
 
 call-says : (t : Tables) (ok : Good t) (class code size : ℕ) → answer-to (message 61 []) t class code size

@@ -10,12 +10,12 @@ use Rattle.chain.specs.Chain.{blocks, blocksFrom}
 use Rattle.chain.specs.declared.block.Next.the-variants.{End}
 use Rattle.chain.specs.declared.block.Block.{Block}
 use Rattle.invariants.specs.BlockTests.{Served, plain, andx}
-use Rattle.invariants.specs.BlockParse.{bodyAt, blockAt, block-served, Link, link-plain, link-end, parse-complete, blockSize}
+use Rattle.invariants.specs.BlockParse.{bodyAt, blockAt, block-served, Linked, link-plain, link-end, parse-complete, blockSize}
 use Rattle.chain.specs.ChainLaws.{chain-end}
 use Rattle.readings.specs.Moved.{Moved, movedBody, moved-block, moved-body, moved-size}
 
 -- "with AndXCommand 0xFF where it has one": nothing follows
-alone-link : (t : List ℕ) (at : ℕ) {command : ℕ} → Served command → (NamedAndx command → andxCommand t at ≡ NO_COMMAND) → Link t command at End
+alone-link : (t : List ℕ) (at : ℕ) {command : ℕ} → Served command → (NamedAndx command → andxCommand t at ≡ NO_COMMAND) → Linked t command at End
 alone-link t at (plain p) e = link-plain p
 alone-link t at (andx a) e = link-end a (e a)
 

@@ -15,7 +15,7 @@ use Rattle.chain.specs.declared.block.Body.the-variants.{Locking, Read, Write, 
 use Rattle.chain.specs.declared.block.Next.{Next}
 use Rattle.chain.specs.declared.block.Next.the-variants.{End, Follow}
 use Rattle.chain.specs.declared.block.Block.{Block}
-use Rattle.invariants.specs.BlockParse.{bodyAt, blockAt, Link, link-plain, link-end, link-next, parse-complete, follow-andx, follow-not-end, write-words, andx-words, blockSize}
+use Rattle.invariants.specs.BlockParse.{bodyAt, blockAt, Linked, link-plain, link-end, link-next, parse-complete, follow-andx, follow-not-end, write-words, andx-words, blockSize}
 use Rattle.readings.specs.SameNumbers.{same-16}
 use Rattle.readings.specs.Unread.{Unread}
 use Rattle.readings.specs.UnreadLaws.{in-words, unread-write, unread-front, offset-looked}
@@ -99,7 +99,7 @@ module _ {s t : List ℕ} {command at : ℕ} (h : IsBlock s at command) (alike :
   end-same = let e : blockSize t at ≡ blockSize s at = moved-size unmoved h in omega arith
 
   -- its link is by the rules again
-  pub link-same : {next : Next} → Link s command at next → Link t command at next
+  pub link-same : {next : Next} → Linked s command at next → Linked t command at next
   link-same (link-plain p) = link-plain p
   link-same (link-end a e) = link-end a (andx-command-same a ∙ e)
   link-same (link-next f g) =
@@ -111,7 +111,7 @@ module _ {s t : List ℕ} {command at : ℕ} (h : IsBlock s at command) (alike :
       rw (← c, ← o) (link-next m l)
 
   -- a last block
-  same-end : Link s command at End → blocksFrom t command at ≡ blocksFrom s command at
+  same-end : Linked s command at End → blocksFrom t command at ≡ blocksFrom s command at
   unfolding blockAt
   same-end l =
       chain-end t command at (blockAt t command at End) (parse-complete t at (moved-block h unmoved) (link-same l)) refl
@@ -119,7 +119,7 @@ module _ {s t : List ℕ} {command at : ℕ} (h : IsBlock s at command) (alike :
       ∙ sym (chain-end s command at (blockAt s command at End) (parse-complete s at h l) refl)
 
   -- one with others behind it
-  same-more : (c a : ℕ) → Link s command at (Follow c a) → blocksFrom t c a ≡ blocksFrom s c a → blocksFrom t command at ≡ blocksFrom s command at
+  same-more : (c a : ℕ) → Linked s command at (Follow c a) → blocksFrom t c a ≡ blocksFrom s c a → blocksFrom t command at ≡ blocksFrom s command at
   unfolding blockAt
   same-more c a l e =
       chain-more t command at (blockAt t command at (Follow c a)) (parse-complete t at (moved-block h unmoved) (link-same l)) c a refl

@@ -11,7 +11,7 @@ use Rattle.chain.specs.Grammar.{IsBlock, Span, spanAt, ReadingFrom, plain-end, 
 use Rattle.chain.specs.Chain.{before, blocksFrom, blocks}
 use Rattle.chain.specs.declared.block.Next.the-variants.{End, Follow}
 use Rattle.chain.specs.declared.block.Block.{Block}
-use Rattle.invariants.specs.BlockParse.{blockAt, Link, link-plain, link-end, link-next, parse-complete}
+use Rattle.invariants.specs.BlockParse.{blockAt, Linked, link-plain, link-end, link-next, parse-complete}
 use Rattle.chain.specs.ChainLaws.{chain-end, chain-more}
 use Rattle.invariants.specs.ReaderSound.{spanOf, span-of-block, reader-sound-from}
 
@@ -22,7 +22,7 @@ pub record Answered (s : List ℕ) (command at : ℕ) (spans : List Span) : Type
   pub same : map spanOf bs ≡ spans
 
 -- a block alone
-answered-end : (s : List ℕ) (command at : ℕ) → IsBlock s at command → Link s command at End → Answered s command at (spanAt s command at ∷ [])
+answered-end : (s : List ℕ) (command at : ℕ) → IsBlock s at command → Linked s command at End → Answered s command at (spanAt s command at ∷ [])
 unfolding blockAt
 answered-end s command at h l =
     record {
@@ -32,7 +32,7 @@ answered-end s command at h l =
     }
 
 -- a block with others behind it
-answered-more : (s : List ℕ) (command at c a : ℕ) (rest : List Span) → IsBlock s at command → Link s command at (Follow c a) → Answered s c a rest
+answered-more : (s : List ℕ) (command at c a : ℕ) (rest : List Span) → IsBlock s at command → Linked s command at (Follow c a) → Answered s c a rest
     → Answered s command at (spanAt s command at ∷ rest)
 unfolding blockAt before
 answered-more s command at c a rest h l behind =

@@ -15,13 +15,13 @@ use Rattle.tables.specs.Written.{Wrote}
 use Rattle.tables.specs.ArrayLaws.{length-array, array-count}
 use Rattle.tables.specs.FitLaws.{all-upTo, upTo-all, fit-wrote}
 use Rattle.tables.specs.ChangeLaws.{count-set, fit-count}
-use Rattle.removal.specs.Filter.{Moved, Filtered}
+use Rattle.removal.specs.Filter.{Shifted, Filtered}
 
 -- ---- a record moved
 
 module _ {A : Type 0} {arrayIn : List ℕ → List A} {limits : List ℕ} {z : A} where
   -- a record that is to stay where it is
-  pub moved-none : (w : List ℕ) (from to : ℕ) → from ≡ to → Moved arrayIn limits z w w from to
+  pub moved-none : (w : List ℕ) (from to : ℕ) → from ≡ to → Shifted arrayIn limits z w w from to
   moved-none w from to e =
       record {
         array = sym (rw (← e) (set-set (arrayIn w) from z (getD (arrayIn w) from z) ∙ set-getD (arrayIn w) from z));
@@ -30,7 +30,7 @@ module _ {A : Type 0} {arrayIn : List ℕ → List A} {limits : List ℕ} {z : A
 
   -- its place emptied, and the record written where it is to stand
   pub moved : {before mid after : List ℕ} {from to : ℕ} (x : A) → x ≡ getD (arrayIn before) from z
-      → Wrote arrayIn limits before mid from z → Wrote arrayIn limits mid after to x → Moved arrayIn limits z before after from to
+      → Wrote arrayIn limits before mid from z → Wrote arrayIn limits mid after to x → Shifted arrayIn limits z before after from to
   moved x e v w =
       record {
         array = w .array ∙ rw (v .array, e);
@@ -70,7 +70,7 @@ module _ {A : Type 0} {arrayIn : List ℕ → List A} {limits : List ℕ} {z : A
         }
 
     -- it is kept
-    pub filtering-yes : p x ≡ true → Moved arrayIn limits z words after i count → Filtering arrayIn limits z p start n (i + 1) after (count + 1)
+    pub filtering-yes : p x ≡ true → Shifted arrayIn limits z words after i count → Filtering arrayIn limits z p start n (i + 1) after (count + 1)
     filtering-yes e m =
         let most : count ≤ i = filtering-most (omega arith) in
         record {

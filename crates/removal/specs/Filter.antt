@@ -39,7 +39,7 @@ unfoldable pub lockMarked : List Bool → Lock → Bool
 lockMarked fids l = getD fids (l .fid) false
 
 -- the record at one place moved to another, its own place empty: words that fit stay so
-pub record Moved {A : Type 0} (arrayIn : List ℕ → List A) (limits : List ℕ) (z : A) (before after : List ℕ) (from to : ℕ) : Type 0 where
+pub record Shifted {A : Type 0} (arrayIn : List ℕ → List A) (limits : List ℕ) (z : A) (before after : List ℕ) (from to : ℕ) : Type 0 where
   pub array : arrayIn after ≡ set (set (arrayIn before) from z) to (getD (arrayIn before) from z)
   pub fit : (m : ℕ) → from < m → to < m → recordsFit limits m before ≡ true → recordsFit limits m after ≡ true
 

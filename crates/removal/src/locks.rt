@@ -10,7 +10,7 @@ ghost use Prim.Native.Nat.{_<_};
 ghost use lib.ListN.{length};
 ghost use Rattle.records.specs.Empty.{noLock};
 ghost use Rattle.tables.specs.Words.{lockArray, lockLimits};
-ghost use Rattle.removal.specs.Filter.{lockMarked, Moved, Filtered};
+ghost use Rattle.removal.specs.Filter.{lockMarked, Shifted, Filtered};
 
 // What stands in a record that is not in use.
 const NO_LOCK: Lock = Lock {
@@ -24,7 +24,7 @@ const NO_LOCK: Lock = Lock {
 // The record at one place moved to another, its own place empty.
 fn move_lock(words: &mut [u64], from: usize, to: usize)
     requires { ⌜ (length (now words) ≡ 641) × ((from < 128) × (to < 128)) ⌝ }
-    ensures { λ _. ⌜ Moved lockArray lockLimits noLock (now (words .entry)) (now (words .exit)) from to ⌝ }
+    ensures { λ _. ⌜ Shifted lockArray lockLimits noLock (now (words .entry)) (now (words .exit)) from to ⌝ }
 {
     if from == to {
         return;

@@ -17,7 +17,7 @@ ghost use Rattle.records.specs.Empty.{noOpen};
 ghost use Rattle.tables.specs.Words.{openArray, openLimits};
 ghost use Rattle.tables.specs.Written.{opensIn};
 ghost use Rattle.numbers.specs.Column.{fidOf};
-ghost use Rattle.removal.specs.Filter.{marksOf, openMarked, Moved, Filtered};
+ghost use Rattle.removal.specs.Filter.{marksOf, openMarked, Shifted, Filtered};
 
 // What stands in a record that is not in use.
 const NO_OPEN: Open = Open {
@@ -42,7 +42,7 @@ fn open_marked(gone: Gone, tids: &[bool], o: Open) -> bool
 // The record at one place moved to another, its own place empty.
 fn move_open(words: &mut [u64], from: usize, to: usize)
     requires { ⌜ (length (now words) ≡ 385) × ((from < 64) × (to < 64)) ⌝ }
-    ensures { λ _. ⌜ Moved openArray openLimits noOpen (now (words .entry)) (now (words .exit)) from to ⌝ }
+    ensures { λ _. ⌜ Shifted openArray openLimits noOpen (now (words .entry)) (now (words .exit)) from to ⌝ }
 {
     if from == to {
         return;

@@ -17,7 +17,7 @@ ghost use Rattle.tables.specs.Words.{sessionArray, sessionLimits};
 ghost use Rattle.tables.specs.Written.{sessionsIn};
 ghost use Rattle.numbers.specs.Column.{uidOf};
 ghost use Rattle.removal.specs.Removal.{sessionStays};
-ghost use Rattle.removal.specs.Filter.{marksOf, Moved, Filtered};
+ghost use Rattle.removal.specs.Filter.{marksOf, Shifted, Filtered};
 
 // What stands in a record that is not in use.
 const NO_SESSION: Session = Session {
@@ -28,7 +28,7 @@ const NO_SESSION: Session = Session {
 // The record at one place moved to another, its own place empty.
 fn move_session(words: &mut [u64], from: usize, to: usize)
     requires { ⌜ (length (now words) ≡ 33) × ((from < 16) × (to < 16)) ⌝ }
-    ensures { λ _. ⌜ Moved sessionArray sessionLimits noSession (now (words .entry)) (now (words .exit)) from to ⌝ }
+    ensures { λ _. ⌜ Shifted sessionArray sessionLimits noSession (now (words .entry)) (now (words .exit)) from to ⌝ }
 {
     if from == to {
         return;

@@ -17,7 +17,7 @@ ghost use Rattle.records.specs.Empty.{noTree};
 ghost use Rattle.tables.specs.Words.{treeArray, treeLimits};
 ghost use Rattle.tables.specs.Written.{treesIn};
 ghost use Rattle.numbers.specs.Column.{tidOf};
-ghost use Rattle.removal.specs.Filter.{marksOf, treeMarked, Moved, Filtered};
+ghost use Rattle.removal.specs.Filter.{marksOf, treeMarked, Shifted, Filtered};
 
 // What stands in a record that is not in use.
 const NO_TREE: Tree = Tree {
@@ -39,7 +39,7 @@ fn tree_marked(gone: Gone, uids: &[bool], t: Tree) -> bool
 // The record at one place moved to another, its own place empty.
 fn move_tree(words: &mut [u64], from: usize, to: usize)
     requires { ⌜ (length (now words) ≡ 97) × ((from < 32) × (to < 32)) ⌝ }
-    ensures { λ _. ⌜ Moved treeArray treeLimits noTree (now (words .entry)) (now (words .exit)) from to ⌝ }
+    ensures { λ _. ⌜ Shifted treeArray treeLimits noTree (now (words .entry)) (now (words .exit)) from to ⌝ }
 {
     if from == to {
         return;

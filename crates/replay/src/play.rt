@@ -9,7 +9,7 @@
 
 use crate::digest::state_digest;
 use crate::line::put_line;
-use host::answer::Outcome;
+use host::answer::Row;
 use host::connection::drop_connection;
 use host::file::load_file;
 use host::open::add_open;
@@ -31,7 +31,7 @@ pub(crate) struct Step {
 }
 
 // A host call carried out, and its line.
-fn host_step(o: Outcome, next: usize, words: &[u64], memory: &[u8], text: &mut [u8]) -> Step
+fn host_step(o: Row, next: usize, words: &[u64], memory: &[u8], text: &mut [u8]) -> Step
     ensures { λ r. ⌜ (r .next ≡ next) × (r .length ≤ length (now (text .exit))) ⌝ }
 {
     let digest = state_digest(words, memory) as usize;

@@ -49,6 +49,9 @@ fn link_place(link: Link) -> usize
     }
 }
 
+// A READ's data stand behind WordCount, 12 words and ByteCount.
+const READ_DATA: usize = 27;
+
 // How long the block of an answer is.
 pub fn block_size(a: Answer) -> usize
     requires { ⌜ inside a ≡ true ⌝ }
@@ -58,7 +61,7 @@ pub fn block_size(a: Answer) -> usize
         Answer::Refused(_) => 3,
         Answer::Locked => 7,
         Answer::LoggedOff => 7,
-        Answer::Read(_, count) => 27 + count,
+        Answer::Read(_, count) => READ_DATA + count,
         Answer::Wrote(_) => 15,
         Answer::Plain => 3,
     }
@@ -121,7 +124,7 @@ fn write_extent(count: usize, place: usize, room: &mut [u8])
 {
     let n0 = low(count);
     let n1 = high(count);
-    let from = place + 27;
+    let from = place + READ_DATA;
     let f0 = low(from);
     let f1 = high(from);
     let extent = [n0, n1, f0, f1, 0, 0, 0, 0, 0, 0, 0, 0, 0, 0, n0, n1];
@@ -139,7 +142,7 @@ fn write_read(at: usize, count: usize, place: usize, link: Link, memory: &[u8], 
     write_read_start(link, room);
     write_extent(count, place, &mut room[11..]);
     let to = at + count;
-    lay(&memory[at..to], &mut room[27..]);
+    lay(&memory[at..to], &mut room[READ_DATA..]);
 }
 
 // The block of an answer, at the front of the room left for it.

@@ -2,6 +2,9 @@
 
 use crate::little_endian::high;
 use crate::little_endian::low;
+use chain::header::COMMAND;
+use chain::header::FIRST;
+use chain::header::TID;
 use message::refusal::Status;
 use wire::byte_at;
 use wire::fill::lay;
@@ -25,7 +28,7 @@ fn write_status(s: &[u8], status: Status, room: &mut [u8])
     requires { ⌜ 9 ≤ length (now room) ⌝ }
     ensures { λ _. ⌜ now (room .exit) ≡ put (now (room .entry)) 0 (headerStart (now (s .entry)) status) ⌝ }
 {
-    let command = byte_at(s, 4);
+    let command = byte_at(s, COMMAND);
     let class = status.class;
     let code = status.code as usize;
     let c0 = low(code);
@@ -55,5 +58,5 @@ pub fn write_header(s: &[u8], status: Status, room: &mut [u8])
 {
     write_status(s, status, room);
     write_flags(s, &mut room[9..]);
-    lay(&s[24..32], &mut room[24..]);
+    lay(&s[TID..FIRST], &mut room[TID..]);
 }

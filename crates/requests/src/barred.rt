@@ -11,13 +11,13 @@ ghost use mathlib.Core.Path.{_≡_};
 ghost use Prim.Native.Nat.{_≤_};
 ghost use lib.ListN.{length};
 ghost use Rattle.tables.specs.Words.{tablesOf};
-ghost use Rattle.message.specs.Command.{askOf, barring};
+ghost use Rattle.message.specs.Command.{askBy, barring};
 ghost use Rattle.message.specs.Contents.{sizeOf};
 ghost use Rattle.invariants.specs.Sound.{Good};
 
 // "Locks: process from the range; reads and writes: from the header."
 pub(crate) fn ask_of(c: Caller, fid: u16, offset: u64, count: u16, purpose: Purpose) -> Ask
-    ensures { λ r. ⌜ r ≡ askOf c fid offset count purpose ⌝ }
+    ensures { λ r. ⌜ r ≡ askBy c fid offset count purpose ⌝ }
 {
     Ask {
         fid,

@@ -9,8 +9,8 @@ use lib.Dec.{eqb}
 use Rattle.lists.specs.Truth.{test-cases}
 use Rattle.records.specs.declared.Tables.{Tables}
 use Rattle.tables.specs.Words.{tablesOf, inUseFit}
-use Rattle.host.specs.declared.answer.Answer.{Answer}
-use Rattle.host.specs.declared.answer.Outcome.{Outcome}
+use Rattle.host.specs.declared.answer.Returned.{Returned}
+use Rattle.host.specs.declared.answer.Row.{Row}
 use Rattle.host.specs.HostCall.{loadNumber, loadFile, loadMemory}
 use Rattle.host.specs.OnWords.{onWords, loadOnWords, memoryOnWords, Left}
 
@@ -20,7 +20,7 @@ pub record WordsOf (t : Tables) (w : List ℕ) : Type 0 where
   pub fit : inUseFit w ≡ true
 
 module _ {t : Tables} {w : List ℕ} (from : WordsOf t w) where
-  pub called : (f : Tables → Answer) (v : List ℕ) (r : Outcome) → Left (onWords w (f (tablesOf w))) w v r → WordsOf (f t .tables) v
+  pub called : (f : Tables → Returned) (v : List ℕ) (r : Row) → Left (onWords w (f (tablesOf w))) w v r → WordsOf (f t .tables) v
   unfolding onWords
   called f v r l =
       record {
@@ -36,7 +36,7 @@ module _ {t : Tables} {w : List ℕ} (from : WordsOf t w) where
         (λ e. rw (e, from .fit, from .hold))
         (λ e. rw (e, from .hold))
 
-    pub loaded : (v : List ℕ) (r : Outcome) → Left (loadOnWords w file bytes memory) w v r → WordsOf (loadFile t file bytes memory .tables) v
+    pub loaded : (v : List ℕ) (r : Row) → Left (loadOnWords w file bytes memory) w v r → WordsOf (loadFile t file bytes memory .tables) v
     loaded v r l = record { hold = l .tables ∙ rw load-same; fit = l .fit (from .fit) }
 
     pub memory-loaded : (m : List ℕ) → m ≡ memoryOnWords w file bytes memory → m ≡ loadMemory t file bytes memory

@@ -9,11 +9,18 @@ use chain::command::PROCESS_EXIT;
 use chain::command::READ;
 use chain::command::TREE_DISCONNECT;
 use chain::command::WRITE;
+use chain::header::COMMAND;
+use chain::header::FIRST;
+use chain::header::PID_LOW;
+use chain::header::SHORTEST;
+use chain::header::TID;
+use chain::header::UID;
 use chain::header::is_dropped;
 use chain::reader::is_sentence;
 use host::answer::DONE;
 use host::answer::NOT_SOUND;
 use host::answer::WRONG_ROOM;
+use host::file::MEMORY;
 use message::answer::Answer;
 use message::caller::Caller;
 use message::link::Link;
@@ -37,6 +44,9 @@ ghost use Rattle.server.specs.TakenOf.{takenOf, refusal};
 
 // Row 1 of document 01's table "What a call returns"; `host::answer` has the others.
 pub const DROPPED: u8 = 1;
+
+// "reply room 12,292": every reply fits.
+const ROOM: usize = 12292;
 
 // The row, and the reply's length (0 where none was written). The tables are left in the words.
 pub struct Taken {
@@ -73,9 +83,9 @@ fn caller_of(connection: u32, s: &[u8]) -> Caller
 {
     Caller {
         connection,
-        uid: wire::le16_at(s, 28),
-        tid: wire::le16_at(s, 24),
-        process: wire::le16_at(s, 26) as u32,
+        uid: wire::le16_at(s, UID),
+        tid: wire::le16_at(s, TID),
+        process: wire::le16_at(s, PID_LOW) as u32,
     }
 }
 
@@ -88,15 +98,15 @@ fn refuse_message(s: &[u8], why: Refusal, memory: &[u8], room: &mut [u8]) -> Tak
 {
     write_block(
         Answer::Refused(why),
-        32,
+        FIRST,
         Link::None,
         memory,
-        &mut room[32..],
+        &mut room[FIRST..],
     );
     write_header(s, status_of(why), room);
     Taken {
         number: DONE,
-        length: 35,
+        length: SHORTEST,
     }
 }
 
@@ -117,11 +127,11 @@ fn answer_message(
     ensures { λ r. ⌜ takenOf r (tablesOf (now (words .exit))) (now (memory .exit)) (now (room .exit)) ≡ replied (now (s .entry)) (now (room .entry)) (answered connection (now (s .entry)) (tablesOf (now (words .entry))) (now (memory .entry))) ⌝ }
     ensures { λ _. ⌜ (inUseFit (now (words .entry)) ≡ true → inUseFit (now (words .exit)) ≡ true) ⌝ }
 {
-    let command = wire::byte_at(s, 4);
+    let command = wire::byte_at(s, COMMAND);
     if !is_served(command) {
         return refuse_message(s, Refusal::NotServed, memory, room);
     }
-    if !is_sentence(s, command, 32) {
+    if !is_sentence(s, command, FIRST) {
         return refuse_message(s, Refusal::NotSentence, memory, room);
     }
     let ended = run_chain(caller_of(connection, s), s, words, memory, room);
@@ -145,10 +155,10 @@ pub fn take_message(
     ensures { λ r. ⌜ ((r .number ≡ 0 → ⊥) → now (words .exit) ≡ now (words .entry)) ⌝ }
     ensures { λ _. ⌜ (inUseFit (now (words .entry)) ≡ true → inUseFit (now (words .exit)) ≡ true) ⌝ }
 {
-    if room.len() < 12292 {
+    if room.len() < ROOM {
         return refuse_call(WRONG_ROOM);
     }
-    if memory.len() != 65536 {
+    if memory.len() != MEMORY {
         return refuse_call(WRONG_ROOM);
     }
     if !is_sound(words) {

@@ -3,6 +3,8 @@
 use crate::step::goes_on;
 use crate::step::status_after;
 use chain::block::Next;
+use chain::header::COMMAND;
+use chain::header::FIRST;
 use chain::parse::fields_at;
 use message::answer::Answer;
 use message::caller::Caller;
@@ -71,9 +73,9 @@ pub(crate) fn run_chain(
     ensures { λ r. ⌜ Finished (now (room .entry)) (runChain c (now (s .entry)) (blocks (now (s .entry))) (tablesOf (now (words .entry))) (now (memory .entry))) (r .status) (r .length) (tablesOf (now (words .exit))) (now (memory .exit)) (now (room .exit)) ⌝ }
     ensures { λ _. ⌜ (inUseFit (now (words .entry)) ≡ true → inUseFit (now (words .exit)) ≡ true) ⌝ }
 {
-    let mut command = wire::byte_at(s, 4);
-    let mut at: usize = 32;
-    let mut place: usize = 32;
+    let mut command = wire::byte_at(s, COMMAND);
+    let mut at: usize = FIRST;
+    let mut place: usize = FIRST;
     loop {
         let b = fields_at(s, command, at);
         let answer = perform_block(c, words, s, b, memory);

@@ -3,10 +3,10 @@
 use Rattle.requests.proofs.barred.ask_of.Statement.{statement}
 use Rattle.requests.proofs.barred.ask_of.Tie as tie
 use mathlib.Core.Path.{refl}
-use Rattle.message.specs.Command.{askOf}
+use Rattle.message.specs.Command.{askBy}
 
 returns : tie.Need-returns
-unfolding askOf
+unfolding askBy
 returns c =
     refl
 

@@ -9,7 +9,7 @@ use Rattle.chain.specs.declared.block.Block.{Block}
 use Rattle.listing.specs.Text.{linesFrom}
 
 -- the chain that begins with that command at that place has a reading
-pub record Sentence (s : List ℕ) (command place : ℕ) : Type 0 where
+pub record SentenceFrom (s : List ℕ) (command place : ℕ) : Type 0 where
   pub blocks : List Block
   pub read : blocksFrom s command place ≡ some blocks
 
