@@ -92,9 +92,8 @@ fn compared_to(shared: bool, exclusives: usize, count: usize) -> usize
     if shared { exclusives } else { count }
 }
 
-// Whether the lock of that file, which ends with byte `last`, and the record at a place may stand together. Of 128 locks there
-// are 8,128 pairs: where the lock is shared most others are too, and otherwise most lie apart, which the words tell as they
-// stand.
+// Whether the lock of that file, which ends with byte `last`, and the record at a place may stand together. Of 128 exclusive
+// locks there are 8,128 pairs, and most lie apart, which the words tell as they stand.
 fn agrees_at(files: &[u8; 65], words: &[u64], l: Lock, last: u64, file: u8, j: usize) -> bool
     requires { ⌜ (length (now words) ≡ 641) × (j < 128) ⌝ }
     requires { ⌜ (0 < l .length) × (last ≡ l .offset + (l .length - 1)) ⌝ }
@@ -103,11 +102,11 @@ fn agrees_at(files: &[u8; 65], words: &[u64], l: Lock, last: u64, file: u8, j: u
     ensures { λ r. ⌜ r ≡ agree (fileIn (now (files .entry))) l (getD (lockArray (now (words .entry))) j noLock) ⌝ }
 {
     let at = 1 + 5 * j;
-    if both_shared(l.shared, words[at + 4]) {
-        return true;
-    }
     let first = words[at + 2];
     if last < first {
+        return true;
+    }
+    if both_shared(l.shared, words[at + 4]) {
         return true;
     }
     let count = words[at + 3];

@@ -19,6 +19,25 @@ mul-at c = search needs
 add-at : tie.Need-add-at
 add-at c = search needs
 
+add-first : tie.Need-add-first
+add-first c = search needs
+
+mul-first : tie.Need-mul-first
+mul-first c = search needs
+
+shared-slice-read-first : tie.Need-shared-slice-read-first
+shared-slice-read-first c = search needs
+
+returns : tie.Need-returns
+unfolding lockOf
+returns c =
+    let args = c .before .before .before .args in
+    let pre = c .before .before .before .pre in
+    let file = fileIn (args .files .now) in
+    let m = lockOf (row (args .words .now) (1 + 5 * args .j) 5) in
+    let same = lock-row (args .words .now) (args .j) (pre .0 .1) (pre .0 .0) in
+    sym (rw same (agree-apart file (args .l) m (apart-before _ _ _ _ (pre .1 .0 .0) (rw (pre .1 .0 .1) at (c .if1 .taken)))))
+
 add-both-shared : tie.Need-add-both-shared
 add-both-shared c = search needs
 
@@ -31,25 +50,6 @@ shared-slice-read-both-shared c = search needs
 both-shared-requires : tie.Need-both-shared-requires
 both-shared-requires c κs = search needs
 
-returns : tie.Need-returns
-unfolding lockOf
-returns c =
-    let args = c .before .before .before .before .args in
-    let pre = c .before .before .before .before .pre in
-    let file = fileIn (args .files .now) in
-    let m = lockOf (row (args .words .now) (1 + 5 * args .j) 5) in
-    let same = lock-row (args .words .now) (args .j) (pre .0 .1) (pre .0 .0) in
-    sym (rw same (agree-shared file (args .l) m (sym (c .before .both-shared .ensures) ∙ c .if1 .taken)))
-
-add-first : tie.Need-add-first
-add-first c = search needs
-
-mul-first : tie.Need-mul-first
-mul-first c = search needs
-
-shared-slice-read-first : tie.Need-shared-slice-read-first
-shared-slice-read-first c = search needs
-
 returns-2 : tie.Need-returns-2
 unfolding lockOf
 returns-2 c =
@@ -58,7 +58,7 @@ returns-2 c =
     let file = fileIn (args .files .now) in
     let m = lockOf (row (args .words .now) (1 + 5 * args .j) 5) in
     let same = lock-row (args .words .now) (args .j) (pre .0 .1) (pre .0 .0) in
-    sym (rw same (agree-apart file (args .l) m (apart-before _ _ _ _ (pre .1 .0 .0) (rw (pre .1 .0 .1) at (c .if2 .taken)))))
+    sym (rw same (agree-shared file (args .l) m (sym (c .before .both-shared .ensures) ∙ c .if2 .taken)))
 
 add-count : tie.Need-add-count
 add-count c = search needs
@@ -121,7 +121,7 @@ returns-5 c =
     let file = fileIn (args .files .now) in
     let m = lockOf (row (args .words .now) (1 + 5 * args .j) 5) in
     let same = lock-row (args .words .now) (args .j) (pre .0 .1) (pre .0 .0) in
-    let apart : args .l .shared && m .shared ≡ false = sym (c .before .before .before .before .before .before .before .before .before .before .both-shared .ensures) ∙ c .before .before .before .before .before .before .before .before .before .if1 .left in
+    let apart : args .l .shared && m .shared ≡ false = sym (c .before .before .before .before .before .before .before .before .both-shared .ensures) ∙ c .before .before .before .before .before .before .before .if2 .left in
     let met = agree-met file (args .l) m apart (meet _ _ _ _ (pre .1 .0 .0) (omega arith) (omega arith) (omega arith)) in
     rw (pre .1 .1 .1, c .file-in .ensures, c .before .low16 .ensures) (sym (rw same met))
 
@@ -131,14 +131,14 @@ agrees-at-spec =
     (tie.spec
     mul-at
     add-at
+    add-first
+    mul-first
+    shared-slice-read-first
+    returns
     add-both-shared
     mul-both-shared
     shared-slice-read-both-shared
     both-shared-requires
-    returns
-    add-first
-    mul-first
-    shared-slice-read-first
     returns-2
     add-count
     mul-count
