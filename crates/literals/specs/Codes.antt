@@ -4,7 +4,7 @@ use Prim.Native.Nat.{ℕ, _-_}
 use mathlib.Core.List.{List, [], _∷_, map}
 use mathlib.Core.Bool.{false}
 use lib.ListN.{length, replicate}
-use Rattle.lists.specs.Walk.{any, all, allTails}
+use Rattle.lists.specs.Walk.{any, all, allTails, keep}
 use Rattle.records.specs.declared.Lock.{Lock}
 use Rattle.records.specs.declared.Tables.{Tables}
 use Rattle.locks.specs.Range.{overlaps, passesEnd}
@@ -15,7 +15,8 @@ use Rattle.soundness.specs.Sound.{withinRoom, fileOk, treeOk, permits, holdsOpe
 use Rattle.host.specs.HostCall.{refused, done, newSession, addSession, newTree, addTree, newOpen, addOpen, isOf, loadNumber, loadFile, dropConnection}
 use Rattle.chain.specs.Header.{startsSmb, isReply, dropped}
 use Rattle.message.specs.Refusal.{status, statusOf}
-use Rattle.message.specs.Message.{notTaken, take-message}
+use Rattle.message.specs.Command.{servedType}
+use Rattle.message.specs.Message.{served, notTaken, take-message}
 use Rattle.message.specs.declared.refusal.Refusal.the-variants.{NotServed, NotSentence, NoSession, NoTree, NoOpen, NoAccess, LockType, NoSuchLock, PassesEnd, Conflict, NoRecord, NoSpace}
 use Rattle.message.specs.declared.refusal.Status.{Status}
 use Rattle.literals.specs.Counting.{countFrom}
@@ -44,6 +45,17 @@ pub codes : (place : ℕ)
     ∷ []
 unfolding statusOf status class-code
 codes place = refl
+
+-- "Requests served: CLOSE 0x04, PROCESS_EXIT 0x11, LOCKING_ANDX 0x24, READ_ANDX 0x2E, WRITE_ANDX 0x2F, TREE_DISCONNECT 0x71, LOGOFF_ANDX 0x74": of all
+-- 256 header commands just these are not 2/22
+pub commands-served : keep served (countFrom 0 256) ≡ 0x04 ∷ 0x11 ∷ 0x24 ∷ 0x2E ∷ 0x2F ∷ 0x71 ∷ 0x74 ∷ []
+unfolding keep countFrom served
+commands-served = refl
+
+-- "lock type bit other than 0x01 and 0x10": of all 256 lock types just these are not 2/65535
+pub types-served : keep servedType (countFrom 0 256) ≡ 0x00 ∷ 0x01 ∷ 0x10 ∷ 0x11 ∷ []
+unfolding keep countFrom servedType
+types-served = refl
 
 -- ---- "What a call returns"
 
