@@ -30,3 +30,4 @@ pub mod CallEffects
 pub mod Ready
 pub mod Exported
 pub mod OutOfRange
+pub mod WordsNamed
