@@ -38,3 +38,4 @@ pub mod SpansFit
 pub mod Ready
 pub mod Exported
 pub mod OutOfRange
+pub mod WordsNamed

@@ -1,0 +1,143 @@
+-- Which word is which field: the words that the host lends are the struct of include/gateway.h, in its order (docs/HOST.md, "What is
+-- lent"; the numbers of the words are those that examples/fields.c reads off the header). Of words in use that fit. Assumes nothing.
+use mathlib.Core.Path.{_≡_, ap, _∙_}
+use Prim.Native.Nat.{ℕ, _+_, _*_, _<_}
+use native.Mathlib.Omega.{arith}
+use mathlib.Core.Bool.{true, cond}
+use mathlib.Core.List.{List}
+use lib.ListN.{length, getD}
+use lib.Seq.{getD-take, getD-drop}
+use Rattle.lists.specs.Truth.{both-hold}
+use Rattle.records.specs.Empty.{noSession, noTree, noOpen, noLock, noFile}
+use Rattle.records.specs.declared.Session.{Session}
+use Rattle.records.specs.declared.Tree.{Tree}
+use Rattle.records.specs.declared.Open.{Open}
+use Rattle.records.specs.declared.Lock.{Lock}
+use Rattle.records.specs.declared.File.{File}
+use Rattle.tables.specs.Words.{word, part, recordAt, sessionLimits, treeLimits, openLimits, lockLimits, tableFits, inUseFit, tablesOf}
+use Rattle.tables.specs.PartLaws.{length-part}
+use Rattle.tables.specs.ArrayLaws.{file-at}
+use Rattle.tables.specs.FitLaws.{sessions-faithful, trees-faithful, opens-faithful, locks-faithful}
+
+-- ---- the words of a record, by number
+
+pub record SessionNamed (w : List ℕ) (i : ℕ) (s : Session) : Type 0 where
+  pub uid : s .uid ≡ word w (1 + 2 * i)
+  pub connection : s .connection ≡ word w (2 + 2 * i)
+
+pub record TreeNamed (w : List ℕ) (i : ℕ) (r : Tree) : Type 0 where
+  pub tid : r .tid ≡ word w (34 + 3 * i)
+  pub uid : r .uid ≡ word w (35 + 3 * i)
+  pub right : r .right ≡ word w (36 + 3 * i)
+
+pub record OpenNamed (w : List ℕ) (i : ℕ) (o : Open) : Type 0 where
+  pub fid : o .fid ≡ word w (131 + 6 * i)
+  pub uid : o .uid ≡ word w (132 + 6 * i)
+  pub tid : o .tid ≡ word w (133 + 6 * i)
+  pub process : o .process ≡ word w (134 + 6 * i)
+  pub file : o .file ≡ word w (135 + 6 * i)
+  pub access : o .access ≡ word w (136 + 6 * i)
+
+pub record LockNamed (w : List ℕ) (i : ℕ) (l : Lock) : Type 0 where
+  pub fid : l .fid ≡ word w (516 + 5 * i)
+  pub process : l .process ≡ word w (517 + 5 * i)
+  pub offset : l .offset ≡ word w (518 + 5 * i)
+  pub length : l .length ≡ word w (519 + 5 * i)
+  pub shared : cond (l .shared) 1 0 ≡ word w (520 + 5 * i)
+
+-- the tables that the words hold: each count, each record in use and each size
+pub record Named (w : List ℕ) : Type 0 where
+  pub session-count : tablesOf w .nsessions ≡ word w 0
+  pub sessions : (i : ℕ) → i < word w 0 → i < 16 → SessionNamed w i (getD (tablesOf w .sessions) i noSession)
+  pub tree-count : tablesOf w .ntrees ≡ word w 33
+  pub trees : (i : ℕ) → i < word w 33 → i < 32 → TreeNamed w i (getD (tablesOf w .trees) i noTree)
+  pub open-count : tablesOf w .nopens ≡ word w 130
+  pub opens : (i : ℕ) → i < word w 130 → i < 64 → OpenNamed w i (getD (tablesOf w .opens) i noOpen)
+  pub lock-count : tablesOf w .nlocks ≡ word w 515
+  pub locks : (i : ℕ) → i < word w 515 → i < 128 → LockNamed w i (getD (tablesOf w .locks) i noLock)
+  pub sizes : (i : ℕ) → i < 16 → getD (tablesOf w .files) i noFile .size ≡ word w (1156 + i)
+
+-- ---- a word of a part, and of a record of a part
+
+module _ (w : List ℕ) (from n : ℕ) where
+  of-part : (k at : ℕ) → k < n → from + k ≡ at → word (part w from n) k ≡ word w at
+  of-part k at h e = getD-take n _ k 0 h ∙ getD-drop from w k 0 ∙ ap (word w) e
+
+  of-record : (k i j at : ℕ) → j < k → 1 + k * i + j < n → from + (1 + k * i + j) ≡ at → word (recordAt k (part w from n) i) j ≡ word w at
+  of-record k i j at below inside e =
+      getD-take k _ j 0 below ∙ getD-drop (1 + k * i) (part w from n) j 0 ∙ of-part (1 + k * i + j) at inside e
+
+module _ (w : List ℕ) (long : length w ≡ 1172) (e : inUseFit w ≡ true) where
+  -- the four tables fit
+  fits : (tableFits sessionLimits 16 (part w 0 33) ≡ true) × (tableFits treeLimits 32 (part w 33 97) ≡ true)
+      × (tableFits openLimits 64 (part w 130 385) ≡ true) × (tableFits lockLimits 128 (part w 515 641) ≡ true)
+  unfolding inUseFit
+  fits =
+      let a = both-hold (tableFits sessionLimits 16 (part w 0 33)) _ e in
+      let b = both-hold (tableFits treeLimits 32 (part w 33 97)) _ (a .1) in
+      let c = both-hold (tableFits openLimits 64 (part w 130 385)) (tableFits lockLimits 128 (part w 515 641)) (b .1) in
+      (a .0, b .0, c .0, c .1)
+
+  session-words : (i : ℕ) → i < word w 0 → i < 16 → SessionNamed w i (getD (tablesOf w .sessions) i noSession)
+  unfolding tablesOf
+  session-words i h below =
+      let count = of-part w 0 33 0 0 (omega arith) (omega arith) in
+      let same = sessions-faithful (part w 0 33) i (length-part w 0 33 (omega arith)) (fits .0) (omega arith) in
+      record {
+        uid = ap (λ (l : List ℕ). word l 0) same ∙ of-record w 0 33 2 i 0 (1 + 2 * i) (omega arith) (omega arith) (omega arith);
+        connection = ap (λ (l : List ℕ). word l 1) same ∙ of-record w 0 33 2 i 1 (2 + 2 * i) (omega arith) (omega arith) (omega arith);
+      }
+
+  tree-words : (i : ℕ) → i < word w 33 → i < 32 → TreeNamed w i (getD (tablesOf w .trees) i noTree)
+  unfolding tablesOf
+  tree-words i h below =
+      let count = of-part w 33 97 0 33 (omega arith) (omega arith) in
+      let same = trees-faithful (part w 33 97) i (length-part w 33 97 (omega arith)) (fits .1) (omega arith) in
+      record {
+        tid = ap (λ (l : List ℕ). word l 0) same ∙ of-record w 33 97 3 i 0 (34 + 3 * i) (omega arith) (omega arith) (omega arith);
+        uid = ap (λ (l : List ℕ). word l 1) same ∙ of-record w 33 97 3 i 1 (35 + 3 * i) (omega arith) (omega arith) (omega arith);
+        right = ap (λ (l : List ℕ). word l 2) same ∙ of-record w 33 97 3 i 2 (36 + 3 * i) (omega arith) (omega arith) (omega arith);
+      }
+
+  open-words : (i : ℕ) → i < word w 130 → i < 64 → OpenNamed w i (getD (tablesOf w .opens) i noOpen)
+  unfolding tablesOf
+  open-words i h below =
+      let count = of-part w 130 385 0 130 (omega arith) (omega arith) in
+      let same = opens-faithful (part w 130 385) i (length-part w 130 385 (omega arith)) (fits .2) (omega arith) in
+      record {
+        fid = ap (λ (l : List ℕ). word l 0) same ∙ of-record w 130 385 6 i 0 (131 + 6 * i) (omega arith) (omega arith) (omega arith);
+        uid = ap (λ (l : List ℕ). word l 1) same ∙ of-record w 130 385 6 i 1 (132 + 6 * i) (omega arith) (omega arith) (omega arith);
+        tid = ap (λ (l : List ℕ). word l 2) same ∙ of-record w 130 385 6 i 2 (133 + 6 * i) (omega arith) (omega arith) (omega arith);
+        process = ap (λ (l : List ℕ). word l 3) same ∙ of-record w 130 385 6 i 3 (134 + 6 * i) (omega arith) (omega arith) (omega arith);
+        file = ap (λ (l : List ℕ). word l 4) same ∙ of-record w 130 385 6 i 4 (135 + 6 * i) (omega arith) (omega arith) (omega arith);
+        access = ap (λ (l : List ℕ). word l 5) same ∙ of-record w 130 385 6 i 5 (136 + 6 * i) (omega arith) (omega arith) (omega arith);
+      }
+
+  lock-words : (i : ℕ) → i < word w 515 → i < 128 → LockNamed w i (getD (tablesOf w .locks) i noLock)
+  unfolding tablesOf
+  lock-words i h below =
+      let count = of-part w 515 641 0 515 (omega arith) (omega arith) in
+      let same = locks-faithful (part w 515 641) i (length-part w 515 641 (omega arith)) (fits .3) (omega arith) in
+      record {
+        fid = ap (λ (l : List ℕ). word l 0) same ∙ of-record w 515 641 5 i 0 (516 + 5 * i) (omega arith) (omega arith) (omega arith);
+        process = ap (λ (l : List ℕ). word l 1) same ∙ of-record w 515 641 5 i 1 (517 + 5 * i) (omega arith) (omega arith) (omega arith);
+        offset = ap (λ (l : List ℕ). word l 2) same ∙ of-record w 515 641 5 i 2 (518 + 5 * i) (omega arith) (omega arith) (omega arith);
+        length = ap (λ (l : List ℕ). word l 3) same ∙ of-record w 515 641 5 i 3 (519 + 5 * i) (omega arith) (omega arith) (omega arith);
+        shared = ap (λ (l : List ℕ). word l 4) same ∙ of-record w 515 641 5 i 4 (520 + 5 * i) (omega arith) (omega arith) (omega arith);
+      }
+
+  -- each field is the word that the header has for it
+  pub words-named : Named w
+  unfolding tablesOf
+  words-named =
+      record {
+        session-count = of-part w 0 33 0 0 (omega arith) (omega arith);
+        sessions = session-words;
+        tree-count = of-part w 33 97 0 33 (omega arith) (omega arith);
+        trees = tree-words;
+        open-count = of-part w 130 385 0 130 (omega arith) (omega arith);
+        opens = open-words;
+        lock-count = of-part w 515 641 0 515 (omega arith) (omega arith);
+        locks = lock-words;
+        sizes = λ i h. ap (λ (f : File). f .size) (file-at (part w 1156 16) i noFile h) ∙ of-part w 1156 16 i (1156 + i) h (omega arith);
+      }
