@@ -18,6 +18,7 @@ use Rattle.chain.specs.declared.block.Body.{Body}
 use Rattle.chain.specs.declared.block.Body.the-variants.{ProcessExit}
 use Rattle.chain.specs.declared.block.Next.{Next}
 use Rattle.chain.specs.declared.block.Next.the-variants.{End}
+use Rattle.chain.specs.declared.block.Judged.{Judged}
 use Rattle.chain.specs.declared.block.Judged.the-variants as judge
 
 -- the requests whose words begin with AndX
@@ -41,6 +42,10 @@ fits s command at = cond (isAndx command) (rowFits s command at && linkFits s co
 
 unfoldable pub nextAt : List ℕ → ℕ → ℕ → Next
 nextAt s command at = cond (isAndx command) (linkAt s at) End
+
+-- the AndX words, judged
+unfoldable pub linkJudged : List ℕ → ℕ → ℕ → Judged
+linkJudged s command at = cond (linkFits s command at) (judge.Stands (linkAt s at)) judge.Malformed
 
 -- the fields that the reader gives the block with that command at a place, should it fit
 pub record HasBody (s : List ℕ) (command at : ℕ) (body : Body) : Type 0 where
@@ -149,8 +154,8 @@ module _ (s : List ℕ) (command at : ℕ) where
     unfolding fits nextAt
     judged-plain plain = rw (judged-row, plain, row)
 
-    pub judged-link : isAndx command ≡ true → judged (parse s command at) ≡ cond (linkFits s command at) (judge.Stands (linkAt s at)) judge.Malformed
-    unfolding fits nextAt
+    pub judged-link : isAndx command ≡ true → judged (parse s command at) ≡ linkJudged s command at
+    unfolding fits nextAt linkJudged
     judged-link andx = rw (judged-row, andx, row)
 
 -- ---- a block taken apart

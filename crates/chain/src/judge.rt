@@ -5,11 +5,13 @@ use crate::block::Next;
 use crate::command::CLOSE;
 use crate::command::LOCKING;
 use crate::command::LOGOFF;
+use crate::command::NO_COMMAND;
 use crate::command::PROCESS_EXIT;
 use crate::command::READ;
 use crate::command::TREE_DISCONNECT;
 use crate::command::WRITE;
 use crate::command::is_andx;
+use crate::command::may_follow;
 use crate::place::LOCK_TYPE;
 use crate::place::LOCKING_BYTE_COUNT;
 use crate::place::LOCKS;
@@ -19,14 +21,12 @@ use crate::place::WRITE_LENGTH;
 use crate::shape::block_end;
 use crate::shape::has_shape;
 use crate::shape::is_bare;
-use crate::shape::link_at;
-use crate::shape::link_fits;
 use locks::wire_form::range_size;
 ghost use mathlib.Core.Path.{_≡_};
 ghost use Prim.Native.Nat.{_<_};
 ghost use lib.ListN.{length};
 ghost use Rattle.chain.specs.Parse.{lockingFits, readFits, writeFits, dataInside, parse};
-ghost use Rattle.chain.specs.Rows.{rowFits};
+ghost use Rattle.chain.specs.Rows.{rowFits, linkJudged};
 ghost use Rattle.chain.specs.Judged.{judged};
 
 // Whether the LOCKING block at a place has just the bytes of the ranges it announces.
@@ -95,6 +95,25 @@ fn row_fits(s: &[u8], command: u8, at: usize) -> bool
     }
 }
 
+// The AndX words: they end the chain, or name a follower at or behind the block's end.
+fn judge_link(s: &[u8], command: u8, at: usize) -> Judged
+    requires { ⌜ at < length (now s) ⌝ }
+    ensures { λ r. ⌜ r ≡ linkJudged (now (s .entry)) command at ⌝ }
+{
+    let next = wire::byte_at(s, at + 1);
+    if next == NO_COMMAND {
+        return Judged::Stands(Next::End);
+    }
+    if !may_follow(command, next) {
+        return Judged::Malformed;
+    }
+    let place = wire::le16_at(s, at + 3) as usize;
+    if place < block_end(s, at) {
+        return Judged::Malformed;
+    }
+    Judged::Stands(Next::Follow(next, place))
+}
+
 // Whether a block with that command stands at a place of the message, and what follows it.
 pub fn judge_block(s: &[u8], command: u8, at: usize) -> Judged
     ensures { λ r. ⌜ r ≡ judged (parse (now (s .entry)) command at) ⌝ }
@@ -105,8 +124,5 @@ pub fn judge_block(s: &[u8], command: u8, at: usize) -> Judged
     if !is_andx(command) {
         return Judged::Stands(Next::End);
     }
-    if !link_fits(s, command, at) {
-        return Judged::Malformed;
-    }
-    Judged::Stands(link_at(s, at))
+    judge_link(s, command, at)
 }

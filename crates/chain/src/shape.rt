@@ -2,12 +2,11 @@
 
 use crate::block::Next;
 use crate::command::NO_COMMAND;
-use crate::command::may_follow;
 ghost use mathlib.Core.Path.{_≡_};
 ghost use Prim.Native.Nat.{_<_};
 ghost use lib.ListN.{length};
 ghost use Rattle.chain.specs.Layout.{blockEnd};
-ghost use Rattle.chain.specs.Parse.{shaped, bare, linkFits, linkAt};
+ghost use Rattle.chain.specs.Parse.{shaped, bare, linkAt};
 
 // Where the block at a place ends.
 pub(crate) fn block_end(s: &[u8], at: usize) -> usize
@@ -41,22 +40,6 @@ pub(crate) fn is_bare(s: &[u8], at: usize, words: u8) -> bool
     }
     let count = at + 1 + 2 * (words as usize);
     wire::le16_at(s, count) == 0
-}
-
-// Whether the AndX words end the chain or name a follower at or behind the block's end.
-pub(crate) fn link_fits(s: &[u8], command: u8, at: usize) -> bool
-    requires { ⌜ at < length (now s) ⌝ }
-    ensures { λ r. ⌜ r ≡ linkFits (now (s .entry)) command at ⌝ }
-{
-    let next = wire::byte_at(s, at + 1);
-    if next == NO_COMMAND {
-        return true;
-    }
-    if !may_follow(command, next) {
-        return false;
-    }
-    let place = wire::le16_at(s, at + 3) as usize;
-    block_end(s, at) <= place
 }
 
 // What the AndX words name.

@@ -1,12 +1,9 @@
 -- `chain::judge::judge_block` meets its contract: the tests are those of the definition, in its order; a block that fits its row stands inside the message.
 -- Assumes nothing.
 use mathlib.Core.Path.{_≡_, sym, _∙_}
-use mathlib.Core.Bool.{true, cond}
+use mathlib.Core.Bool.{true}
 use native.Mathlib.Omega.{arith}
 use borrow.Author.Tests.{not-true, not-false}
-use Rattle.chain.specs.Parse.{linkFits, linkAt, parse}
-use Rattle.chain.specs.Judged.{judged}
-use Rattle.chain.specs.declared.block.Judged.the-variants as judge
 use Rattle.chain.specs.Rows.{rowFits, row-inside, judged-misfit, judged-plain, judged-link}
 use borrow.Author.Needs.{needs}
 use Rattle.chain.proofs.judge.judge_block.Statement.{statement}
@@ -15,14 +12,6 @@ use Rattle.chain.proofs.judge.judge_block.Tie as tie
 -- the block fits its row
 fitting : (c : tie.Else1) → rowFits (c .before .before .before .args .s .now) (c .before .before .before .args .command) (c .before .before .before .args .at) ≡ true
 fitting c = sym (c .before .row-fits .ensures) ∙ not-false (c .before .row-fits .result) (c .if1 .left)
-
--- and has AndX words
-linked : (c : tie.Else2)
-    → judged (parse (c .before .before .before .before .before .args .s .now) (c .before .before .before .before .before .args .command) (c .before .before .before .before .before .args .at))
-    ≡ cond (linkFits (c .before .before .before .before .before .args .s .now) (c .before .before .before .before .before .args .command) (c .before .before .before .before .before .args .at)) (judge.Stands (linkAt (c .before .before .before .before .before .args .s .now) (c .before .before .before .before .before .args .at))) judge.Malformed
-linked c =
-    let args = c .before .before .before .before .before .args in
-    judged-link (args .s .now) (args .command) (args .at) (fitting (c .before .before)) (sym (c .before .is-andx .ensures) ∙ not-false (c .before .is-andx .result) (c .if2 .left))
 
 row-fits-requires : tie.Need-row-fits-requires
 row-fits-requires c κs = search needs
@@ -40,21 +29,15 @@ returns-2 c =
     let args = c .before .before .before .before .before .args in
     sym (judged-plain (args .s .now) (args .command) (args .at) (fitting (c .before .before)) (sym (c .before .is-andx .ensures) ∙ not-true (c .before .is-andx .result) (c .if2 .taken)))
 
-link-fits-requires : tie.Need-link-fits-requires
-link-fits-requires c κs =
+judge-link-requires : tie.Need-judge-link-requires
+judge-link-requires c κs =
     let args = c .before .before .before .before .before .args in
     omega (arith, row-inside (args .s .now) (args .command) (args .at) (fitting (c .before .before)))
 
 returns-3 : tie.Need-returns-3
-returns-3 c = rw (linked (c .before .before), ← (c .before .link-fits .ensures), not-true (c .before .link-fits .result) (c .if3 .taken))
-
-link-at-requires : tie.Need-link-at-requires
-link-at-requires c κs =
-    let args = c .before .before .before .before .before .before .before .args in
-    omega (arith, row-inside (args .s .now) (args .command) (args .at) (fitting (c .before .before .before .before)))
-
-returns-4 : tie.Need-returns-4
-returns-4 c = rw (linked (c .before .before .before), ← (c .before .before .link-fits .ensures), not-false (c .before .before .link-fits .result) (c .before .if3 .left), c .link-at .ensures)
+returns-3 c =
+    let args = c .before .before .before .before .before .before .args in
+    c .judge-link .ensures ∙ sym (judged-link (args .s .now) (args .command) (args .at) (fitting (c .before .before .before)) (sym (c .before .before .is-andx .ensures) ∙ not-false (c .before .before .is-andx .result) (c .before .if2 .left)))
 
 pub judge-block-spec : {M : Type 1} → statement M
 judge-block-spec =
@@ -64,7 +47,5 @@ judge-block-spec =
     returns
     is-andx-requires
     returns-2
-    link-fits-requires
-    returns-3
-    link-at-requires
-    returns-4)
+    judge-link-requires
+    returns-3)
