@@ -5,7 +5,7 @@ use crate::types::Ask;
 use crate::types::Purpose;
 use records::Lock;
 ghost use mathlib.Core.Path.{_≡_};
-ghost use Rattle.locks.specs.Answer.{fileIn, owns, bars, inWay, named, answers};
+ghost use Rattle.locks.specs.Answer.{fileIn, owns, bars, inWay, named};
 
 // The file of a FID, 255 where the table has none.
 pub fn file_in(files: &[u8; 65], fid: u16) -> u8
@@ -79,17 +79,4 @@ pub(crate) fn is_named(q: Ask, l: Lock) -> bool
         return false;
     }
     owned(q, l)
-}
-
-// Whether the lock answers what is asked.
-pub fn answering(files: &[u8; 65], q: Ask, l: Lock) -> bool
-    ensures { λ r. ⌜ r ≡ answers (fileIn (now (files .entry))) q l ⌝ }
-{
-    let purpose = q.purpose;
-    match purpose {
-        Purpose::Grant(_) => in_way(files, q, l),
-        Purpose::Read => in_way(files, q, l),
-        Purpose::Write => in_way(files, q, l),
-        Purpose::Release => is_named(q, l),
-    }
 }

@@ -2,9 +2,9 @@
 // asker's own locks included, however long it gets". The request's own earlier ranges are read again
 // from the message, so that the words change only once all are granted.
 
+use crate::grant::ask_of;
 use crate::grant::lock_of;
 use crate::range::overlap;
-use crate::release::ask_of;
 use crate::types::Ask;
 use crate::types::Purpose;
 use crate::types::Request;

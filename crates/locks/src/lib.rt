@@ -8,7 +8,6 @@ pub mod grant;
 pub mod grants;
 pub mod locking;
 pub mod range;
-pub mod release;
 pub mod types;
 pub mod unlock;
 pub mod walk;

@@ -1,7 +1,7 @@
 // Unlocks in the words of the list: "Unlocks go first, in order: each removes the earliest listed
 // lock with equal FID, process, offset and length."
 
-use crate::release::ask_of;
+use crate::grant::ask_of;
 use crate::types::Purpose;
 use crate::types::Request;
 use crate::walk::first_answer;

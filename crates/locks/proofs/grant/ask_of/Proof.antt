@@ -1,9 +1,9 @@
--- `locks::release::ask_of` meets its contract by its definition.
+-- `locks::grant::ask_of` meets its contract by its definition.
 -- Assumes nothing.
 use mathlib.Core.Path.{refl}
 use Rattle.locks.specs.Request.{askOf}
-use Rattle.locks.proofs.release.ask_of.Statement.{statement}
-use Rattle.locks.proofs.release.ask_of.Tie as tie
+use Rattle.locks.proofs.grant.ask_of.Statement.{statement}
+use Rattle.locks.proofs.grant.ask_of.Tie as tie
 
 returns : tie.Need-returns
 unfolding askOf
