@@ -50,7 +50,7 @@ pub struct Block {
 }
 
 // The answer for one block: "A block's reading either yields the block or ends the chain's reading at
-// once with 2/1."
+// once with 2/1." The definitions give it; the code judges a block first, and takes it apart after.
 pub enum Parsed {
     Whole(Block),
     Malformed,

@@ -1,12 +1,11 @@
-// The chain of a message: its blocks one by one (`judge::judge_block` says whether one stands at a place,
-// `parse::fields_at` takes it apart, `message_reader::block_at` does both) and as a whole
-// (`reader::is_sentence`), by document 01, "The grammar of a chain". `header::is_dropped` is row 1 of "What
-// a call returns".
+// The chain of a message: its blocks one by one (`message_reader::judge_at` says whether one stands at a
+// place, `parse::fields_at` takes it apart) and as a whole (`reader::is_sentence`), by document 01, "The
+// grammar of a chain". `header::is_dropped` is row 1 of "What a call returns".
 
 pub mod block;
 pub mod command;
 pub mod header;
-pub mod judge;
+mod judge;
 pub mod message_reader;
 pub mod parse;
 mod place;

@@ -1,11 +1,12 @@
-// The reader of a message: "a record that holds the message slice and a place" (document 01, "Layers"), thin over `parse`.
-// The borrow checker covers no function over such a record, so `reader_at`, `read_block` and `block_at` are proved by hand. Who calls `block_at`, whose
-// parameters are plain, needs no walk.
+// The reader of a message: "a record that holds the message slice and a place" (document 01, "Layers"), thin
+// over `judge`. The borrow checker covers no function over such a record, so `reader_at`, `read_block` and
+// `judge_at` are proved by hand. Who calls `judge_at`, whose parameters are plain, needs no walk.
 
-use crate::block::Parsed;
-use crate::parse::parse_block;
+use crate::block::Judged;
+use crate::judge::judge_block;
 ghost use mathlib.Core.Path.{_≡_};
 ghost use Rattle.chain.specs.Parse.{parse};
+ghost use Rattle.chain.specs.Judged.{judged};
 
 pub struct MessageReader<'a> {
     pub message: &'a [u8],
@@ -19,16 +20,16 @@ pub fn reader_at<'a>(message: &'a [u8], at: usize) -> MessageReader<'a>
     MessageReader { message, at }
 }
 
-// The block with that command at the reader's place.
-pub fn read_block<'a>(r: MessageReader<'a>, command: u8) -> Parsed
-    ensures { λ p. ⌜ p ≡ parse (now (r .entry .message)) command (r .entry .at) ⌝ }
+// Whether a block with that command stands at the reader's place, and what follows it.
+pub fn read_block<'a>(r: MessageReader<'a>, command: u8) -> Judged
+    ensures { λ p. ⌜ p ≡ judged (parse (now (r .entry .message)) command (r .entry .at)) ⌝ }
 {
-    parse_block(r.message, command, r.at)
+    judge_block(r.message, command, r.at)
 }
 
-// The block with that command at a place of the message.
-pub fn block_at(s: &[u8], command: u8, at: usize) -> Parsed
-    ensures { λ p. ⌜ p ≡ parse (now (s .entry)) command at ⌝ }
+// The same at a place of the message.
+pub fn judge_at(s: &[u8], command: u8, at: usize) -> Judged
+    ensures { λ p. ⌜ p ≡ judged (parse (now (s .entry)) command at) ⌝ }
 {
     read_block(reader_at(s, at), command)
 }

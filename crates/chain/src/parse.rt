@@ -1,11 +1,9 @@
-// One block, taken apart by its command.
+// One block that was judged to stand at its place, taken apart by its command.
 
 use crate::block::Block;
 use crate::block::Body;
-use crate::block::Judged;
 use crate::block::LockingFields;
 use crate::block::Next;
-use crate::block::Parsed;
 use crate::block::ReadFields;
 use crate::block::WriteFields;
 use crate::command::CLOSE;
@@ -15,7 +13,6 @@ use crate::command::READ;
 use crate::command::TREE_DISCONNECT;
 use crate::command::WRITE;
 use crate::command::is_andx;
-use crate::judge::judge_block;
 use crate::place::CLOSE_FID;
 use crate::place::FID;
 use crate::place::LOCK_TYPE;
@@ -146,14 +143,4 @@ pub fn fields_at(s: &[u8], command: u8, at: usize) -> Block
         body,
         next,
     }
-}
-
-// The block with that command at a place of the message: judged, then taken apart.
-pub fn parse_block(s: &[u8], command: u8, at: usize) -> Parsed
-    ensures { λ r. ⌜ r ≡ parse (now (s .entry)) command at ⌝ }
-{
-    let Judged::Stands(_) = judge_block(s, command, at) else {
-        return Parsed::Malformed;
-    };
-    Parsed::Whole(fields_at(s, command, at))
 }

@@ -5,7 +5,7 @@ use Prim.Native.Nat.{ℕ, suc, _+_, _-_, _≤_, _<_}
 use native.Mathlib.Numerals.{add-one}
 use native.Mathlib.Omega.{arith}
 use mathlib.Core.Bool.{true, false, false≢true}
-use mathlib.Core.List.{List, [], _++_}
+use mathlib.Core.List.{List, _++_}
 use mathlib.Core.Option.{Option, none, some}
 use lib.ListN.{length}
 use Rattle.wire.specs.LittleEndian.{byteAt}
@@ -15,23 +15,30 @@ use Rattle.chain.specs.Parse.{parse}
 use Rattle.chain.specs.ParseLaws.{placed}
 use Rattle.chain.specs.Chain.{before, blocks, blocksFrom}
 use Rattle.chain.specs.ChainLaws.{chain-refused, chain-end, chain-more}
-use Rattle.chain.specs.Judged.{readable, readable-blocks}
+use Rattle.chain.specs.Judged.{isWhole, readable, readable-blocks}
 use Rattle.chain.specs.declared.block.Block.{Block}
 use Rattle.chain.specs.declared.block.Next.the-variants.{End, Follow}
+use Rattle.chain.specs.declared.block.Parsed.{Parsed}
 use Rattle.chain.specs.declared.block.Parsed.the-variants.{Whole, Malformed}
 use Rattle.listing.specs.Text.{line, endLine, linesFrom, notChain, droppedLine, listed, listing}
 use Rattle.listing.specs.Lines.{SentenceFrom, linesOf}
 
-module _ (s : List ℕ) (command place k : ℕ) where
-  -- where a block is refused nothing is printed
-  pub lines-refused : parse s command place ≡ Malformed → linesOf k (blocksFrom s command place) ≡ []
-  unfolding linesOf
-  lines-refused e = rw (chain-refused s command place e)
+-- a chain that has a reading has a block where it begins: one that is refused leaves none
+stands : {s : List ℕ} {command place : ℕ} → SentenceFrom s command place → (p : Parsed) → parse s command place ≡ p → isWhole p ≡ true
+unfolding isWhole
+stands h (Whole b) e = refl
+stands {s} {command} {place} h Malformed e =
+    let refused = sym (chain-refused s command place e) ∙ h .read in
+    let never : _≡_ {A = ℕ} 0 1 = cc in
+    absurd (omega arith)
 
-  -- a block that nothing follows
-  pub lines-end : (b : Block) → parse s command place ≡ Whole b → b .next ≡ End → linesOf k (blocksFrom s command place) ≡ line k b ++ endLine
-  unfolding linesOf linesFrom
-  lines-end b e f = rw (chain-end s command place b e f)
+pub sentence-stands : {s : List ℕ} {command place : ℕ} → SentenceFrom s command place → isWhole (parse s command place) ≡ true
+sentence-stands {s} {command} {place} h = stands h (parse s command place) refl
+
+-- the lines of a block that nothing follows
+pub lines-end : (s : List ℕ) (command place k : ℕ) (b : Block) → parse s command place ≡ Whole b → b .next ≡ End → linesOf k (blocksFrom s command place) ≡ line k b ++ endLine
+unfolding linesOf linesFrom
+lines-end s command place k b e f = rw (chain-end s command place b e f)
 
 -- what a chain that has a reading begins with leaves a reading
 sentence-after : (b : Block) (o : Option (List Block)) (bs : List Block) → before b o ≡ some bs → (r : List Block) × (o ≡ some r)

@@ -2,11 +2,10 @@
 
 use chain::block::Block;
 use chain::block::Next;
-use chain::block::Parsed;
 use chain::header::COMMAND;
 use chain::header::FIRST;
 use chain::header::is_dropped;
-use chain::message_reader::block_at;
+use chain::parse::fields_at;
 use chain::reader::is_sentence;
 use text::put_byte;
 use text::put_decimal;
@@ -36,15 +35,14 @@ fn put_line(out: &mut [u8], at: usize, k: usize, b: Block) -> usize
 }
 
 // The lines of a chain's blocks from the k-th on, which begins with that command at that place, then
-// `end`. A block takes three bytes at least, so k stays below the place.
+// `end`. The chain was judged, so each block is only taken apart. A block takes three bytes at least, so k
+// stays below the place.
 fn put_blocks(s: &[u8], out: &mut [u8], at: usize, k: usize, command: u8, place: usize) -> usize
     requires { ⌜ k ≤ place ⌝ }
     requires { ⌜ SentenceFrom (now s) command place ⌝ }
     ensures { λ r. ⌜ Written (now (out .entry)) at (linesOf k (blocksFrom (now (s .entry)) command place)) (now (out .exit)) r ⌝ }
 {
-    let Parsed::Whole(b) = block_at(s, command, place) else {
-        return at;
-    };
+    let b = fields_at(s, command, place);
     let to = put_line(out, at, k, b);
     let next = b.next;
     let Next::Follow(then, then_place) = next else {

@@ -1,10 +1,11 @@
--- The proof of the cycle of calls {put_blocks}. A follower stands behind the block, so what is left of the message falls.
+-- The proof of the cycle of calls {put_blocks}. A chain that has a reading has a block where it begins. A follower stands behind the block, so what
+-- is left of the message falls.
 -- The block's line stands before those of the rest, and `end` stands last.
 -- Assumes nothing.
-use Rattle.text.specs.Overlaid.{written-nothing, written-then, written-length}
-use Rattle.listing.proofs.Lines.{lines-refused, lines-end, lines-more, sentence-more, left-falls, count-more, count-inside, Followed}
+use Rattle.text.specs.Overlaid.{written-then, written-length}
+use Rattle.listing.proofs.Lines.{sentence-stands, lines-end, lines-more, sentence-more, left-falls, count-more, count-inside, Followed}
 use Rattle.listing.specs.Text.{endLine}
-use mathlib.Core.Path.{sym, _∙_}
+use mathlib.Core.Path.{sym}
 use lib.ListN.{length}
 use Prim.Native.Nat.{ℕ, _+_, _-_, _<_, _≤_}
 use borrow.Fn.Kinds.{In}
@@ -12,7 +13,7 @@ use borrow.Fn.PlainCycle.{Measures, is, falls, and}
 use Rattle.listing.proofs.put_blocks.Reads as put-blocks
 use Rattle.listing.proofs.put_blocks.Kinds as put-blocks-kinds
 use Rattle.listing.proofs.+put_blocks.Lts-put_blocks as put-blocks-lts
-use Rattle.chain.proofs.message_reader.block_at.Reads as block-at-reads
+use Rattle.chain.proofs.parse.fields_at.Reads as fields-at-reads
 use Rattle.listing.proofs.put_line.Reads as put-line-reads
 use Rattle.text.proofs.put_text.Reads as put-text-reads
 use Rattle.listing.proofs.+put_blocks.{statement}
@@ -31,9 +32,9 @@ abbrev put-blocks-below : ℕ → In 2 put-blocks-kinds.ps
 put-blocks-below t =
     and 2 put-blocks-kinds.ps (falls 2 put-blocks-kinds.ps _<_ μ-put-blocks t) put-blocks.Pre
 
-put-blocks-block-at-requires : (t : ℕ) → put-blocks-lts.Need-block-at-requires (
-  block-at-reads.Asked,
-  block-at-reads.Learnt,
+put-blocks-fields-at-requires : (t : ℕ) → put-blocks-lts.Need-fields-at-requires (
+  fields-at-reads.Asked,
+  fields-at-reads.Learnt,
   put-line-reads.Asked,
   put-line-reads.Learnt,
   put-text-reads.Asked,
@@ -41,47 +42,11 @@ put-blocks-block-at-requires : (t : ℕ) → put-blocks-lts.Need-block-at-requir
   put-blocks-below t,
   put-blocks.Post,
 ) (put-blocks-at t) put-blocks.Post
-put-blocks-block-at-requires t c κs = search needs
-
-put-blocks-enum-known-b : (t : ℕ) → put-blocks-lts.Need-enum-known-b (
-  block-at-reads.Asked,
-  block-at-reads.Learnt,
-  put-line-reads.Asked,
-  put-line-reads.Learnt,
-  put-text-reads.Asked,
-  put-text-reads.Learnt,
-  put-blocks-below t,
-  put-blocks.Post,
-) (put-blocks-at t) put-blocks.Post
-put-blocks-enum-known-b t c = search needs
-
-put-blocks-enum-told : (t : ℕ) → put-blocks-lts.Need-enum-told (
-  block-at-reads.Asked,
-  block-at-reads.Learnt,
-  put-line-reads.Asked,
-  put-line-reads.Learnt,
-  put-text-reads.Asked,
-  put-text-reads.Learnt,
-  put-blocks-below t,
-  put-blocks.Post,
-) (put-blocks-at t) put-blocks.Post
-put-blocks-enum-told t c = search needs
-
-put-blocks-returns : (t : ℕ) → put-blocks-lts.Need-returns (
-  block-at-reads.Asked,
-  block-at-reads.Learnt,
-  put-line-reads.Asked,
-  put-line-reads.Learnt,
-  put-text-reads.Asked,
-  put-text-reads.Learnt,
-  put-blocks-below t,
-  put-blocks.Post,
-) (put-blocks-at t) put-blocks.Post
-put-blocks-returns t c = rw (lines-refused (c .before .before .before .before .before .args .s .now) (c .before .before .before .before .before .args .command) (c .before .before .before .before .before .args .place) (c .before .before .before .before .before .args .k) (sym (c .before .before .block-at .ensures) ∙ c .enum-told .given .1)) (written-nothing (c .before .before .before .before .before .args .out .now) (c .before .before .before .before .before .args .at))
+put-blocks-fields-at-requires t c κs = sentence-stands (c .before .before .pre .1 .1)
 
 put-blocks-put-line-requires : (t : ℕ) → put-blocks-lts.Need-put-line-requires (
-  block-at-reads.Asked,
-  block-at-reads.Learnt,
+  fields-at-reads.Asked,
+  fields-at-reads.Learnt,
   put-line-reads.Asked,
   put-line-reads.Learnt,
   put-text-reads.Asked,
@@ -92,8 +57,8 @@ put-blocks-put-line-requires : (t : ℕ) → put-blocks-lts.Need-put-line-requir
 put-blocks-put-line-requires t c κs = search needs
 
 put-blocks-enum-known-next : (t : ℕ) → put-blocks-lts.Need-enum-known-next (
-  block-at-reads.Asked,
-  block-at-reads.Learnt,
+  fields-at-reads.Asked,
+  fields-at-reads.Learnt,
   put-line-reads.Asked,
   put-line-reads.Learnt,
   put-text-reads.Asked,
@@ -103,9 +68,9 @@ put-blocks-enum-known-next : (t : ℕ) → put-blocks-lts.Need-enum-known-next (
 ) (put-blocks-at t) put-blocks.Post
 put-blocks-enum-known-next t c = search needs
 
-put-blocks-enum-told-2 : (t : ℕ) → put-blocks-lts.Need-enum-told-2 (
-  block-at-reads.Asked,
-  block-at-reads.Learnt,
+put-blocks-enum-told : (t : ℕ) → put-blocks-lts.Need-enum-told (
+  fields-at-reads.Asked,
+  fields-at-reads.Learnt,
   put-line-reads.Asked,
   put-line-reads.Learnt,
   put-text-reads.Asked,
@@ -113,11 +78,11 @@ put-blocks-enum-told-2 : (t : ℕ) → put-blocks-lts.Need-enum-told-2 (
   put-blocks-below t,
   put-blocks.Post,
 ) (put-blocks-at t) put-blocks.Post
-put-blocks-enum-told-2 t c = search needs
+put-blocks-enum-told t c = search needs
 
 put-blocks-slice-aggregate-put-text : (t : ℕ) → put-blocks-lts.Need-slice-aggregate-put-text (
-  block-at-reads.Asked,
-  block-at-reads.Learnt,
+  fields-at-reads.Asked,
+  fields-at-reads.Learnt,
   put-line-reads.Asked,
   put-line-reads.Learnt,
   put-text-reads.Asked,
@@ -128,8 +93,8 @@ put-blocks-slice-aggregate-put-text : (t : ℕ) → put-blocks-lts.Need-slice-ag
 put-blocks-slice-aggregate-put-text t c = omega arith
 
 put-blocks-put-text-requires : (t : ℕ) → put-blocks-lts.Need-put-text-requires (
-  block-at-reads.Asked,
-  block-at-reads.Learnt,
+  fields-at-reads.Asked,
+  fields-at-reads.Learnt,
   put-line-reads.Asked,
   put-line-reads.Learnt,
   put-text-reads.Asked,
@@ -140,8 +105,8 @@ put-blocks-put-text-requires : (t : ℕ) → put-blocks-lts.Need-put-text-requir
 put-blocks-put-text-requires t c κs = search needs
 
 put-blocks-same-length : (t : ℕ) → put-blocks-lts.Need-same-length (
-  block-at-reads.Asked,
-  block-at-reads.Learnt,
+  fields-at-reads.Asked,
+  fields-at-reads.Learnt,
   put-line-reads.Asked,
   put-line-reads.Learnt,
   put-text-reads.Asked,
@@ -151,9 +116,9 @@ put-blocks-same-length : (t : ℕ) → put-blocks-lts.Need-same-length (
 ) (put-blocks-at t) put-blocks.Post
 put-blocks-same-length t c = written-length (written-then (c .before .before .before .before .before .before .before .before .before .put-line .ensures) (c .before .before .put-text .ensures))
 
-put-blocks-returns-2 : (t : ℕ) → put-blocks-lts.Need-returns-2 (
-  block-at-reads.Asked,
-  block-at-reads.Learnt,
+put-blocks-returns : (t : ℕ) → put-blocks-lts.Need-returns (
+  fields-at-reads.Asked,
+  fields-at-reads.Learnt,
   put-line-reads.Asked,
   put-line-reads.Learnt,
   put-text-reads.Asked,
@@ -162,12 +127,15 @@ put-blocks-returns-2 : (t : ℕ) → put-blocks-lts.Need-returns-2 (
   put-blocks.Post,
 ) (put-blocks-at t) put-blocks.Post
 unfolding endLine
-put-blocks-returns-2 t c = rw (lines-end (c .before .before .before .before .before .before .before .before .before .before .before .before .before .before .before .before .before .args .s .now) (c .before .before .before .before .before .before .before .before .before .before .before .before .before .before .before .before .before .args .command) (c .before .before .before .before .before .before .before .before .before .before .before .before .before .before .before .before .before .args .place) (c .before .before .before .before .before .before .before .before .before .before .before .before .before .before .before .before .before .args .k) (c .before .before .before .before .before .before .before .before .before .before .before .before .b .given .0 .0) (sym (c .before .before .before .before .before .before .before .before .before .before .before .before .before .before .block-at .ensures) ∙ c .before .before .before .before .before .before .before .before .before .before .before .before .b .given .1) (c .before .before .before .before .before .enum-told2 .given .1)) (written-then (c .before .before .before .before .before .before .before .before .before .put-line .ensures) (c .before .before .put-text .ensures))
+put-blocks-returns t c =
+    let args = c .before .before .before .before .before .before .before .before .before .before .before .before .before .before .args in
+    let block = c .before .before .before .before .before .before .before .before .before .before .before .fields-at in
+    rw (lines-end (args .s .now) (args .command) (args .place) (args .k) (block .result) (sym (block .ensures)) (c .before .before .before .before .before .enum-told .given .1)) (written-then (c .before .before .before .before .before .before .before .before .before .put-line .ensures) (c .before .before .put-text .ensures))
 
 abbrev At-follower : ℕ → Type 0
 At-follower t = put-blocks-lts.After-put-blocks-arg (
-  block-at-reads.Asked,
-  block-at-reads.Learnt,
+  fields-at-reads.Asked,
+  fields-at-reads.Learnt,
   put-line-reads.Asked,
   put-line-reads.Learnt,
   put-text-reads.Asked,
@@ -176,14 +144,14 @@ At-follower t = put-blocks-lts.After-put-blocks-arg (
   put-blocks.Post,
 ) (put-blocks-at t) put-blocks.Post
 
--- the block that was read and its follower
+-- the block that was taken apart and its follower
 followed : (t : ℕ) (c : At-follower t)
-    → Followed (c .before .before .before .before .before .before .before .before .before .before .before .before .before .before .args .s .now) (c .before .before .before .before .before .before .before .before .before .before .before .before .before .before .args .command) (c .before .before .before .before .before .before .before .before .before .before .before .before .before .before .args .place) (c .before .before .before .before .before .before .before .before .before .b .given .0 .0) (c .before .before .next .given .0 .0) (c .before .before .next .given .0 .1 .0)
-followed t c = record { chained = c .before .before .before .before .before .before .before .before .before .before .before .before .before .before .pre .1 .1; whole = sym (c .before .before .before .before .before .before .before .before .before .before .before .block-at .ensures) ∙ c .before .before .before .before .before .before .before .before .before .b .given .1; follows = c .before .before .next .given .1 }
+    → Followed (c .before .before .before .before .before .before .before .before .before .before .before .args .s .now) (c .before .before .before .before .before .before .before .before .before .before .before .args .command) (c .before .before .before .before .before .before .before .before .before .before .before .args .place) (c .before .before .before .before .before .before .before .before .fields-at .result) (c .before .before .next .given .0 .0) (c .before .before .next .given .0 .1 .0)
+followed t c = record { chained = c .before .before .before .before .before .before .before .before .before .before .before .pre .1 .1; whole = sym (c .before .before .before .before .before .before .before .before .fields-at .ensures); follows = c .before .before .next .given .1 }
 
 put-blocks-add-put-blocks : (t : ℕ) → put-blocks-lts.Need-add-put-blocks (
-  block-at-reads.Asked,
-  block-at-reads.Learnt,
+  fields-at-reads.Asked,
+  fields-at-reads.Learnt,
   put-line-reads.Asked,
   put-line-reads.Learnt,
   put-text-reads.Asked,
@@ -192,13 +160,14 @@ put-blocks-add-put-blocks : (t : ℕ) → put-blocks-lts.Need-add-put-blocks (
   put-blocks.Post,
 ) (put-blocks-at t) put-blocks.Post
 put-blocks-add-put-blocks t c =
-    let few : c .before .before .before .before .before .before .before .before .before .before .before .before .before .before .args .k + 1 ≤ length (c .before .before .before .before .before .before .before .before .before .before .before .before .before .before .args .s .now) = count-inside (followed t c) (c .before .before .before .before .before .before .before .before .before .before .before .before .before .before .args .k) (c .before .before .before .before .before .before .before .before .before .before .before .before .before .before .pre .1 .0) in
-    let long = c .before .before .before .before .before .before .before .before .before .before .before .before .before .before .good .0 .0 in
+    let start = c .before .before .before .before .before .before .before .before .before .before .before in
+    let few : start .args .k + 1 ≤ length (start .args .s .now) = count-inside (followed t c) (start .args .k) (start .pre .1 .0) in
+    let long = start .good .0 .0 in
     record { fits = omega arith }
 
 put-blocks-put-blocks-requires : (t : ℕ) → put-blocks-lts.Need-put-blocks-requires (
-  block-at-reads.Asked,
-  block-at-reads.Learnt,
+  fields-at-reads.Asked,
+  fields-at-reads.Learnt,
   put-line-reads.Asked,
   put-line-reads.Learnt,
   put-text-reads.Asked,
@@ -207,11 +176,12 @@ put-blocks-put-blocks-requires : (t : ℕ) → put-blocks-lts.Need-put-blocks-re
   put-blocks.Post,
 ) (put-blocks-at t) put-blocks.Post
 put-blocks-put-blocks-requires t c κs =
-    (rw (c .before .before .before .before .before .before .before .before .before .before .before .before .before .before .pre .0) at (left-falls (followed t c)), (count-more (followed t c) (c .before .before .before .before .before .before .before .before .before .before .before .before .before .before .args .k) (c .before .before .before .before .before .before .before .before .before .before .before .before .before .before .pre .1 .0), sentence-more (followed t c)))
+    let start = c .before .before .before .before .before .before .before .before .before .before .before in
+    (rw (start .pre .0) at (left-falls (followed t c)), (count-more (followed t c) (start .args .k) (start .pre .1 .0), sentence-more (followed t c)))
 
 put-blocks-same-length-2 : (t : ℕ) → put-blocks-lts.Need-same-length-2 (
-  block-at-reads.Asked,
-  block-at-reads.Learnt,
+  fields-at-reads.Asked,
+  fields-at-reads.Learnt,
   put-line-reads.Asked,
   put-line-reads.Learnt,
   put-text-reads.Asked,
@@ -221,9 +191,9 @@ put-blocks-same-length-2 : (t : ℕ) → put-blocks-lts.Need-same-length-2 (
 ) (put-blocks-at t) put-blocks.Post
 put-blocks-same-length-2 t c = written-length (written-then (c .before .before .before .before .before .before .before .before .before .put-line .ensures) (c .before .before .put-blocks .ensures))
 
-put-blocks-returns-3 : (t : ℕ) → put-blocks-lts.Need-returns-3 (
-  block-at-reads.Asked,
-  block-at-reads.Learnt,
+put-blocks-returns-2 : (t : ℕ) → put-blocks-lts.Need-returns-2 (
+  fields-at-reads.Asked,
+  fields-at-reads.Learnt,
   put-line-reads.Asked,
   put-line-reads.Learnt,
   put-text-reads.Asked,
@@ -231,12 +201,14 @@ put-blocks-returns-3 : (t : ℕ) → put-blocks-lts.Need-returns-3 (
   put-blocks-below t,
   put-blocks.Post,
 ) (put-blocks-at t) put-blocks.Post
-put-blocks-returns-3 t c = rw (lines-more (followed t (c .before .before .before)) (c .before .before .before .before .before .before .before .before .before .before .before .before .before .before .before .before .before .args .k)) (written-then (c .before .before .before .before .before .before .before .before .before .put-line .ensures) (c .before .before .put-blocks .ensures))
+put-blocks-returns-2 t c =
+    let args = c .before .before .before .before .before .before .before .before .before .before .before .before .before .before .args in
+    rw (lines-more (followed t (c .before .before .before)) (args .k)) (written-then (c .before .before .before .before .before .before .before .before .before .put-line .ensures) (c .before .before .put-blocks .ensures))
 
 pub +put-blocks-spec : {M : Type 1} → statement M
 +put-blocks-spec = close μ-put-blocks λ t. put-blocks-lts.spec (
-  block-at-reads.Asked,
-  block-at-reads.Learnt,
+  fields-at-reads.Asked,
+  fields-at-reads.Learnt,
   put-line-reads.Asked,
   put-line-reads.Learnt,
   put-text-reads.Asked,
@@ -246,18 +218,15 @@ pub +put-blocks-spec : {M : Type 1} → statement M
 )
     (put-blocks-at t)
     put-blocks.Post
-    (put-blocks-block-at-requires t)
-    (put-blocks-enum-known-b t)
-    (put-blocks-enum-told t)
-    (put-blocks-returns t)
+    (put-blocks-fields-at-requires t)
     (put-blocks-put-line-requires t)
     (put-blocks-enum-known-next t)
-    (put-blocks-enum-told-2 t)
+    (put-blocks-enum-told t)
     (put-blocks-slice-aggregate-put-text t)
     (put-blocks-put-text-requires t)
     (put-blocks-same-length t)
-    (put-blocks-returns-2 t)
+    (put-blocks-returns t)
     (put-blocks-add-put-blocks t)
     (put-blocks-put-blocks-requires t)
     (put-blocks-same-length-2 t)
-    (put-blocks-returns-3 t)
+    (put-blocks-returns-2 t)

@@ -15,7 +15,7 @@ use borrow.Fn.PlainCycle.{Measures, is, falls, and}
 use Rattle.chain.proofs.reader.is_sentence.Reads as is-sentence
 use Rattle.chain.proofs.reader.is_sentence.Kinds as is-sentence-kinds
 use Rattle.chain.proofs.reader.+is_sentence.Lts-is_sentence as is-sentence-lts
-use Rattle.chain.proofs.judge.judge_block.Reads as judge-block-reads
+use Rattle.chain.proofs.message_reader.judge_at.Reads as judge-at-reads
 use Rattle.chain.proofs.reader.+is_sentence.{statement}
 use Rattle.chain.proofs.reader.+is_sentence.Tie.{close}
 use borrow.Author.Needs.{needs}
@@ -31,70 +31,70 @@ abbrev is-sentence-below : ℕ → In 1 is-sentence-kinds.ps
 is-sentence-below t =
     and 1 is-sentence-kinds.ps (falls 1 is-sentence-kinds.ps _<_ μ-is-sentence t) is-sentence.Pre
 
-is-sentence-judge-block-requires : (t : ℕ) → is-sentence-lts.Need-judge-block-requires (
-  judge-block-reads.Asked,
-  judge-block-reads.Learnt,
+is-sentence-judge-at-requires : (t : ℕ) → is-sentence-lts.Need-judge-at-requires (
+  judge-at-reads.Asked,
+  judge-at-reads.Learnt,
   is-sentence-below t,
   is-sentence.Post,
 ) (is-sentence-at t) is-sentence.Post
-is-sentence-judge-block-requires t c κs = search needs
+is-sentence-judge-at-requires t c κs = search needs
 
 is-sentence-enum-known-next : (t : ℕ) → is-sentence-lts.Need-enum-known-next (
-  judge-block-reads.Asked,
-  judge-block-reads.Learnt,
+  judge-at-reads.Asked,
+  judge-at-reads.Learnt,
   is-sentence-below t,
   is-sentence.Post,
 ) (is-sentence-at t) is-sentence.Post
 is-sentence-enum-known-next t c = search needs
 
 is-sentence-enum-told : (t : ℕ) → is-sentence-lts.Need-enum-told (
-  judge-block-reads.Asked,
-  judge-block-reads.Learnt,
+  judge-at-reads.Asked,
+  judge-at-reads.Learnt,
   is-sentence-below t,
   is-sentence.Post,
 ) (is-sentence-at t) is-sentence.Post
 is-sentence-enum-told t c = search needs
 
 is-sentence-returns : (t : ℕ) → is-sentence-lts.Need-returns (
-  judge-block-reads.Asked,
-  judge-block-reads.Learnt,
+  judge-at-reads.Asked,
+  judge-at-reads.Learnt,
   is-sentence-below t,
   is-sentence.Post,
 ) (is-sentence-at t) is-sentence.Post
 is-sentence-returns t c =
     let args = c .before .before .before .before .args in
-    sym (sentence-refused (args .s .now) (args .command) (args .at) (sym (c .before .before .judge-block .ensures) ∙ c .enum-told .given .1))
+    sym (sentence-refused (args .s .now) (args .command) (args .at) (sym (c .before .before .judge-at .ensures) ∙ c .enum-told .given .1))
 
 is-sentence-enum-known-next-2 : (t : ℕ) → is-sentence-lts.Need-enum-known-next-2 (
-  judge-block-reads.Asked,
-  judge-block-reads.Learnt,
+  judge-at-reads.Asked,
+  judge-at-reads.Learnt,
   is-sentence-below t,
   is-sentence.Post,
 ) (is-sentence-at t) is-sentence.Post
 is-sentence-enum-known-next-2 t c = search needs
 
 is-sentence-enum-told-2 : (t : ℕ) → is-sentence-lts.Need-enum-told-2 (
-  judge-block-reads.Asked,
-  judge-block-reads.Learnt,
+  judge-at-reads.Asked,
+  judge-at-reads.Learnt,
   is-sentence-below t,
   is-sentence.Post,
 ) (is-sentence-at t) is-sentence.Post
 is-sentence-enum-told-2 t c = search needs
 
 is-sentence-returns-2 : (t : ℕ) → is-sentence-lts.Need-returns-2 (
-  judge-block-reads.Asked,
-  judge-block-reads.Learnt,
+  judge-at-reads.Asked,
+  judge-at-reads.Learnt,
   is-sentence-below t,
   is-sentence.Post,
 ) (is-sentence-at t) is-sentence.Post
 is-sentence-returns-2 t c =
     let args = c .before .before .before .before .before .before .before .args in
-    sym (sentence-end (args .s .now) (args .command) (args .at) (sym (c .before .before .before .before .before .judge-block .ensures) ∙ c .before .before .before .next .given .1 ∙ ap (λ (n : Next). judge.Stands n) (c .enum-told2 .given .1)))
+    sym (sentence-end (args .s .now) (args .command) (args .at) (sym (c .before .before .before .before .before .judge-at .ensures) ∙ c .before .before .before .next .given .1 ∙ ap (λ (n : Next). judge.Stands n) (c .enum-told2 .given .1)))
 
 abbrev At-follower : ℕ → Type 0
 At-follower t = is-sentence-lts.After-known-told2 (
-  judge-block-reads.Asked,
-  judge-block-reads.Learnt,
+  judge-at-reads.Asked,
+  judge-at-reads.Learnt,
   is-sentence-below t,
   is-sentence.Post,
 ) (is-sentence-at t) is-sentence.Post
@@ -102,11 +102,11 @@ At-follower t = is-sentence-lts.After-known-told2 (
 -- what the block that was judged is followed by
 followed : (t : ℕ) (c : At-follower t)
     → judged (parse (c .before .before .before .before .before .before .before .before .args .s .now) (c .before .before .before .before .before .before .before .before .args .command) (c .before .before .before .before .before .before .before .before .args .at)) ≡ judge.Stands (Follow (c .before .next2 .given .0 .0) (c .before .next2 .given .0 .1 .0))
-followed t c = sym (c .before .before .before .before .before .before .judge-block .ensures) ∙ c .before .before .before .before .next .given .1 ∙ ap (λ (n : Next). judge.Stands n) (c .before .next2 .given .1)
+followed t c = sym (c .before .before .before .before .before .before .judge-at .ensures) ∙ c .before .before .before .before .next .given .1 ∙ ap (λ (n : Next). judge.Stands n) (c .before .next2 .given .1)
 
 is-sentence-is-sentence-requires : (t : ℕ) → is-sentence-lts.Need-is-sentence-requires (
-  judge-block-reads.Asked,
-  judge-block-reads.Learnt,
+  judge-at-reads.Asked,
+  judge-at-reads.Learnt,
   is-sentence-below t,
   is-sentence.Post,
 ) (is-sentence-at t) is-sentence.Post
@@ -115,8 +115,8 @@ is-sentence-is-sentence-requires t c κs =
     (rw (c .before .before .before .before .before .before .before .before .pre .0) at (left-falls (args .s .now) (args .command) (args .at) (c .before .next2 .given .0 .0) (c .before .next2 .given .0 .1 .0) (followed t c)), tt)
 
 is-sentence-returns-3 : (t : ℕ) → is-sentence-lts.Need-returns-3 (
-  judge-block-reads.Asked,
-  judge-block-reads.Learnt,
+  judge-at-reads.Asked,
+  judge-at-reads.Learnt,
   is-sentence-below t,
   is-sentence.Post,
 ) (is-sentence-at t) is-sentence.Post
@@ -126,14 +126,14 @@ is-sentence-returns-3 t c =
 
 pub +is-sentence-spec : {M : Type 1} → statement M
 +is-sentence-spec = close μ-is-sentence λ t. is-sentence-lts.spec (
-  judge-block-reads.Asked,
-  judge-block-reads.Learnt,
+  judge-at-reads.Asked,
+  judge-at-reads.Learnt,
   is-sentence-below t,
   is-sentence.Post,
 )
     (is-sentence-at t)
     is-sentence.Post
-    (is-sentence-judge-block-requires t)
+    (is-sentence-judge-at-requires t)
     (is-sentence-enum-known-next t)
     (is-sentence-enum-told t)
     (is-sentence-returns t)

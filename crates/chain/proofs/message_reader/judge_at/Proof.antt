@@ -1,4 +1,4 @@
--- `chain::message_reader::block_at` meets its contract: a walk of its MIR, by hand. A `MessageReader` that one call returns is held in a local and passed to the next, with the command. All that the proof knows of `reader_at` and of `read_block` is that each meets its contract.
+-- `chain::message_reader::judge_at` meets its contract: a walk of its MIR, by hand. A `MessageReader` that one call returns is held in a local and passed to the next, with the command. All that the proof knows of `reader_at` and of `read_block` is that each meets its contract.
 -- The machine value that `reader_at` returns is stored and passed on as it is. In a local of a body MIR erases the lifetime of the struct's type, so the value is shown to have the type at `erased`: what the struct owns does not say the lifetime's name.
 -- Assumes nothing.
 use mathlib.Core.Path.{_≡_, refl, ap, _∙_}
@@ -39,9 +39,10 @@ use denote.Triple.Walked.{says, Stays, stay-none, stay-none-slice, walkOf, goes-
 use denote.Exit.{yes}
 use denote.Triple.Clauses.{ensured, lasts}
 use Rattle.chain.specs.Parse.{parse}
-use Rattle.chain.specs.declared.block.Parsed.{Parsed}
-use Rattle.chain.proofs.block.Parsed as S
-use Rattle.chain.proofs.block.Parsed.Laws as S′
+use Rattle.chain.specs.Judged.{judged}
+use Rattle.chain.specs.declared.block.Judged.{Judged}
+use Rattle.chain.proofs.block.Judged as S
+use Rattle.chain.proofs.block.Judged.Laws as S′
 use Rattle.chain.specs.declared.message_reader.MessageReader.{MessageReader}
 use Rattle.chain.proofs.message_reader.MessageReader as T
 use Rattle.chain.proofs.message_reader.MessageReader.Laws as T′
@@ -53,16 +54,16 @@ use Rattle.chain.proofs.message_reader.read_block as next
 use Rattle.chain.proofs.message_reader.read_block.Symbol as next-def
 use Rattle.chain.proofs.message_reader.read_block.Symbol.{name as #message-reader·read-block}
 use Rattle.chain.proofs.message_reader.read_block.Met as next-thm
-use Rattle.chain.proofs.message_reader.block_at.Key.{name as #message-reader·block-at}
-use Rattle.chain.proofs.message_reader.block_at as block-at
-use Rattle.chain.proofs.message_reader.block_at.Statement as stated
-use Rattle.chain.proofs.message_reader.block_at.Code as code
+use Rattle.chain.proofs.message_reader.judge_at.Key.{name as #message-reader·judge-at}
+use Rattle.chain.proofs.message_reader.judge_at as judge-at
+use Rattle.chain.proofs.message_reader.judge_at.Statement as stated
+use Rattle.chain.proofs.message_reader.judge_at.Code as code
 
 -- the struct's type, over the signature's lifetimes
 abbrev B : Lfts 1 → RattleType
 B κs = T.the-row (namedLft 1 0 tt κs)
 
-abbrev stayed : Stays (block-at.ended .signature .params) (block-at.ended .kept)
+abbrev stayed : Stays (judge-at.ended .signature .params) (judge-at.ended .kept)
 stayed = (stay-none-slice (0 ∷ []) tt (plain (λ _. u8)) yes, (stay-none (λ _. u8) yes, (stay-none (λ _. usize) yes, tt)))
 
 module _ {M : Type 1} (𝓤 : URA M) (H : Heap 𝓤) (A : Atoms 𝓤) (mem : Memory → SProp 𝓤) (run : Routine → Fun 𝓤) where
@@ -78,18 +79,18 @@ module _ {M : Type 1} (𝓤 : URA M) (H : Heap 𝓤) (A : Atoms 𝓤) (W : Given
   abbrev v : Val
   v = sliceVal (s .ptr) (length (s .now))
 
-  abbrev found : Parsed
-  found = parse (now s) c n
+  abbrev found : Judged
+  found = judged (parse (now s) c n)
 
   -- the struct's type as a local of a body has it
   abbrev αᵉ : NamedLft
   αᵉ = record { mir = erased; lft = κ }
 
-  abbrev at : Vals block-at.signature (κ, tt)
+  abbrev at : Vals judge-at.signature (κ, tt)
   at = (v ∷ [], (vint w8 c ∷ [], (vint w64 n ∷ [], tt)))
 
   abbrev Post : Val → SProp 𝓤
-  Post = walkOf 𝓤 H A block-at.ended stayed (block-at.clauses 𝓤 H A mem run) .post (((κ, tt), (q, tt), tt, (s, (c, (n, tt))), at), tt)
+  Post = walkOf 𝓤 H A judge-at.ended stayed (judge-at.clauses 𝓤 H A mem run) .post (((κ, tt), (q, tt), tt, (s, (c, (n, tt))), at), tt)
 
   abbrev Own : Fml
   Own = ShrSlice (named 0) κ u8 .own s (v ∷ [])
@@ -101,7 +102,7 @@ module _ {M : Type 1} (𝓤 : URA M) (H : Heap 𝓤) (A : Atoms 𝓤) (W : Given
   abbrev to-new : New 𝓤 H A mem run .Ghost
   to-new = (((κ, tt), (q, tt), tt, (s, (n, tt)), passed), tt)
 
-  goes-new : ent 𝓤 (onEntry 𝓤 H A block-at.signature (κ, tt) (q, tt) (s, (c, (n, tt))) at) (sep 𝓤 (New 𝓤 H A mem run .pre to-new) (sem 𝓤 H A Own))
+  goes-new : ent 𝓤 (onEntry 𝓤 H A judge-at.signature (κ, tt) (q, tt) (s, (c, (n, tt))) at) (sep 𝓤 (New 𝓤 H A mem run .pre to-new) (sem 𝓤 H A Own))
   goes-new =
       qed W ((‵ (flft κ q) ⊛ ‵ ftrue) ∷ ‵ (owns (ShrSlice (named 0) κ u8 ∷ u8 ∷ usize ∷ []) (s, (c, (n, tt))) at) ∷ []) ∵
       move ! (1 ∷ []) $ fsplit ! $ move ! (1 ∷ []) $ drop ! $ use1 W (‵ Own ⊛ ‵ Own) (shr-slice-copy 𝓤 H A W (named 0) κ u8 .twice s (v ∷ [])) $ split ! $
@@ -121,20 +122,20 @@ module _ {M : Type 1} (𝓤 : URA M) (H : Heap 𝓤) (A : Atoms 𝓤) (W : Given
       qed W (‵ (B (κ, tt) .own r (u ∷ [])) ∷ (‵ (flft κ q) ⊛ ‵ ftrue) ∷ []) ∵
       nothing ! $ owned ! u8 (Is u8) (uint-makes 𝓤 H A W w8) c _ (refl, c-fits) $ fjoin ! $ move ! (1 ∷ 0 ∷ []) $ fjoin ! $ move ! (1 ∷ 0 ∷ []) $ join ! $ frame ! $ done !
 
-  next-said : (r : MessageReader) (t : Parsed) → ent 𝓤 (ensured 𝓤 H A next.ended (next.clauses 𝓤 H A mem run) (κ, tt) (r, (c, tt)) tt t) (fact 𝓤 (t ≡ parse (now (r .message)) c (r .at)))
-  next-said r t = exE 𝓤 _ (λ ws. snd∗ 𝓤 (sem 𝓤 H A (lasts next.ended (κ, tt) (r, (c, tt)) ws)) (fact 𝓤 (t ≡ parse (now (r .message)) c (r .at))))
+  next-said : (r : MessageReader) (t : Judged) → ent 𝓤 (ensured 𝓤 H A next.ended (next.clauses 𝓤 H A mem run) (κ, tt) (r, (c, tt)) tt t) (fact 𝓤 (t ≡ judged (parse (now (r .message)) c (r .at))))
+  next-said r t = exE 𝓤 _ (λ ws. snd∗ 𝓤 (sem 𝓤 H A (lasts next.ended (κ, tt) (r, (c, tt)) ws)) (fact 𝓤 (t ≡ judged (parse (now (r .message)) c (r .at)))))
 
-  exits : (t : Parsed) (u : Val) → t ≡ found → ent 𝓤 (⋆ 𝓤 H A (‵ (S.the-row .own t (u ∷ [])) ∷ (‵ (flft κ q) ⊛ ‵ ftrue) ∷ ‵ Own ∷ [])) (Post u)
+  exits : (t : Judged) (u : Val) → t ≡ found → ent 𝓤 (⋆ 𝓤 H A (‵ (S.the-row .own t (u ∷ [])) ∷ (‵ (flft κ q) ⊛ ‵ ftrue) ∷ ‵ Own ∷ [])) (Post u)
   exits t u e =
       qed W (‵ (S.the-row .own t (u ∷ [])) ∷ (‵ (flft κ q) ⊛ ‵ ftrue) ∷ ‵ Own ∷ []) ∵
-      suffices ! _ (ends-at 𝓤 H A block-at.ended stayed (block-at.clauses 𝓤 H A mem run) W (((κ, tt), (q, tt), tt, (s, (c, (n, tt))), at), tt) u t (tt, (tt, (tt, tt))) (tt, (tt, (tt, tt)))) $ says ! e $
+      suffices ! _ (ends-at 𝓤 H A judge-at.ended stayed (judge-at.clauses 𝓤 H A mem run) W (((κ, tt), (q, tt), tt, (s, (c, (n, tt))), at), tt) u t (tt, (tt, (tt, tt))) (tt, (tt, (tt, tt)))) $ says ! e $
       move ! (1 ∷ []) $ frame ! $ nothing ! $ owned ! usize (Is usize) (uint-makes 𝓤 H A W w64) n _ (refl, n-fits) $ fjoin ! $ owned ! u8 (Is u8) (uint-makes 𝓤 H A W w8) c _ (refl, c-fits) $ fjoin ! $
       move ! (2 ∷ 0 ∷ []) $ fjoin ! $ frame ! $ done !
 
   module _ (C : Calls 𝓤 H) (Λ : Loops 𝓤 H) (fm : FmC 𝓤 H (W .laws) C) (known-new : Triple 𝓤 (C #message-reader·reader-at) (New 𝓤 H A mem run)) (known-next : Triple 𝓤 (C #message-reader·read-block) (Next 𝓤 H A mem run)) where
-    walk : Is (ShrSlice (named 0) κ u8) s (v ∷ []) → ent 𝓤 (onEntry 𝓤 H A block-at.signature (κ, tt) (q, tt) (s, (c, (n, tt))) at) (WpFn 𝓤 H C Λ code.function (v ∷ vint w8 c ∷ vint w64 n ∷ []) Post)
+    walk : Is (ShrSlice (named 0) κ u8) s (v ∷ []) → ent 𝓤 (onEntry 𝓤 H A judge-at.signature (κ, tt) (q, tt) (s, (c, (n, tt))) at) (WpFn 𝓤 H C Λ code.function (v ∷ vint w8 c ∷ vint w64 n ∷ []) Post)
     walk p =
-        qed W (raw (onEntry 𝓤 H A block-at.signature (κ, tt) (q, tt) (s, (c, (n, tt))) at) ∷ []) ∵ enter ! C Λ code.function (v ∷ vint w8 c ∷ vint w64 n ∷ []) _ $
+        qed W (raw (onEntry 𝓤 H A judge-at.signature (κ, tt) (q, tt) (s, (c, (n, tt))) at) ∷ []) ∵ enter ! C Λ code.function (v ∷ vint w8 c ∷ vint w64 n ∷ []) _ $
         alloc1 ! (λ l₀. alloc1 ! (λ l₁. alloc1 ! (λ l₂. alloc1 ! (λ l₃. alloc1 ! (λ l₄. alloc0 ! $ params1 ! $
         pass1 ! (init ! 6 refl (shr-slice-lawful 𝓤 H A W (named 0) κ u8 .typed s (v ∷ []) p .0)) $ pass1 ! (init ! 4 refl (tt, record { fits = c-fits })) $ pass1 ! (init ! 2 refl (tt, record { fits = n-fits })) $ pass0 ! $
         move ! (10 ∷ []) $ use1 W (raw (New 𝓤 H A mem run .pre to-new) ⊛ ‵ Own) goes-new $ split ! $
@@ -148,32 +149,32 @@ module _ {M : Type 1} (𝓤 : URA M) (H : Heap 𝓤) (A : Atoms 𝓤) (W : Given
         use2 W (raw (Next 𝓤 H A mem run .pre (to-next r u))) (goes-next r u) $
         -- [what `read_block` asks; what s owns; _4; …; _3; …; _2; …; _1; …; room for _0; …]
         calls-at ! fm (Next 𝓤 H A mem run) known-next (to-next r u) (and-then ! (load ! (from ! (stop !)) (look ! 2 refl)) (and-then ! (load ! (from ! (stop !)) (look ! 6 refl)) (no-more !))) (λ u′.
-        use1 W (later (some (λ (t : Parsed). ((‵ (flft κ q) ⊛ ‵ ftrue) ⊛ ‵ (S.the-row .own t (u′ ∷ []))) ⊛ raw (ensured 𝓤 H A next.ended (next.clauses 𝓤 H A mem run) (κ, tt) (r, (c, tt)) tt t)))) (id⊢ 𝓤 _) $ await ! tt $ pick ! (λ t.
-        split ! $ move ! (1 ∷ []) $ use1 W (raw (fact 𝓤 (t ≡ parse (now (r .message)) c (r .at)))) (next-said r t) $ heard ! (t ≡ parse (now (r .message)) c (r .at)) (λ e′. split ! $ move ! (1 ∷ []) $
+        use1 W (later (some (λ (t : Judged). ((‵ (flft κ q) ⊛ ‵ ftrue) ⊛ ‵ (S.the-row .own t (u′ ∷ []))) ⊛ raw (ensured 𝓤 H A next.ended (next.clauses 𝓤 H A mem run) (κ, tt) (r, (c, tt)) tt t)))) (id⊢ 𝓤 _) $ await ! tt $ pick ! (λ t.
+        split ! $ move ! (1 ∷ []) $ use1 W (raw (fact 𝓤 (t ≡ judged (parse (now (r .message)) c (r .at))))) (next-said r t) $ heard ! (t ≡ judged (parse (now (r .message)) c (r .at))) (λ e′. split ! $ move ! (1 ∷ []) $
         -- [the result; the token; what s owns; _4; …; _3; …; _2; …; _1; …; room for _0; …]
         peeks ! S.the-row (Is S.the-row) (shows 𝓤 H A S.the-row) t (u′ ∷ []) (λ is′.
         land ! (from ! (stop !)) (init ! 11 refl (EL.lawful S.the-type S′.the-laws 𝓤 H A W tt .typed t _ is′ .0)) $
         returns ! (look ! 11 refl) $ forget ! 3 refl $ forget ! 5 refl $ forget ! 7 refl $ forget ! 9 refl $ forget ! 11 refl $
         move ! (11 ∷ 12 ∷ []) $ free1 ! $ move ! (9 ∷ 10 ∷ []) $ free1 ! $ move ! (7 ∷ 8 ∷ []) $ free1 ! $ move ! (5 ∷ 6 ∷ []) $ free1 ! $ move ! (3 ∷ 4 ∷ []) $ free1 ! $ free0 ! $
-        by ! (exits t u′ (e′ ∙ (ap (λ (x : RefT (List ℕ)). parse (now x) c (r .at)) (e .0) ∙ ap (parse (now s) c) (e .1)))))))))))))))))
+        by ! (exits t u′ (e′ ∙ (ap (λ (x : RefT (List ℕ)). judged (parse (now x) c (r .at))) (e .0) ∙ ap (λ (m : ℕ). judged (parse (now s) c m)) (e .1)))))))))))))))))
 
 module _ {M : Type 1} (𝓤 : URA M) (H : Heap 𝓤) (A : Atoms 𝓤) (W : Given 𝓤 H A) (mem : Memory → SProp 𝓤) (run : Routine → Fun 𝓤) where
-  block-at-walks : (C : Calls 𝓤 H) (Λ : Loops 𝓤 H) → FmC 𝓤 H (W .laws) C → Triple 𝓤 (C #message-reader·reader-at) (New 𝓤 H A mem run) → Triple 𝓤 (C #message-reader·read-block) (Next 𝓤 H A mem run)
-      → Walks 𝓤 H A block-at.ended stayed (WpFn 𝓤 H C Λ code.function) (block-at.clauses 𝓤 H A mem run)
-  block-at-walks C Λ fm known-new known-next = walked 𝓤 H A block-at.ended stayed (block-at.clauses 𝓤 H A mem run) (WpFn 𝓤 H C Λ code.function) (λ κs. (slice-vals, (uint-vals w8, (uint-vals w64, tt)))) (λ κs. (shr-slice-tells (named 0) (κs .0) u8, (uint-tells w8, (uint-tells w64, tt))))
+  judge-at-walks : (C : Calls 𝓤 H) (Λ : Loops 𝓤 H) → FmC 𝓤 H (W .laws) C → Triple 𝓤 (C #message-reader·reader-at) (New 𝓤 H A mem run) → Triple 𝓤 (C #message-reader·read-block) (Next 𝓤 H A mem run)
+      → Walks 𝓤 H A judge-at.ended stayed (WpFn 𝓤 H C Λ code.function) (judge-at.clauses 𝓤 H A mem run)
+  judge-at-walks C Λ fm known-new known-next = walked 𝓤 H A judge-at.ended stayed (judge-at.clauses 𝓤 H A mem run) (WpFn 𝓤 H C Λ code.function) (λ κs. (slice-vals, (uint-vals w8, (uint-vals w64, tt)))) (λ κs. (shr-slice-tells (named 0) (κs .0) u8, (uint-tells w8, (uint-tells w64, tt))))
       (λ κs qs bounds a g are. via 𝓤 _ (fst∗ 𝓤 _ (emp 𝓤)) (walk 𝓤 H A W mem run (κs .0) (qs .0) (a .0) (a .1 .0) (a .1 .1 .0) (are .1 .0 .1) (are .1 .1 .0 .1) C Λ fm known-new known-next (are .0)))
 
-block-at-meets : {M : Type 1} (𝓤 : URA M) (H : Heap 𝓤) (A : Atoms 𝓤) (W : Given 𝓤 H A) (mem : Memory → SProp 𝓤) (run : Routine → Fun 𝓤) (𝓣 : Tables 𝓤 H)
+judge-at-meets : {M : Type 1} (𝓤 : URA M) (H : Heap 𝓤) (A : Atoms 𝓤) (W : Given 𝓤 H A) (mem : Memory → SProp 𝓤) (run : Routine → Fun 𝓤) (𝓣 : Tables 𝓤 H)
     → Triple 𝓤 (𝓣 .C #message-reader·reader-at) (New 𝓤 H A mem run) → Triple 𝓤 (𝓣 .C #message-reader·read-block) (Next 𝓤 H A mem run)
-    → Meets 𝓤 H A block-at.signature (WpFn 𝓤 H (𝓣 .C) (𝓣 .Λ) code.function) (block-at.spec 𝓤 H A mem run)
-block-at-meets 𝓤 H A W mem run 𝓣 known-new known-next = walk-meets 𝓤 H A block-at.ended stayed W (goes-none-slice 𝓤 H A W 1 (0 ∷ []) tt (plain (λ _. u8)) yes, (goes-none 𝓤 H A W 1 (λ _. u8) yes (λ κs x f. refl), (goes-none 𝓤 H A W 1 (λ _. usize) yes (λ κs x f. refl), tt))) (block-at.clauses 𝓤 H A mem run) (WpFn 𝓤 H (𝓣 .C) (𝓣 .Λ) code.function) (WpFn-mono 𝓤 H (W .laws) 𝓣 code.function)
-    (block-at-walks 𝓤 H A W mem run (𝓣 .C) (𝓣 .Λ) (fmOf 𝓤 H (W .laws) 𝓣) known-new known-next)
+    → Meets 𝓤 H A judge-at.signature (WpFn 𝓤 H (𝓣 .C) (𝓣 .Λ) code.function) (judge-at.spec 𝓤 H A mem run)
+judge-at-meets 𝓤 H A W mem run 𝓣 known-new known-next = walk-meets 𝓤 H A judge-at.ended stayed W (goes-none-slice 𝓤 H A W 1 (0 ∷ []) tt (plain (λ _. u8)) yes, (goes-none 𝓤 H A W 1 (λ _. u8) yes (λ κs x f. refl), (goes-none 𝓤 H A W 1 (λ _. usize) yes (λ κs x f. refl), tt))) (judge-at.clauses 𝓤 H A mem run) (WpFn 𝓤 H (𝓣 .C) (𝓣 .Λ) code.function) (WpFn-mono 𝓤 H (W .laws) 𝓣 code.function)
+    (judge-at-walks 𝓤 H A W mem run (𝓣 .C) (𝓣 .Λ) (fmOf 𝓤 H (W .laws) 𝓣) known-new known-next)
 
-pub block-at-spec : {M : Type 1} → stated.statement M
+pub judge-at-spec : {M : Type 1} → stated.statement M
 unfolding code.routine tablesOf
-block-at-spec 𝓤 H 𝓜 𝓖 𝓡 =
-    entered 𝓤 H (tripleOf 𝓤 H (𝓖 .A) block-at.signature (block-at.spec 𝓤 H (𝓖 .A) (𝓜 .mem) (𝓡 .run)))
-    (tables 𝓤 H 𝓜 𝓡 code.env .C) (tables 𝓤 H 𝓜 𝓡 code.env .Λ) #message-reader·block-at code.function (code.unfolded 𝓤 H 𝓜 𝓡)
-    (block-at-meets 𝓤 H (𝓖 .A) (givenOf 𝓤 H 𝓜 𝓖) (𝓜 .mem) (𝓡 .run) (tablesOf 𝓤 H 𝓜 (tables 𝓤 H 𝓜 𝓡 code.env))
+judge-at-spec 𝓤 H 𝓜 𝓖 𝓡 =
+    entered 𝓤 H (tripleOf 𝓤 H (𝓖 .A) judge-at.signature (judge-at.spec 𝓤 H (𝓖 .A) (𝓜 .mem) (𝓡 .run)))
+    (tables 𝓤 H 𝓜 𝓡 code.env .C) (tables 𝓤 H 𝓜 𝓡 code.env .Λ) #message-reader·judge-at code.function (code.unfolded 𝓤 H 𝓜 𝓡)
+    (judge-at-meets 𝓤 H (𝓖 .A) (givenOf 𝓤 H 𝓜 𝓖) (𝓜 .mem) (𝓡 .run) (tablesOf 𝓤 H 𝓜 (tables 𝓤 H 𝓜 𝓡 code.env))
     (cited 𝓤 H (New 𝓤 H (𝓖 .A) (𝓜 .mem) (𝓡 .run)) 𝓜 𝓡 code.env #message-reader·reader-at new-def.routine code.calls-chain·message-reader·reader-at (new-thm.met 𝓤 H 𝓜 𝓖 𝓡))
     (cited 𝓤 H (Next 𝓤 H (𝓖 .A) (𝓜 .mem) (𝓡 .run)) 𝓜 𝓡 code.env #message-reader·read-block next-def.routine code.calls-chain·message-reader·read-block (next-thm.met 𝓤 H 𝓜 𝓖 𝓡)))
