@@ -179,3 +179,56 @@ judged-stop a b c d n e =
     (λ _ h. choice-cases (eqb (lengthOf b c d) 0) _ _ _ h (λ _ i. absurd (alive-stop n i)) (λ _ i. stop-within 3 n (omega arith) (omega arith) i))
     λ kind h.
     choice-cases (ltb 8192 (lengthOf b c d)) _ _ _ h (λ _ i. stop-within 4 n (omega arith) (omega arith) i) (λ _ i. absurd (message-stop (lengthOf b c d) n i))
+
+-- the four bytes of a header and what stands behind them
+pub record Head (j : Judged) (s : List ℕ) : Type 0 where
+  pub a : ℕ
+  pub b : ℕ
+  pub c : ℕ
+  pub d : ℕ
+  pub behind : List ℕ
+  pub same : s ≡ a ∷ b ∷ c ∷ d ∷ behind
+  pub judged : judge a b c d ≡ j
+
+-- a stream that begins with a message's header has it in front of the rest
+pub message-head : {s : List ℕ} {x : Begins} → Shown s x → (n : ℕ) (t : List ℕ) → x ≡ message n t → Head (Message n) t
+message-head (shown-short s h) n t e = let z : _≡_ {A = ℕ} 0 1 = cc in absurd (omega arith)
+message-head (shown-bad f) n t e = let z : _≡_ {A = ℕ} 0 1 = cc in absurd (omega arith)
+message-head (shown-message {a} {b} {c} {d} {n = k} {s} f) n t e =
+    let same : a ∷ b ∷ c ∷ d ∷ s ≡ t = cc in
+    let size : k ≡ n = cc in
+    record { a = a; b = b; c = c; d = d; behind = s; same = sym same; judged = f ∙ ap Message size }
+message-head (shown-later f w) n t e = message-head w n t e
+
+pub bad-head : {s : List ℕ} {x : Begins} → Shown s x → (n : ℕ) (t : List ℕ) → x ≡ bad n t → Head (Stop n) t
+bad-head (shown-short s h) n t e = let z : _≡_ {A = ℕ} 0 1 = cc in absurd (omega arith)
+bad-head (shown-bad {a} {b} {c} {d} {n = k} {s} f) n t e =
+    let same : a ∷ b ∷ c ∷ d ∷ s ≡ t = cc in
+    let size : k ≡ n = cc in
+    record { a = a; b = b; c = c; d = d; behind = s; same = sym same; judged = f ∙ ap Stop size }
+bad-head (shown-message f) n t e = let z : _≡_ {A = ℕ} 0 1 = cc in absurd (omega arith)
+bad-head (shown-later f w) n t e = bad-head w n t e
+
+pub short-few : {s : List ℕ} {x : Begins} → Shown s x → (t : List ℕ) → x ≡ short t → length t < 4
+short-few (shown-short s h) t e = let same : s ≡ t = cc in rw same at h
+short-few (shown-bad f) t e = let z : _≡_ {A = ℕ} 0 1 = cc in absurd (omega arith)
+short-few (shown-message f) t e = let z : _≡_ {A = ℕ} 0 1 = cc in absurd (omega arith)
+short-few (shown-later f w) t e = short-few w t e
+
+-- ---- a rest of the bytes begun and a piece
+
+-- a rest that is no longer than the piece is a rest of the piece
+pub ends-in-piece : (p piece t : List ℕ) → Ends (p ++ piece) t → length t ≤ length piece → t ≡ drop (length piece - length t) piece
+ends-in-piece p piece t e h =
+    let size : length (p ++ piece) ≡ length p + length piece = length-append p piece in
+    let within : e .at ≤ length p + length piece = rw size at (e .within) in
+    let rest : length t ≡ length p + length piece - e .at = ap length (e .same) ∙ length-drop (e .at) (p ++ piece) ∙ rw size in
+    let place : e .at ≡ length p + (length piece - length t) = omega arith in
+    e .same ∙ ap (λ (k : ℕ). drop k (p ++ piece)) place ∙ drop-append-add p piece (length piece - length t)
+
+-- a rest of a rest
+pub ends-drop : {s t : List ℕ} (k : ℕ) → Ends s t → k ≤ length t → Ends s (drop k t)
+ends-drop {s} {t} k e h =
+    let rest : length t ≡ length s - e .at = ap length (e .same) ∙ length-drop (e .at) s in
+    let i = e .within in
+    record { at = e .at + k; within = omega arith; same = ap (drop k) (e .same) ∙ drop-drop k (e .at) s }

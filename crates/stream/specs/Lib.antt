@@ -1,3 +1,7 @@
 pub mod Stream
 pub mod State
+pub mod Reader
+pub mod Seen
 pub mod BeginsLaws
+pub mod StateLaws
+pub mod ReaderLaws

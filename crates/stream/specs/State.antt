@@ -1,11 +1,11 @@
 -- The reader's state: what is left of a stream, in seven words and a buffer.
 -- Assumes nothing.
-use Prim.Native.Nat.{ℕ, _+_, _-_, _/_, _%_}
+use Prim.Native.Nat.{ℕ, _-_}
 use mathlib.Core.Bool.{Bool, cond, not, _&&_, _||_}
 use mathlib.Core.List.{List, [], _∷_, _++_}
 use lib.Dec.{eqb, leb, ltb}
 use lib.ListN.{length, take, getD}
-use Rattle.stream.specs.Stream.{lengthOf, Left, begun, stopped}
+use Rattle.stream.specs.Stream.{lengthOf, headerOf, Left, begun, stopped}
 use Rattle.stream.specs.declared.state.State.{State}
 
 -- nothing begun
@@ -16,10 +16,13 @@ noneBegun = record { stopped = 0; begun = 0; first = 0; second = 0; third = 0; l
 unfoldable pub stoppedBy : ℕ → State
 stoppedBy n = record { stopped = n; begun = 0; first = 0; second = 0; third = 0; length = 0; got = 0 }
 
+-- so many bytes of a header and nothing else; 0 stands where a byte is not in
+unfoldable pub headerWords : ℕ → ℕ → ℕ → ℕ → State
+headerWords count a b c = record { stopped = 0; begun = count; first = a; second = b; third = c; length = 0; got = 0 }
+
 -- the bytes of a begun header
 unfoldable pub headerBegun : List ℕ → State
-headerBegun s =
-    record { stopped = 0; begun = length s; first = getD s 0 0; second = getD s 1 0; third = getD s 2 0; length = 0; got = 0 }
+headerBegun s = headerWords (length s) (getD s 0 0) (getD s 1 0) (getD s 2 0)
 
 -- a message of that length of which so many bytes are in
 unfoldable pub messageBegun : ℕ → ℕ → State
@@ -34,14 +37,14 @@ unfoldable pub stateOf : Left → State
 stateOf (begun s) = begunState s
 stateOf (stopped n) = stoppedBy n
 
--- the header of a message of that length, no more than 65,535: type and flags 0 and the length, high byte first
-unfoldable pub headerOf : ℕ → List ℕ
-headerOf size = 0 ∷ 0 ∷ size / 256 ∷ size % 256 ∷ []
+-- the bytes of a begun header, by the words
+unfoldable pub begunBytes : State → List ℕ
+begunBytes s = take (s .begun) (s .first ∷ s .second ∷ s .third ∷ [])
 
 -- the bytes begun, by the words and the buffer
 unfoldable pub pending : State → List ℕ → List ℕ
 pending s buffer =
-    cond (eqb (s .length) 0) (take (s .begun) (s .first ∷ s .second ∷ s .third ∷ [])) (headerOf (s .length) ++ take (s .got) buffer)
+    cond (eqb (s .length) 0) (begunBytes s) (headerOf (s .length) ++ take (s .got) buffer)
 
 -- what a state and the buffer say is left
 unfoldable pub leftOf : State → List ℕ → Left

@@ -1,6 +1,6 @@
 -- What a byte stream carries: messages, each behind the four-byte session header of RFC 1002 (document 02, CR 1), and what is left at its end.
 -- Assumes nothing.
-use Prim.Native.Nat.{ℕ, zero, suc, _+_, _*_, _%_}
+use Prim.Native.Nat.{ℕ, zero, suc, _+_, _*_, _/_, _%_}
 use mathlib.Core.Bool.{Bool, cond, not, _||_}
 use mathlib.Core.List.{List, [], _∷_, _++_}
 use lib.Dec.{eqb, leb, ltb}
@@ -31,6 +31,10 @@ judge kind flags high low =
     cond (not (known kind)) (Stop 1)
     (cond (ltb 1 flags) (Stop 2)
     (judgeLength kind (lengthOf flags high low)))
+
+-- the header of a message of that length, below 65,536: type and flags 0, and the length, high byte first
+unfoldable pub headerOf : ℕ → List ℕ
+headerOf size = 0 ∷ 0 ∷ size / 256 ∷ size % 256 ∷ []
 
 -- ---- the first thing in a stream that begins with a header
 

@@ -1,9 +1,10 @@
 // The reader's state: what is left of the stream that was read, in seven words of the host's. The bytes of a begun message
 // are in the buffer that the host lends.
 
+use wire::byte_at;
 ghost use mathlib.Core.Path.{_≡_};
 ghost use mathlib.Core.Bool.{_&&_};
-ghost use Rattle.stream.specs.State.{noneBegun, noHeader, noMessage, byteFits, headerFits, messageFits, taken};
+ghost use Rattle.stream.specs.State.{noneBegun, headerWords, headerBegun, messageBegun, stoppedBy, noHeader, noMessage, byteFits, headerFits, messageFits, taken};
 
 // `stopped`: 0, or the number that stopped the reader. `begun`: how many bytes of a header are in, and `first` to `third`
 // those bytes. `length`: that of a begun message, and `got` how many of its bytes are in the buffer.
@@ -23,6 +24,58 @@ pub fn start() -> State
 {
     State {
         stopped: 0,
+        begun: 0,
+        first: 0,
+        second: 0,
+        third: 0,
+        length: 0,
+        got: 0,
+    }
+}
+
+// The state of a header of which so many bytes are in, 0 where none is.
+pub(crate) fn header_of(begun: u64, first: u8, second: u8, third: u8) -> State
+    ensures { λ r. ⌜ r ≡ headerWords begun first second third ⌝ }
+{
+    State {
+        stopped: 0,
+        begun,
+        first: first as u64,
+        second: second as u64,
+        third: third as u64,
+        length: 0,
+        got: 0,
+    }
+}
+
+// The state of a header of which these bytes are in, fewer than four.
+pub(crate) fn header_begun(s: &[u8]) -> State
+    ensures { λ r. ⌜ r ≡ headerBegun (now (s .entry)) ⌝ }
+{
+    header_of(s.len() as u64, byte_at(s, 0), byte_at(s, 1), byte_at(s, 2))
+}
+
+// The state of a message of which so many bytes are in.
+pub(crate) fn message_begun(length: usize, got: usize) -> State
+    ensures { λ r. ⌜ r ≡ messageBegun length got ⌝ }
+{
+    State {
+        stopped: 0,
+        begun: 0,
+        first: 0,
+        second: 0,
+        third: 0,
+        length: length as u64,
+        got: got as u64,
+    }
+}
+
+// The state of a reader that a header stopped.
+pub(crate) fn stopped_by(n: u8) -> State
+    ensures { λ r. ⌜ r ≡ stoppedBy n ⌝ }
+{
+    State {
+        stopped: n as u64,
         begun: 0,
         first: 0,
         second: 0,

@@ -1,0 +1,3 @@
+pub mod FirstHeader
+pub mod Gathering
+pub mod Passing
