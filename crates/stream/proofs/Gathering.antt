@@ -1,6 +1,6 @@
 -- The three ways of a message's bytes: some are still to come, all stand in the piece, or the last of them do.
 -- Assumes nothing.
-use mathlib.Core.Path.{_≡_, ap, _∙_}
+use mathlib.Core.Path.{_≡_}
 use Prim.Native.Nat.{ℕ, _+_, _-_, _≤_, _<_}
 use mathlib.Core.List.{List}
 use lib.ListN.{length, take, drop, length-drop}
@@ -11,7 +11,7 @@ use borrow.Author.Tests.{lt-leb, le-leb, eq-eqb, ne-eqb}
 use Rattle.lists.specs.Put.{put}
 use Rattle.stream.specs.declared.reader.Event.the-variants.{More, InPiece, InBuffer}
 use Rattle.stream.specs.State.{noneBegun, messageBegun}
-use Rattle.stream.specs.Reader.{Read, stepOf}
+use Rattle.stream.specs.Reader.{stepOf}
 use Rattle.stream.specs.Seen.{gathered}
 
 module _ (size got : ℕ) (buffer piece : List ℕ) (at : ℕ) where

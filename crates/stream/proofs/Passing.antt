@@ -1,6 +1,6 @@
 -- The walk over the headers of a piece: what each header that is judged makes of the answer.
 -- Assumes nothing.
-use mathlib.Core.Path.{_≡_, refl, sym, ap, _∙_}
+use mathlib.Core.Path.{_≡_, sym, ap, _∙_}
 use Prim.Native.Nat.{ℕ, _+_, _-_, _≤_, _<_}
 use mathlib.Core.List.{List}
 use lib.ListN.{length, take, drop, getD, length-drop}
@@ -9,9 +9,8 @@ use native.Mathlib.Omega.{arith}
 use native.Mathlib.Nat.{le-of-eq}
 use Rattle.stream.specs.declared.header.Judged.{Judged}
 use Rattle.stream.specs.declared.header.Judged.the-variants.{Stop, KeepAlive, Message}
-use Rattle.stream.specs.declared.reader.Seen.{Seen}
 use Rattle.stream.specs.declared.reader.Seen.the-variants.{Short, Bad, Body}
-use Rattle.stream.specs.Stream.{judge, Begins, beginsBy, begins}
+use Rattle.stream.specs.Stream.{judge, beginsBy, begins}
 use Rattle.stream.specs.State.{headerBegun}
 use Rattle.stream.specs.Seen.{seenOf}
 use Rattle.stream.specs.BeginsLaws.{begins-at, begins-short}

@@ -1,6 +1,6 @@
 -- The three answers of the writer.
 -- Assumes nothing.
-use mathlib.Core.Path.{_≡_, sym, ap, _∙_}
+use mathlib.Core.Path.{_≡_, ap, _∙_}
 use Prim.Native.Nat.{ℕ, _+_, _-_, _≤_, _<_}
 use mathlib.Core.List.{List, _++_}
 use lib.ListN.{length, take, drop}
@@ -9,7 +9,7 @@ use borrow.Author.Tests.{lt-ltb, le-ltb}
 use Rattle.lists.specs.Put.{put}
 use Rattle.lists.specs.PutLaws.{put-then, put-part, length-put}
 use Rattle.stream.specs.Stream.{headerOf}
-use Rattle.stream.specs.Writer.{Wrote, writtenOf, framed, write}
+use Rattle.stream.specs.Writer.{writtenOf, framed, write}
 
 module _ (message room : List ℕ) where
   pub write-long : 12292 < length message → write message room ≡ record { answer = writtenOf 1 0; room = room }

@@ -1,18 +1,18 @@
 -- Laws of what a stream begins with: how it is seen header by header, that it is a rest of the stream, and what bytes behind it add.
 -- Assumes nothing.
 use mathlib.Core.Path.{_≡_, refl, sym, ap, _∙_}
-use Prim.Native.Nat.{ℕ, suc, _+_, _-_, _≤_, _<_}
-use mathlib.Core.Bool.{Bool, true, false, cond, not}
-use mathlib.Core.List.{List, [], _∷_, _++_, append-assoc}
-use lib.Dec.{eqb, leb, ltb}
-use lib.ListN.{length, take, drop, getD, length-append, length-drop}
-use lib.Seq.{drop-drop, drop-append-le, drop-append-add, take-append-le, getD-drop}
+use Prim.Native.Nat.{ℕ, suc, _+_, _-_, _/_, _%_, _≤_, _<_}
+use mathlib.Core.Bool.{true, false, not}
+use mathlib.Core.List.{List, [], _∷_, _++_}
+use lib.Dec.{eqb, ltb}
+use lib.ListN.{length, drop, getD, length-append, length-drop}
+use lib.Seq.{drop-drop, drop-append-add, getD-drop}
 use native.Mathlib.Omega.{arith}
 use borrow.Author.Tests.{ltb-false, eqb-true, not-false, le-ltb}
 use Rattle.lists.specs.Truth.{choice-cases, either-cases, not-decided-twice}
 use Rattle.stream.specs.declared.header.Judged.{Judged}
 use Rattle.stream.specs.declared.header.Judged.the-variants.{Stop, KeepAlive, Message}
-use Rattle.stream.specs.Stream.{lengthOf, known, judgeLength, judge, Begins, short, bad, message, beginsBy, begins}
+use Rattle.stream.specs.Stream.{lengthOf, headerOf, known, judgeLength, judge, Begins, short, bad, message, beginsBy, begins}
 
 -- ---- header by header
 
@@ -159,6 +159,14 @@ judged-message a b c d n e =
 pub message-judged : (c d : ℕ) → lengthOf 0 c d ≤ 8192 → judge 0 0 c d ≡ Message (lengthOf 0 c d)
 unfolding judge judgeLength known
 message-judged c d h = rw (le-ltb 8192 (lengthOf 0 c d) h)
+
+-- the header of a message of that length, and what stands behind it
+pub header-begins : (n : ℕ) (s : List ℕ) → n ≤ 8192 → begins (headerOf n ++ s) ≡ message n (headerOf n ++ s)
+unfolding headerOf begins beginsBy lengthOf
+header-begins n s h =
+    let size : lengthOf 0 (n / 256) (n % 256) ≡ n = omega arith in
+    let fits : lengthOf 0 (n / 256) (n % 256) ≤ 8192 = omega arith in
+    rw (message-judged (n / 256) (n % 256) fits, size)
 
 -- a header that stops the reader stops it by 1 to 4
 stop-within : (k n : ℕ) → 1 ≤ k → k ≤ 4 → Stop k ≡ Stop n → (1 ≤ n) × (n ≤ 4)

@@ -2,28 +2,25 @@
 -- Assumes nothing.
 use mathlib.Core.Path.{_≡_, refl, sym, ap, _∙_}
 use Prim.Native.Nat.{ℕ, suc, _+_, _-_, _/_, _%_, _≤_, _<_}
-use native.Mathlib.Nat.{zero-add}
-use mathlib.Core.Bool.{Bool, true, false, cond}
-use mathlib.Core.List.{List, [], _∷_, _++_, append-assoc}
-use lib.Dec.{eqb, leb, ltb}
-use lib.ListN.{length, take, drop, getD, length-append, length-take, length-drop, drop-of-length-le}
+use mathlib.Core.Bool.{true, false}
+use mathlib.Core.List.{List, _∷_, _++_, append-assoc}
+use lib.Dec.{eqb, leb}
+use lib.ListN.{length, take, drop, length-append, length-drop, drop-of-length-le}
 use lib.Seq.{length-take-le, drop-drop, drop-append-add, take-append-add}
 use native.Mathlib.Omega.{arith}
-use borrow.Author.Tests.{le-leb, lt-leb, leb-true, leb-false, lt-ltb, le-ltb, eq-eqb, ne-eqb, eqb-true, eqb-false}
+use borrow.Author.Tests.{le-leb, lt-leb, leb-true, leb-false, lt-ltb, le-ltb, eq-eqb, ne-eqb, eqb-true}
 use Rattle.lists.specs.Truth.{test-cases}
 use Rattle.lists.specs.Put.{put}
 use Rattle.lists.specs.PutLaws.{put-nothing}
 use Rattle.stream.specs.declared.state.State.{State}
-use Rattle.stream.specs.declared.header.Judged.{Judged}
 use Rattle.stream.specs.declared.header.Judged.the-variants.{Message}
-use Rattle.stream.specs.declared.reader.Event.the-variants.{More, InPiece, InBuffer}
-use Rattle.stream.specs.declared.reader.Seen.{Seen}
+use Rattle.stream.specs.declared.reader.Event.the-variants.{More}
 use Rattle.stream.specs.declared.reader.Seen.the-variants.{Short, Bad, Body}
-use Rattle.stream.specs.Stream.{lengthOf, headerOf, judge, Begins, short, bad, message, beginsBy, begins, First, wanted, whole, firstOf, first}
-use Rattle.stream.specs.State.{noneBegun, stoppedBy, headerBegun, messageBegun, begunState, begunBytes, pending, taken}
-use Rattle.stream.specs.Reader.{Read, stepOf, refused, handed, readBy, read}
+use Rattle.stream.specs.Stream.{lengthOf, headerOf, Begins, short, bad, message, begins, firstOf, first}
+use Rattle.stream.specs.State.{stoppedBy, headerBegun, begunState, begunBytes, pending, taken}
+use Rattle.stream.specs.Reader.{stepOf, refused, handed, readBy, read}
 use Rattle.stream.specs.Seen.{seenOf, gathered}
-use Rattle.stream.specs.BeginsLaws.{Shown, shown, Head, message-head, short-few, MessageHeader, judged-message, message-judged, Ends, shown-ends, restOf, ends-drop, ends-in-piece}
+use Rattle.stream.specs.BeginsLaws.{shown, Head, message-head, short-few, judged-message, header-begins, Ends, shown-ends, restOf, ends-drop, ends-in-piece}
 use Rattle.stream.specs.StateLaws.{length-header}
 
 -- ---- the buffer
@@ -159,14 +156,11 @@ module _ (state : State) (buffer piece : List ℕ) (left : taken state ≡ true)
     -- a begun message goes on
     pub read-message : (state .length ≡ 0 → ⊥) → state .length ≤ 8192 → length buffer ≡ 8192 → state .got < state .length
         → read state buffer piece ≡ gathered (state .length) (state .got) buffer piece 0
-    unfolding pending headerOf first begins beginsBy lengthOf
+    unfolding pending headerOf first lengthOf
     read-message h limit whole-buffer more =
         let size : lengthOf 0 (state .length / 256) (state .length % 256) ≡ state .length = omega arith in
-        let fits : lengthOf 0 (state .length / 256) (state .length % 256) ≤ 8192 = omega arith in
-        let judged : judge 0 0 (state .length / 256) (state .length % 256) ≡ Message (state .length) =
-        message-judged (state .length / 256) (state .length % 256) fits ∙ ap Message size in
         read-going
-        ∙ rw (ne-eqb (state .length) 0 h, judged)
+        ∙ rw (ne-eqb (state .length) 0 h, append-assoc, header-begins (state .length) (take (state .got) buffer ++ piece) limit)
         (body-read 0 0 (state .length / 256) (state .length % 256) (state .length) (state .got) 0 buffer piece (omega arith) size (omega arith) (omega arith) state refl)
 
     -- a header goes on

@@ -1,14 +1,14 @@
 -- What the test of a state says of its words, and the bytes begun by the words.
 -- Assumes nothing.
-use mathlib.Core.Path.{_≡_, refl, sym, ap, _∙_}
+use mathlib.Core.Path.{_≡_, ap, _∙_}
 use Prim.Native.Nat.{ℕ, _+_, _-_, _≤_, _<_}
-use mathlib.Core.Bool.{Bool, true, false, cond, _&&_}
+use mathlib.Core.Bool.{true}
 use mathlib.Core.List.{List, [], _∷_, _++_}
 use lib.Dec.{eqb, leb, ltb}
-use lib.ListN.{length, take, drop, getD, length-append, List·getD-append}
+use lib.ListN.{length, drop, getD, length-append, List·getD-append}
 use lib.Seq.{length-take-le, getD-append-add, getD-take, drop-append-add}
 use native.Mathlib.Omega.{arith}
-use borrow.Author.Tests.{eqb-true, leb-true, ltb-true, ltb-false, eq-eqb, ne-eqb}
+use borrow.Author.Tests.{eqb-true, leb-true, ltb-true, eq-eqb, ne-eqb}
 use Rattle.lists.specs.Truth.{both-hold, choice-cases}
 use Rattle.stream.specs.declared.state.State.{State}
 use Rattle.stream.specs.State.{begunBytes, noHeader, noMessage, byteFits, headerFits, messageFits, taken}

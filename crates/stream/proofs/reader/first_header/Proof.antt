@@ -1,7 +1,6 @@
 -- `stream::reader::first_header` meets its contract: the header is judged where its four bytes are in, and the rest of the piece is walked where it is a keep-alive.
 -- Assumes nothing.
-use mathlib.Core.Path.{_≡_, sym, _∙_}
-use Prim.Native.Nat.{_≤_}
+use mathlib.Core.Path.{sym, _∙_}
 use native.Mathlib.Omega.{arith}
 use Rattle.stream.specs.StateLaws.{header-says}
 use Rattle.stream.proofs.FirstHeader.{first-short, first-bad, first-body, first-alive}

@@ -1,6 +1,6 @@
 -- `stream::reader::gather` meets its contract: each answer is the definition's, given the tests before it.
 -- Assumes nothing.
-use mathlib.Core.Path.{refl, sym, ap, _∙_}
+use mathlib.Core.Path.{sym, ap, _∙_}
 use Prim.Native.Nat.{_+_, _-_}
 use lib.ListN.{length}
 use Rattle.stream.specs.declared.state.State.{State}

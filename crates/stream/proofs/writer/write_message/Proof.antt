@@ -1,7 +1,6 @@
 -- `stream::writer::write_message` meets its contract: the refusals in their order, then the header and the message behind it.
 -- Assumes nothing.
 use mathlib.Core.Path.{sym, ap, _∙_}
-use native.Mathlib.Omega.{arith}
 use Rattle.stream.specs.Writer.{Wrote}
 use Rattle.stream.proofs.Writing.{write-long, write-cramped, write-done}
 use borrow.Author.Needs.{needs}
