@@ -6,3 +6,8 @@ pub mod HostReasons
 pub mod LoadBytes
 pub mod RemovalPlain
 pub mod Cases
+pub mod StreamLaws
+pub mod StreamKept
+pub mod StreamCut
+pub mod StreamStates
+pub mod StreamBack
