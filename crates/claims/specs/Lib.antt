@@ -11,3 +11,4 @@ pub mod StreamKept
 pub mod StreamCut
 pub mod StreamStates
 pub mod StreamBack
+pub mod StreamCases

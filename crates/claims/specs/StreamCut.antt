@@ -15,7 +15,7 @@ use borrow.Author.Tests.{eqb-true, eqb-false, eq-eqb, ne-eqb, le-leb}
 use Rattle.stream.specs.declared.state.State.{State}
 use Rattle.stream.specs.declared.header.Judged.the-variants.{Stop}
 use Rattle.stream.specs.declared.reader.Event.{Event}
-use Rattle.stream.specs.declared.reader.Event.the-variants.{More, InPiece, InBuffer}
+use Rattle.stream.specs.declared.reader.Event.the-variants.{NoMessage, InPiece, InBuffer}
 use Rattle.stream.specs.State.{noneBegun, stoppedBy, stateOf, begunBytes, pending, leftOf, noHeader, noMessage, byteFits, headerFits, taken}
 use Rattle.stream.specs.Reader.{Read, stepOf, refused, handed, readBy, read}
 use Rattle.stream.specs.BeginsLaws.{Shown, shown, Head, bad-head, judged-stop}
@@ -115,7 +115,7 @@ handedOut ms d = record { messages = ms ++ d .messages; number = d .number; stat
 
 -- a message is read out of the piece or out of the buffer, and the rest of the piece is the next call's
 unfoldable pub drainOn : Event → Read → List ℕ → (State → List ℕ → List ℕ → Drained) → Drained
-drainOn More r piece next = record { messages = []; number = r .step .number; state = r .step .state; buffer = r .buffer }
+drainOn NoMessage r piece next = record { messages = []; number = r .step .number; state = r .step .state; buffer = r .buffer }
 drainOn (InPiece at size) r piece next = handedOut (take size (drop at piece) ∷ []) (next (r .step .state) (r .buffer) (drop (r .step .taken) piece))
 drainOn (InBuffer size) r piece next = handedOut (take size (r .buffer) ∷ []) (next (r .step .state) (r .buffer) (drop (r .step .taken) piece))
 
@@ -333,6 +333,6 @@ reader-in-one pieces b buffer room =
 
 -- "A stopped reader hands out nothing until reset and answers its number again", and nothing changes
 pub reader-stopped : (state : State) (buffer piece : List ℕ) → taken state ≡ true → (state .stopped ≡ 0 → ⊥)
-    → read state buffer piece ≡ record { step = record { number = state .stopped; taken = 0; event = More; state = state }; buffer = buffer }
+    → read state buffer piece ≡ record { step = record { number = state .stopped; taken = 0; event = NoMessage; state = state }; buffer = buffer }
 unfolding refused stepOf
 reader-stopped state buffer piece left h = read-stopped state buffer piece left h

@@ -10,7 +10,7 @@ use native.Mathlib.Omega.{arith}
 use borrow.Author.Tests.{eqb-true, eqb-false, ltb-true, ltb-false}
 use Rattle.lists.specs.Truth.{test-cases, fails}
 use Rattle.stream.specs.declared.state.State.{State}
-use Rattle.stream.specs.declared.reader.Event.the-variants.{More}
+use Rattle.stream.specs.declared.reader.Event.the-variants.{NoMessage}
 use Rattle.stream.specs.Stream.{headerOf, lengthOf, known, judgeLength, judge, beginsBy, begins, First, wanted, stops, whole, firstOf, first, carriedBy, carriedWithin, carried, stopped}
 use Rattle.stream.specs.State.{stateOf, begunBytes, pending, taken}
 use Rattle.stream.specs.Reader.{stepOf, refused, handed, readBy, read}
@@ -138,7 +138,7 @@ passes-left state left =
 
 -- of any other state the answer is 5; nothing is taken, and neither state nor buffer changes
 pub not-left-five : (state : State) → (LeftBySome state → ⊥) → (buffer piece : List ℕ)
-    → read state buffer piece ≡ record { step = record { number = 5; taken = 0; event = More; state = state }; buffer = buffer }
+    → read state buffer piece ≡ record { step = record { number = 5; taken = 0; event = NoMessage; state = state }; buffer = buffer }
 unfolding refused stepOf
 not-left-five state h buffer piece = read-not-left state buffer piece (fails (taken state) λ e. h (passes-left state e))
 

@@ -9,14 +9,14 @@ use native.Mathlib.Omega.{arith}
 use native.Mathlib.Nat.{le-of-eq}
 use borrow.Author.Tests.{lt-leb, le-leb, eq-eqb, ne-eqb}
 use Rattle.lists.specs.Put.{put}
-use Rattle.stream.specs.declared.reader.Event.the-variants.{More, InPiece, InBuffer}
+use Rattle.stream.specs.declared.reader.Event.the-variants.{NoMessage, InPiece, InBuffer}
 use Rattle.stream.specs.State.{noneBegun, messageBegun}
 use Rattle.stream.specs.Reader.{stepOf}
 use Rattle.stream.specs.Seen.{gathered}
 
 module _ (size got : ℕ) (buffer piece : List ℕ) (at : ℕ) where
   pub gather-wanted : length piece - at < size - got → (after : List ℕ) → after ≡ put buffer got (take (length piece - at) (drop at piece))
-      → gathered size got buffer piece at ≡ record { step = stepOf 0 (length piece) More (messageBegun size (got + (length piece - at))); buffer = after }
+      → gathered size got buffer piece at ≡ record { step = stepOf 0 (length piece) NoMessage (messageBegun size (got + (length piece - at))); buffer = after }
   unfolding gathered
   gather-wanted h after e =
       rw (lt-leb (size - got) (length piece - at) h, e, take-all (length piece - at) (drop at piece) (le-of-eq (length-drop at piece)))

@@ -8,7 +8,7 @@ use lib.ListN.{length, drop}
 use Rattle.lists.specs.Put.{put}
 use Rattle.stream.specs.declared.state.State.{State}
 use Rattle.stream.specs.declared.reader.Event.{Event}
-use Rattle.stream.specs.declared.reader.Event.the-variants.{More, InPiece, InBuffer}
+use Rattle.stream.specs.declared.reader.Event.the-variants.{NoMessage, InPiece, InBuffer}
 use Rattle.stream.specs.declared.reader.Step.{Step}
 use Rattle.stream.specs.Stream.{First, wanted, stops, whole, first}
 use Rattle.stream.specs.State.{noneBegun, stoppedBy, begunState, pending, taken}
@@ -23,7 +23,7 @@ stepOf number taken event state = record { number = number; taken = taken; event
 
 -- nothing is taken and nothing changes
 unfoldable pub refused : ℕ → State → List ℕ → Read
-refused number state buffer = record { step = stepOf number 0 More state; buffer = buffer }
+refused number state buffer = record { step = stepOf number 0 NoMessage state; buffer = buffer }
 
 -- a message whole: none of its bytes was taken by an earlier call, so it is a part of the piece; or it is gathered in the buffer, from 0 on
 unfoldable pub handed : State → List ℕ → List ℕ → List ℕ → ℕ → Read
@@ -36,8 +36,8 @@ handed state buffer piece m end =
 -- thing taken. Of a whole message the piece is taken up to its end.
 unfoldable pub readBy : State → List ℕ → List ℕ → First → Read
 readBy state buffer piece (wanted s) =
-    record { step = stepOf 0 (length piece) More (begunState s); buffer = put buffer 0 (drop 4 s) }
-readBy state buffer piece (stops n s) = record { step = stepOf n (length piece - length s) More (stoppedBy n); buffer = buffer }
+    record { step = stepOf 0 (length piece) NoMessage (begunState s); buffer = put buffer 0 (drop 4 s) }
+readBy state buffer piece (stops n s) = record { step = stepOf n (length piece - length s) NoMessage (stoppedBy n); buffer = buffer }
 readBy state buffer piece (whole m s) = handed state buffer piece m (length piece - length s)
 
 -- "A reader state that no stream leaves is 5, before these, and nothing changes." "A stopped reader hands out nothing until reset and answers

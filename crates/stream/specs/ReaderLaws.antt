@@ -14,7 +14,7 @@ use Rattle.lists.specs.Put.{put}
 use Rattle.lists.specs.PutLaws.{put-nothing}
 use Rattle.stream.specs.declared.state.State.{State}
 use Rattle.stream.specs.declared.header.Judged.the-variants.{Message}
-use Rattle.stream.specs.declared.reader.Event.the-variants.{More}
+use Rattle.stream.specs.declared.reader.Event.the-variants.{NoMessage}
 use Rattle.stream.specs.declared.reader.Seen.the-variants.{Short, Bad, Body}
 use Rattle.stream.specs.Stream.{lengthOf, headerOf, Begins, short, bad, message, begins, firstOf, first}
 use Rattle.stream.specs.State.{stoppedBy, headerBegun, begunState, begunBytes, pending, taken}
@@ -170,7 +170,7 @@ module _ (state : State) (buffer piece : List ℕ) (left : taken state ≡ true)
       read-header x e = read-going ∙ rw (eq-eqb (state .length) 0 none, e)
 
       pub read-short : (next : State) → seenOf (begins (begunBytes state ++ piece)) (length piece) ≡ Short next
-          → read state buffer piece ≡ record { step = stepOf 0 (length piece) More next; buffer = buffer }
+          → read state buffer piece ≡ record { step = stepOf 0 (length piece) NoMessage next; buffer = buffer }
       unfolding readBy firstOf begunState
       read-short next e =
           let seen = short-seen (begins (begunBytes state ++ piece)) (length piece) next e in
@@ -180,7 +180,7 @@ module _ (state : State) (buffer piece : List ℕ) (left : taken state ≡ true)
           ∙ rw (lt-ltb (length (seen .rest)) 4 few, ← (seen .same), drop-of-length-le (seen .rest) past, put-nothing buffer 0)
 
       pub read-bad : (n at : ℕ) → seenOf (begins (begunBytes state ++ piece)) (length piece) ≡ Bad n at
-          → read state buffer piece ≡ record { step = stepOf n at More (stoppedBy n); buffer = buffer }
+          → read state buffer piece ≡ record { step = stepOf n at NoMessage (stoppedBy n); buffer = buffer }
       unfolding readBy firstOf
       read-bad n at e =
           let seen = bad-seen (begins (begunBytes state ++ piece)) (length piece) n at e in

@@ -6,7 +6,7 @@ use mathlib.Core.List.{List}
 use lib.Dec.{eqb, leb}
 use lib.ListN.{length, take, drop}
 use Rattle.lists.specs.Put.{put}
-use Rattle.stream.specs.declared.reader.Event.the-variants.{More, InPiece, InBuffer}
+use Rattle.stream.specs.declared.reader.Event.the-variants.{NoMessage, InPiece, InBuffer}
 use Rattle.stream.specs.declared.reader.Seen.{Seen}
 use Rattle.stream.specs.declared.reader.Seen.the-variants.{Short, Bad, Body}
 use Rattle.stream.specs.Stream.{Begins, short, bad, message}
@@ -26,4 +26,4 @@ gathered size got buffer piece at =
     (cond (eqb got 0)
     (record { step = stepOf 0 (at + size) (InPiece at size) noneBegun; buffer = buffer })
     (record { step = stepOf 0 (at + (size - got)) (InBuffer size) noneBegun; buffer = put buffer got (take (size - got) (drop at piece)) }))
-    (record { step = stepOf 0 (length piece) More (messageBegun size (got + (length piece - at))); buffer = put buffer got (drop at piece) })
+    (record { step = stepOf 0 (length piece) NoMessage (messageBegun size (got + (length piece - at))); buffer = put buffer got (drop at piece) })

@@ -22,15 +22,16 @@ ghost use Rattle.stream.specs.State.{begunBytes, headerFits};
 ghost use Rattle.stream.specs.Reader.{stepOf, read};
 ghost use Rattle.stream.specs.Seen.{seenOf, gathered};
 
-// More bytes are wanted; or a message is whole, as a part of the piece from a place on and of a length, or in the buffer from 0
-// on and of a length.
+// No message became whole; or one did, as a part of the piece from a place on and of a length, or in the buffer from 0 on and of
+// a length.
 pub enum Event {
-    More,
+    NoMessage,
     InPiece(usize, usize),
     InBuffer(usize),
 }
 
-// What a call gives: 0 or the number of a refusal, how many bytes of the piece it took, and the state for the next call.
+// What a call gives: 0 or the number of a refusal, how many bytes of the piece it took, whether a message became whole, and the state
+// for the next call. With 0 and no message all of the piece was taken and more is wanted.
 pub struct Step {
     pub number: u8,
     pub taken: usize,
@@ -39,7 +40,7 @@ pub struct Step {
 }
 
 // The state of a begun header; or a header that stops the reader or that is a message's, with the place behind it.
-pub enum Seen {
+enum Seen {
     Short(State),
     Bad(u8, usize),
     Body(usize, usize),
@@ -147,7 +148,7 @@ fn gather(size: usize, got: usize, buffer: &mut [u8], piece: &[u8], at: usize) -
         return answer(
             0,
             piece.len(),
-            Event::More,
+            Event::NoMessage,
             message_begun(size, got + there),
         );
     }
@@ -166,19 +167,19 @@ pub fn read_piece(state: State, buffer: &mut [u8; 8192], piece: &[u8]) -> Step
     ensures { λ _. ⌜ now (buffer .exit) ≡ read state (now (buffer .entry)) (now (piece .entry)) .buffer ⌝ }
 {
     if !is_left(state) {
-        return answer(NOT_LEFT, 0, Event::More, state);
+        return answer(NOT_LEFT, 0, Event::NoMessage, state);
     }
     let stopped = state.stopped;
     if stopped != 0 {
-        return answer(stopped as u8, 0, Event::More, state);
+        return answer(stopped as u8, 0, Event::NoMessage, state);
     }
     if state.length != 0 {
         return gather(state.length as usize, state.got as usize, buffer, piece, 0);
     }
     let seen = first_header(state, piece);
     match seen {
-        Seen::Short(next) => answer(0, piece.len(), Event::More, next),
-        Seen::Bad(n, at) => answer(n, at, Event::More, stopped_by(n)),
+        Seen::Short(next) => answer(0, piece.len(), Event::NoMessage, next),
+        Seen::Bad(n, at) => answer(n, at, Event::NoMessage, stopped_by(n)),
         Seen::Body(size, at) => gather(size, 0, buffer, piece, at),
     }
 }

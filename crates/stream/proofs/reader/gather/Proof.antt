@@ -4,7 +4,7 @@ use mathlib.Core.Path.{sym, ap, _∙_}
 use Prim.Native.Nat.{_+_, _-_}
 use lib.ListN.{length}
 use Rattle.stream.specs.declared.state.State.{State}
-use Rattle.stream.specs.declared.reader.Event.the-variants.{More, InPiece, InBuffer}
+use Rattle.stream.specs.declared.reader.Event.the-variants.{NoMessage, InPiece, InBuffer}
 use Rattle.stream.specs.Reader.{Read, stepOf}
 use Rattle.stream.proofs.Gathering.{gather-wanted, gather-part, gather-whole}
 use borrow.Author.Needs.{needs}
@@ -44,7 +44,7 @@ same-length c = search needs
 returns : tie.Need-returns
 returns c =
     let e = gather-wanted (c .before .before .before .before .before .before .before .before .before .before .args .size) (c .before .before .before .before .before .before .before .before .before .before .args .got) (c .before .before .before .before .before .before .before .before .before .before .args .buffer .now) (c .before .before .before .before .before .before .before .before .before .before .args .piece .now) (c .before .before .before .before .before .before .before .before .before .before .args .at) (c .before .before .before .before .before .before .before .if1 .taken) (c .before .before .before .before .add-bytes .last .1 .0) (c .before .before .before .before .add-bytes .ensures) in
-    (c .answer .ensures ∙ ap (λ (x : State). stepOf 0 (length (c .before .before .before .before .before .before .before .before .before .before .args .piece .now)) More x) (c .before .message-begun .ensures) ∙ sym (ap (λ (x : Read). x .step) e), sym (ap (λ (x : Read). x .buffer) e))
+    (c .answer .ensures ∙ ap (λ (x : State). stepOf 0 (length (c .before .before .before .before .before .before .before .before .before .before .args .piece .now)) NoMessage x) (c .before .message-begun .ensures) ∙ sym (ap (λ (x : Read). x .step) e), sym (ap (λ (x : Read). x .buffer) e))
 
 add-end : tie.Need-add-end
 add-end c = search needs

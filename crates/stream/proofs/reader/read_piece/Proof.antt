@@ -5,7 +5,7 @@ use lib.ListN.{length}
 use native.Mathlib.Omega.{arith}
 use borrow.Author.Tests.{not-true, not-false}
 use Rattle.stream.specs.declared.state.State.{State}
-use Rattle.stream.specs.declared.reader.Event.the-variants.{More}
+use Rattle.stream.specs.declared.reader.Event.the-variants.{NoMessage}
 use Rattle.stream.specs.Reader.{Read, stepOf, refused}
 use Rattle.stream.specs.StateLaws.{header-says, taken-stopped, taken-header, taken-message}
 use Rattle.stream.specs.ReaderLaws.{read-not-left, read-stopped, read-message, read-short, read-bad, read-body, body-place, body-limit}
@@ -88,7 +88,7 @@ returns-4 c =
 returns-5 : tie.Need-returns-5
 returns-5 c =
     let e = read-bad (c .before .before .before .before .before .before .before .before .before .before .before .before .args .state) (c .before .before .before .before .before .before .before .before .before .before .before .before .args .buffer .now) (c .before .before .before .before .before .before .before .before .before .before .before .before .args .piece .now) (sym (c .before .before .before .before .before .before .before .before .before .before .is-left .ensures) ∙ not-false (c .before .before .before .before .before .before .before .before .before .before .is-left .result) (c .before .before .before .before .before .before .before .before .before .if1 .left)) (c .before .before .before .before .before .before .before .before .if2 .left) (c .before .before .before .before .before .before .if3 .left) (c .before .before .before .seen2 .given .0 .0) (c .before .before .before .seen2 .given .0 .1 .0) (sym (c .before .before .before .before .before .first-header .ensures) ∙ c .before .before .before .seen2 .given .1) in
-    (c .answer4 .ensures ∙ ap (λ (x : State). stepOf (c .before .before .before .seen2 .given .0 .0) (c .before .before .before .seen2 .given .0 .1 .0) More x) (c .before .stopped-by .ensures) ∙ sym (ap (λ (x : Read). x .step) e), sym (ap (λ (x : Read). x .buffer) e))
+    (c .answer4 .ensures ∙ ap (λ (x : State). stepOf (c .before .before .before .seen2 .given .0 .0) (c .before .before .before .seen2 .given .0 .1 .0) NoMessage x) (c .before .stopped-by .ensures) ∙ sym (ap (λ (x : Read). x .step) e), sym (ap (λ (x : Read). x .buffer) e))
 
 returns-6 : tie.Need-returns-6
 returns-6 c =
