@@ -4,7 +4,7 @@ use Prim.Native.Nat.{ℕ}
 use mathlib.Core.List.{List, [], _∷_}
 use Rattle.stream.specs.declared.reader.Event.the-variants.{NoMessage, InPiece}
 use Rattle.stream.specs.Stream.{lengthOf, known, judgeLength, judge, beginsBy, begins, firstOf, first, withMessage, carriedBy, carriedWithin, carried, begun, stopped}
-use Rattle.stream.specs.State.{noneBegun, stoppedBy, begunBytes, pending, byteFits, headerFits, taken}
+use Rattle.stream.specs.State.{noneBegun, stoppedBy, begunBytes, pending, byteFits, headerFits, isLeft}
 use Rattle.stream.specs.Reader.{stepOf, handed, readBy, read}
 
 -- a message of one byte, a keep-alive, a message of none, and a header of another type with a byte behind it: "messages before stand"
@@ -47,11 +47,11 @@ one-longer = refl
 -- one call: a message whole in the piece is a part of it, and what stands behind it is left for the next call
 in-the-piece : (buffer : List ℕ) → read noneBegun buffer (0 ∷ 0 ∷ 0 ∷ 2 ∷ 7 ∷ 8 ∷ 9 ∷ [])
     ≡ record { step = stepOf 0 6 (InPiece 4 2) noneBegun; buffer = buffer }
-unfolding read taken noneBegun headerFits byteFits pending begunBytes readBy handed first firstOf begins beginsBy judge judgeLength known lengthOf
+unfolding read isLeft noneBegun headerFits byteFits pending begunBytes readBy handed first firstOf begins beginsBy judge judgeLength known lengthOf
 in-the-piece buffer = refl
 
 -- a header that stops the reader is the last thing taken
 stop-taken : (buffer : List ℕ) → read noneBegun buffer (133 ∷ 0 ∷ 0 ∷ 0 ∷ 129 ∷ 0 ∷ 0 ∷ 0 ∷ 5 ∷ [])
     ≡ record { step = stepOf 1 8 NoMessage (stoppedBy 1); buffer = buffer }
-unfolding read taken noneBegun headerFits byteFits pending begunBytes readBy first firstOf begins beginsBy judge judgeLength known lengthOf
+unfolding read isLeft noneBegun headerFits byteFits pending begunBytes readBy first firstOf begins beginsBy judge judgeLength known lengthOf
 stop-taken buffer = refl

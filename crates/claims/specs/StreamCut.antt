@@ -16,10 +16,10 @@ use Rattle.stream.specs.declared.state.State.{State}
 use Rattle.stream.specs.declared.header.Judged.the-variants.{Stop}
 use Rattle.stream.specs.declared.reader.Event.{Event}
 use Rattle.stream.specs.declared.reader.Event.the-variants.{NoMessage, InPiece, InBuffer}
-use Rattle.stream.specs.State.{noneBegun, stoppedBy, stateOf, begunBytes, pending, leftOf, noHeader, noMessage, byteFits, headerFits, taken}
+use Rattle.stream.specs.State.{noneBegun, stoppedBy, stateOf, begunBytes, pending, leftOf, noHeader, noMessage, byteFits, headerFits, isLeft}
 use Rattle.stream.specs.Reader.{Read, stepOf, refused, handed, readBy, read}
 use Rattle.stream.specs.BeginsLaws.{Shown, shown, Head, bad-head, judged-stop}
-use Rattle.stream.specs.StateLaws.{StoppedWords, taken-stopped}
+use Rattle.stream.specs.StateLaws.{StoppedWords, is-left-stopped}
 use Rattle.stream.specs.ReaderLaws.{read-stopped, read-going}
 use Rattle.stream.specs.Stream.{Begins, short, bad, message, begins, First, wanted, stops, whole, firstOf, first, Carried, withMessage, carriedBy, carriedWithin, carried, Left, begun, stopped, fed, after, fedAll}
 use Rattle.claims.specs.StreamLaws.{firstGrown, first-grown, first-again, first-shorter, carried-step}
@@ -145,7 +145,7 @@ pub record Same (d : Drained) (c : Carried) : Type 0 where
   pub number : d .number ≡ numberOf (c .left)
   pub state : d .state ≡ stateOf (c .left)
   pub left : leftOf (d .state) (d .buffer) ≡ c .left
-  pub test : taken (d .state) ≡ true
+  pub test : isLeft (d .state) ≡ true
   pub room : length (d .buffer) ≡ 8192
 
 same-after : (ms : List (List ℕ)) (d : Drained) (c : Carried) → Same d c → Same (handedOut ms d) (after ms c)
@@ -168,8 +168,8 @@ stopped-words state w = λ i.
     }
 
 -- the state of a reader that a header stopped
-stopped-kept : (n : ℕ) (buffer : List ℕ) → (1 ≤ n) × (n ≤ 4) → (leftOf (stoppedBy n) buffer ≡ stopped n) × (taken (stoppedBy n) ≡ true)
-unfolding leftOf stoppedBy taken noHeader noMessage
+stopped-kept : (n : ℕ) (buffer : List ℕ) → (1 ≤ n) × (n ≤ 4) → (leftOf (stoppedBy n) buffer ≡ stopped n) × (isLeft (stoppedBy n) ≡ true)
+unfolding leftOf stoppedBy isLeft noHeader noMessage
 stopped-kept n buffer h =
     let low = h .0 in
     let some : n ≡ 0 → ⊥ = λ e. let z : ⊥ = omega arith in z in
@@ -193,7 +193,7 @@ stops-number s n rest e = stops-by (begins s) (shown s) n rest e
 
 -- ---- one call
 
-module _ (state : State) (buffer piece : List ℕ) (left : taken state ≡ true) (going : state .stopped ≡ 0) (room : length buffer ≡ 8192) (b : Bytes piece) where
+module _ (state : State) (buffer piece : List ℕ) (left : isLeft state ≡ true) (going : state .stopped ≡ 0) (room : length buffer ≡ 8192) (b : Bytes piece) where
   same-wanted : (q : List ℕ) → first (pending state buffer ++ piece) ≡ wanted q → (next : State → List ℕ → List ℕ → Drained)
       → Same (drainOn (readBy state buffer piece (wanted q) .step .event) (readBy state buffer piece (wanted q)) piece next) (carriedBy (wanted q) carried)
   unfolding drainOn readBy stepOf carriedBy numberOf stateOf
@@ -243,12 +243,12 @@ module _ (state : State) (buffer piece : List ℕ) (left : taken state ≡ true)
 
 -- ---- one piece
 
-stopped-same : (state : State) (buffer : List ℕ) → taken state ≡ true → length buffer ≡ 8192 → (state .stopped ≡ 0 → ⊥) → (piece : List ℕ) (next : State → List ℕ → List ℕ → Drained)
+stopped-same : (state : State) (buffer : List ℕ) → isLeft state ≡ true → length buffer ≡ 8192 → (state .stopped ≡ 0 → ⊥) → (piece : List ℕ) (next : State → List ℕ → List ℕ → Drained)
     → Same (drainOn (refused (state .stopped) state buffer .step .event) (refused (state .stopped) state buffer) piece next) (fed (leftOf state buffer) piece)
 unfolding drainOn refused stepOf leftOf fed numberOf stateOf
 stopped-same state buffer left room h piece next =
     rw (ne-eqb (state .stopped) 0 h)
-    (record { messages = refl; number = refl; state = stopped-words state (taken-stopped state left h); left = rw (ne-eqb (state .stopped) 0 h); test = left; room = room })
+    (record { messages = refl; number = refl; state = stopped-words state (is-left-stopped state left h); left = rw (ne-eqb (state .stopped) 0 h); test = left; room = room })
 
 left-begun : (state : State) (buffer : List ℕ) → state .stopped ≡ 0 → leftOf state buffer ≡ begun (pending state buffer)
 unfolding leftOf
@@ -258,8 +258,8 @@ left-stopped : (state : State) (buffer : List ℕ) → (state .stopped ≡ 0 →
 unfolding leftOf
 left-stopped state buffer h = rw (ne-eqb (state .stopped) 0 h)
 
-none-begun : (buffer : List ℕ) → (taken noneBegun ≡ true) × (leftOf noneBegun buffer ≡ begun [])
-unfolding noneBegun taken leftOf pending begunBytes headerFits byteFits
+none-begun : (buffer : List ℕ) → (isLeft noneBegun ≡ true) × (leftOf noneBegun buffer ≡ begun [])
+unfolding noneBegun isLeft leftOf pending begunBytes headerFits byteFits
 none-begun buffer = (refl, refl)
 
 nothing-before : {d : Drained} (buffer rest : List ℕ) → Same d (fed (leftOf noneBegun buffer) rest) → Same d (carried rest)
@@ -270,7 +270,7 @@ in-one : {d : Drained} (p piece : List ℕ) → Same d (carriedBy (first (p ++ p
 unfolding fed
 in-one p piece s = rw (carried-step (p ++ piece)) s
 
-drained-within : (calls : ℕ) (state : State) (buffer piece : List ℕ) → length piece < calls → taken state ≡ true → length buffer ≡ 8192 → Bytes piece
+drained-within : (calls : ℕ) (state : State) (buffer piece : List ℕ) → length piece < calls → isLeft state ≡ true → length buffer ≡ 8192 → Bytes piece
     → Same (drainWithin calls state buffer piece) (fed (leftOf state buffer) piece)
 unfolding drainWithin
 drained-within zero state buffer piece h left room b = absurd (let z : ⊥ = omega arith in z)
@@ -287,7 +287,7 @@ drained-within (suc calls) state buffer piece h left room b =
     rw (read-stopped state buffer piece left stop) (stopped-same state buffer left room stop piece (λ s c p. drainWithin calls s c p)))
 
 -- a host that calls the reader on a piece until more is wanted gets what the definition says
-pub drained-same : (state : State) (buffer piece : List ℕ) → taken state ≡ true → length buffer ≡ 8192 → Bytes piece
+pub drained-same : (state : State) (buffer piece : List ℕ) → isLeft state ≡ true → length buffer ≡ 8192 → Bytes piece
     → Same (drained state buffer piece) (fed (leftOf state buffer) piece)
 unfolding drained
 drained-same state buffer piece left room b = drained-within (suc (length piece)) state buffer piece (let z : length piece < suc (length piece) = omega arith in z) left room b
@@ -299,7 +299,7 @@ pub data AllBytes : List (List ℕ) → Type 0 where
   one-more : {p : List ℕ} {ps : List (List ℕ)} → Bytes p → AllBytes ps → AllBytes (p ∷ ps)
 
 -- before any piece
-none-drained : (state : State) (buffer : List ℕ) → taken state ≡ true → length buffer ≡ 8192
+none-drained : (state : State) (buffer : List ℕ) → isLeft state ≡ true → length buffer ≡ 8192
     → Same (record { messages = []; number = state .stopped; state = state; buffer = buffer }) (fed (leftOf state buffer) [])
 unfolding fed numberOf stateOf carriedBy
 none-drained state buffer left room =
@@ -312,10 +312,10 @@ none-drained state buffer left room =
     let stop = eqb-false (state .stopped) 0 e in
     let same : leftOf state buffer ≡ stopped (state .stopped) = left-stopped state buffer stop in
     rw same
-    (record { messages = refl; number = refl; state = stopped-words state (taken-stopped state left stop); left = same; test = left; room = room }))
+    (record { messages = refl; number = refl; state = stopped-words state (is-left-stopped state left stop); left = same; test = left; room = room }))
 
 -- "However the stream is cut, the messages handed out and the state left are those of the stream in one piece"
-pub reader-however-cut : (pieces : List (List ℕ)) → AllBytes pieces → (state : State) (buffer : List ℕ) → taken state ≡ true → length buffer ≡ 8192
+pub reader-however-cut : (pieces : List (List ℕ)) → AllBytes pieces → (state : State) (buffer : List ℕ) → isLeft state ≡ true → length buffer ≡ 8192
     → Same (drainedAll state buffer pieces) (fed (leftOf state buffer) (flatten pieces))
 unfolding drainedAll flatten
 reader-however-cut [] no-pieces state buffer left room = none-drained state buffer left room
@@ -332,7 +332,7 @@ reader-in-one pieces b buffer room =
     nothing-before buffer (flatten pieces) (reader-however-cut pieces b noneBegun buffer (none-begun buffer .0) room)
 
 -- "A stopped reader hands out nothing until reset and answers its number again", and nothing changes
-pub reader-stopped : (state : State) (buffer piece : List ℕ) → taken state ≡ true → (state .stopped ≡ 0 → ⊥)
+pub reader-stopped : (state : State) (buffer piece : List ℕ) → isLeft state ≡ true → (state .stopped ≡ 0 → ⊥)
     → read state buffer piece ≡ record { step = record { number = state .stopped; taken = 0; event = NoMessage; state = state }; buffer = buffer }
 unfolding refused stepOf
 reader-stopped state buffer piece left h = read-stopped state buffer piece left h

@@ -14,10 +14,10 @@ use Rattle.lists.specs.Put.{put}
 use Rattle.stream.specs.declared.state.State.{State}
 use Rattle.stream.specs.declared.header.Judged.the-variants.{Message}
 use Rattle.stream.specs.Stream.{lengthOf, headerOf, Begins, short, bad, message, begins, wanted, whole, firstOf, first, begun, stopped}
-use Rattle.stream.specs.State.{headerWords, headerBegun, messageBegun, begunState, begunBytes, pending, leftOf, noHeader, byteFits, headerFits, messageFits, taken}
+use Rattle.stream.specs.State.{headerWords, headerBegun, messageBegun, begunState, begunBytes, pending, leftOf, noHeader, byteFits, headerFits, messageFits, isLeft}
 use Rattle.stream.specs.BeginsLaws.{Shown, shown, begins-short, restOf, shown-ends, Ends, Head, message-head, short-few, judged-message, header-begins, ends-drop, ends-in-piece}
 use Rattle.claims.specs.StreamLaws.{WholeSeen, whole-seen, whole-size, whole-left, whole-length}
-use Rattle.stream.specs.StateLaws.{ByteWord, HeaderWords, MessageWords, header-says, taken-header, taken-message, length-begun, header-in, header-behind}
+use Rattle.stream.specs.StateLaws.{ByteWord, HeaderWords, MessageWords, header-says, is-left-header, is-left-message, length-begun, header-in, header-behind}
 
 -- ---- bytes
 
@@ -107,7 +107,7 @@ wanted-ends s q e = rw (wanted-rest (begins s) q e) at (shown-ends (shown s))
 
 pub record Kept (q buffer : List ℕ) : Type 0 where
   pub left : leftOf (begunState q) buffer ≡ begun q
-  pub test : taken (begunState q) ≡ true
+  pub test : isLeft (begunState q) ≡ true
 
 byte-kept : (q : List ℕ) (i : ℕ) → getD q i 0 < 256 → byteFits i (length q) (getD q i 0) ≡ true
 unfolding byteFits
@@ -124,7 +124,7 @@ begun-same (a ∷ b ∷ c ∷ []) h = refl
 begun-same (a ∷ b ∷ c ∷ d ∷ s) h = absurd (let z : ⊥ = omega arith in z)
 
 header-kept : (q buffer : List ℕ) → length q < 4 → ((i : ℕ) → i < 4 → getD q i 0 < 256) → Kept q buffer
-unfolding begunState headerBegun headerWords leftOf pending begunBytes taken headerFits
+unfolding begunState headerBegun headerWords leftOf pending begunBytes isLeft headerFits
 header-kept q buffer few small =
     record {
       left = rw (lt-ltb (length q) 4 few) (ap begun (begun-same q few));
@@ -133,7 +133,7 @@ header-kept q buffer few small =
 
 message-kept : (n c d : ℕ) (body buffer : List ℕ) → lengthOf 0 c d ≡ n → n ≤ 8192 → c < 256 → d < 256 → length body < n
     → take (length body) buffer ≡ body → Kept (0 ∷ 0 ∷ c ∷ d ∷ body) buffer
-unfolding begunState messageBegun leftOf pending headerOf taken noHeader messageFits lengthOf
+unfolding begunState messageBegun leftOf pending headerOf isLeft noHeader messageFits lengthOf
 message-kept n c d body buffer size limit small small′ more stands =
     let long : 4 ≤ length (0 ∷ 0 ∷ c ∷ d ∷ body) = omega arith in
     let in-now : length (0 ∷ 0 ∷ c ∷ d ∷ body) - 4 ≡ length body = omega arith in
@@ -278,17 +278,17 @@ header-small n h s (suc (suc (suc zero))) less = omega arith
 header-small n h s (suc (suc (suc (suc i)))) less = absurd (let z : ⊥ = omega arith in z)
 
 -- a header begun by bytes is of bytes
-pub wanted-bytes : (state : State) (buffer piece q : List ℕ) → taken state ≡ true → state .stopped ≡ 0 → Bytes piece
+pub wanted-bytes : (state : State) (buffer piece q : List ℕ) → isLeft state ≡ true → state .stopped ≡ 0 → Bytes piece
     → first (pending state buffer ++ piece) ≡ wanted q → (i : ℕ) → i < 4 → getD q i 0 < 256
 unfolding first restOf
 wanted-bytes state buffer piece q left going b e i h =
     test-cases (eqb (state .length) 0)
     (λ none.
-    let w = header-says state (taken-header state left going (eqb-true (state .length) 0 none) .0) in
+    let w = header-says state (is-left-header state left going (eqb-true (state .length) 0 none) .0) in
     let all : Bytes (pending state buffer ++ piece) = rw (pending-header state buffer none) (bytes-header state w piece b) in
     bytes-ends all (wanted-ends (pending state buffer ++ piece) q e) .small i)
     (λ some.
-    let limit = taken-message state left going (eqb-false (state .length) 0 some) .limit in
+    let limit = is-left-message state left going (eqb-false (state .length) 0 some) .limit in
     let shape : pending state buffer ++ piece ≡ headerOf (state .length) ++ (take (state .got) buffer ++ piece) =
     rw (pending-message state buffer some) (append-assoc (headerOf (state .length)) (take (state .got) buffer) piece) in
     let opens : begins (pending state buffer ++ piece) ≡ message (state .length) (pending state buffer ++ piece) =
@@ -297,12 +297,12 @@ wanted-bytes state buffer piece q left going b e i h =
     rw (← same, shape) (header-small (state .length) limit (take (state .got) buffer ++ piece) i h))
 
 -- of a state that some stream leaves
-pub going-whole : (state : State) (buffer piece m rest : List ℕ) → taken state ≡ true → state .stopped ≡ 0 → length buffer ≡ 8192
+pub going-whole : (state : State) (buffer piece m rest : List ℕ) → isLeft state ≡ true → state .stopped ≡ 0 → length buffer ≡ 8192
     → first (pending state buffer ++ piece) ≡ whole m rest → InThePiece (state .got) piece m rest
 going-whole state buffer piece m rest left going size e =
     test-cases (eqb (state .length) 0)
-    (λ none. header-whole state buffer piece m rest (taken-header state left going (eqb-true (state .length) 0 none)) (pending-header state buffer none) e)
-    (λ some. message-whole state buffer piece m rest (taken-message state left going (eqb-false (state .length) 0 some)) size (pending-message state buffer some) e)
+    (λ none. header-whole state buffer piece m rest (is-left-header state left going (eqb-true (state .length) 0 none)) (pending-header state buffer none) e)
+    (λ some. message-whole state buffer piece m rest (is-left-message state left going (eqb-false (state .length) 0 some)) size (pending-message state buffer some) e)
 
 -- ---- the state says what is left, and what is left says the state
 
@@ -354,16 +354,16 @@ message-state s buffer w going room =
       got = in-now i;
     })
 
-module _ (state : State) (buffer : List ℕ) (left : taken state ≡ true) (going : state .stopped ≡ 0) (room : length buffer ≡ 8192) where
+module _ (state : State) (buffer : List ℕ) (left : isLeft state ≡ true) (going : state .stopped ≡ 0) (room : length buffer ≡ 8192) where
   pub going-state : begunState (pending state buffer) ≡ state
   going-state =
       test-cases (eqb (state .length) 0)
       (λ none.
       let zero-length = eqb-true (state .length) 0 none in
-      let h = taken-header state left going zero-length in
+      let h = is-left-header state left going zero-length in
       rw (pending-header state buffer none) (header-state state (header-says state (h .0)) going zero-length (h .1)))
       (λ some.
-      rw (pending-message state buffer some) (message-state state buffer (taken-message state left going (eqb-false (state .length) 0 some)) going room))
+      rw (pending-message state buffer some) (message-state state buffer (is-left-message state left going (eqb-false (state .length) 0 some)) going room))
 
   -- the bytes begun are no message and no bad header
   pub pending-wanted : first (pending state buffer) ≡ wanted (pending state buffer)
@@ -371,12 +371,12 @@ module _ (state : State) (buffer : List ℕ) (left : taken state ≡ true) (goin
   pending-wanted =
       test-cases (eqb (state .length) 0)
       (λ none.
-      let few = header-says state (taken-header state left going (eqb-true (state .length) 0 none) .0) .few in
+      let few = header-says state (is-left-header state left going (eqb-true (state .length) 0 none) .0) .few in
       let size = length-begun state few in
       let short : length (begunBytes state) < 4 = omega arith in
       rw (pending-header state buffer none, begins-short (begunBytes state) short))
       (λ some.
-      let w = taken-message state left going (eqb-false (state .length) 0 some) in
+      let w = is-left-message state left going (eqb-false (state .length) 0 some) in
       let limit = w .limit in
       let more = w .more in
       let held : length (take (state .got) buffer) ≡ state .got = length-take-le (state .got) buffer (let z : state .got ≤ length buffer = omega arith in z) in

@@ -12,9 +12,9 @@ use Rattle.lists.specs.Truth.{test-cases, fails}
 use Rattle.stream.specs.declared.state.State.{State}
 use Rattle.stream.specs.declared.reader.Event.the-variants.{NoMessage}
 use Rattle.stream.specs.Stream.{headerOf, lengthOf, known, judgeLength, judge, beginsBy, begins, First, wanted, stops, whole, firstOf, first, carriedBy, carriedWithin, carried, stopped}
-use Rattle.stream.specs.State.{stateOf, begunBytes, pending, taken}
+use Rattle.stream.specs.State.{stateOf, begunBytes, pending, isLeft}
 use Rattle.stream.specs.Reader.{stepOf, refused, handed, readBy, read}
-use Rattle.stream.specs.StateLaws.{header-says, taken-stopped, taken-header, taken-message}
+use Rattle.stream.specs.StateLaws.{header-says, is-left-stopped, is-left-header, is-left-message}
 use Rattle.stream.specs.ReaderLaws.{read-not-left, read-stopped, read-going}
 use Rattle.claims.specs.StreamLaws.{carried-step}
 use Rattle.claims.specs.StreamKept.{Bytes, bytes-header, bytes-take, bytes-append, pending-header, pending-message, going-state, pending-wanted}
@@ -51,12 +51,12 @@ zeros-bytes =
     }
 
 -- a state that a stream leaves passes the test
-pub left-passes : (stream : List ℕ) → Bytes stream → taken (stateOf (carried stream .left)) ≡ true
+pub left-passes : (stream : List ℕ) → Bytes stream → isLeft (stateOf (carried stream .left)) ≡ true
 unfolding flatten
 left-passes stream b =
     let s = reader-in-one (stream ∷ []) (one-more b no-pieces) zeros zeros-room in
     let one : flatten (stream ∷ []) ≡ stream = append-nil stream in
-    ap (λ (l : List ℕ). taken (stateOf (carried l .left))) (sym one) ∙ ap taken (sym (s .state)) ∙ s .test
+    ap (λ (l : List ℕ). isLeft (stateOf (carried l .left))) (sym one) ∙ ap isLeft (sym (s .state)) ∙ s .test
 
 -- ---- a stream for each state
 
@@ -95,10 +95,10 @@ stopper-stops (suc (suc (suc zero))) h k = refl
 stopper-stops (suc (suc (suc (suc zero)))) h k = refl
 stopper-stops (suc (suc (suc (suc (suc n))))) h k = absurd (let z : ⊥ = omega arith in z)
 
-stopped-left : (state : State) → taken state ≡ true → (state .stopped ≡ 0 → ⊥) → LeftBySome state
+stopped-left : (state : State) → isLeft state ≡ true → (state .stopped ≡ 0 → ⊥) → LeftBySome state
 unfolding stateOf
 stopped-left state left h =
-    let w = taken-stopped state left h in
+    let w = is-left-stopped state left h in
     let low : 1 ≤ state .stopped = omega arith in
     record {
       stream = stopper (state .stopped);
@@ -106,21 +106,21 @@ stopped-left state left h =
       leaves = rw (stopper-stops (state .stopped) low (w .limit)) (sym (stopped-words state w));
     }
 
-pending-bytes : (state : State) → taken state ≡ true → state .stopped ≡ 0 → Bytes (pending state zeros)
+pending-bytes : (state : State) → isLeft state ≡ true → state .stopped ≡ 0 → Bytes (pending state zeros)
 unfolding headerOf
 pending-bytes state left going =
     test-cases (eqb (state .length) 0)
     (λ none.
-    let w = header-says state (taken-header state left going (eqb-true (state .length) 0 none) .0) in
+    let w = header-says state (is-left-header state left going (eqb-true (state .length) 0 none) .0) in
     rw (pending-header state zeros none, ← append-nil (begunBytes state)) (bytes-header state w [] (record { small = λ i. omega arith })))
     (λ some.
-    let limit = taken-message state left going (eqb-false (state .length) 0 some) .limit in
+    let limit = is-left-message state left going (eqb-false (state .length) 0 some) .limit in
     rw (pending-message state zeros some)
     (bytes-append (headerOf (state .length)) (take (state .got) zeros)
     (four-small 0 0 (state .length / 256) (state .length % 256) (omega arith) (omega arith) (omega arith) (omega arith)) (bytes-take (state .got) zeros zeros-bytes)))
 
 -- the bytes begun leave the state that says them
-going-left : (state : State) → taken state ≡ true → state .stopped ≡ 0 → LeftBySome state
+going-left : (state : State) → isLeft state ≡ true → state .stopped ≡ 0 → LeftBySome state
 unfolding stateOf carriedBy
 going-left state left going =
     record {
@@ -130,7 +130,7 @@ going-left state left going =
     }
 
 -- a state that passes the test is left by some stream
-pub passes-left : (state : State) → taken state ≡ true → LeftBySome state
+pub passes-left : (state : State) → isLeft state ≡ true → LeftBySome state
 passes-left state left =
     test-cases (eqb (state .stopped) 0) (λ e. going-left state left (eqb-true (state .stopped) 0 e)) (λ e. stopped-left state left (eqb-false (state .stopped) 0 e))
 
@@ -140,7 +140,7 @@ passes-left state left =
 pub not-left-five : (state : State) → (LeftBySome state → ⊥) → (buffer piece : List ℕ)
     → read state buffer piece ≡ record { step = record { number = 5; taken = 0; event = NoMessage; state = state }; buffer = buffer }
 unfolding refused stepOf
-not-left-five state h buffer piece = read-not-left state buffer piece (fails (taken state) λ e. h (passes-left state e))
+not-left-five state h buffer piece = read-not-left state buffer piece (fails (isLeft state) λ e. h (passes-left state e))
 
 number-by : (state : State) (buffer piece : List ℕ) (f : First) → first (pending state buffer ++ piece) ≡ f → readBy state buffer piece f .step .number ≤ 4
 unfolding readBy handed stepOf
@@ -152,9 +152,9 @@ number-by state buffer piece (whole m q) e = test-cases (eqb (state .got) 0) (λ
 pub left-not-five : (state : State) → LeftBySome state → (buffer piece : List ℕ) → read state buffer piece .step .number ≤ 4
 unfolding refused stepOf
 left-not-five state l buffer piece =
-    let left : taken state ≡ true = rw (l .leaves) at (left-passes (l .stream) (l .bytes)) in
+    let left : isLeft state ≡ true = rw (l .leaves) at (left-passes (l .stream) (l .bytes)) in
     test-cases (eqb (state .stopped) 0)
     (λ e. rw (read-going state buffer piece left (eqb-true (state .stopped) 0 e)) (number-by state buffer piece (first (pending state buffer ++ piece)) refl))
     (λ e.
     let stop = eqb-false (state .stopped) 0 e in
-    rw (read-stopped state buffer piece left stop) (taken-stopped state left stop .limit))
+    rw (read-stopped state buffer piece left stop) (is-left-stopped state left stop .limit))

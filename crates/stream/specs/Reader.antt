@@ -11,7 +11,7 @@ use Rattle.stream.specs.declared.reader.Event.{Event}
 use Rattle.stream.specs.declared.reader.Event.the-variants.{NoMessage, InPiece, InBuffer}
 use Rattle.stream.specs.declared.reader.Step.{Step}
 use Rattle.stream.specs.Stream.{First, wanted, stops, whole, first}
-use Rattle.stream.specs.State.{noneBegun, stoppedBy, begunState, pending, taken}
+use Rattle.stream.specs.State.{noneBegun, stoppedBy, begunState, pending, isLeft}
 
 -- what a call returns, and the buffer after it
 pub record Read : Type 0 where
@@ -25,9 +25,9 @@ stepOf number taken event state = record { number = number; taken = taken; event
 unfoldable pub refused : ℕ → State → List ℕ → Read
 refused number state buffer = record { step = stepOf number 0 NoMessage state; buffer = buffer }
 
--- a message whole: none of its bytes was taken by an earlier call, so it is a part of the piece; or it is gathered in the buffer, from 0 on
-unfoldable pub handed : State → List ℕ → List ℕ → List ℕ → ℕ → Read
-handed state buffer piece m end =
+-- a message that is whole where the piece is taken up to `end`: a part of the piece if no earlier call took a byte of it, else gathered in the buffer, from 0 on
+unfoldable pub handed : State → List ℕ → List ℕ → ℕ → Read
+handed state buffer m end =
     cond (eqb (state .got) 0)
     (record { step = stepOf 0 end (InPiece (end - length m) (length m)) noneBegun; buffer = buffer })
     (record { step = stepOf 0 end (InBuffer (length m)) noneBegun; buffer = put buffer 0 m })
@@ -38,13 +38,13 @@ unfoldable pub readBy : State → List ℕ → List ℕ → First → Read
 readBy state buffer piece (wanted s) =
     record { step = stepOf 0 (length piece) NoMessage (begunState s); buffer = put buffer 0 (drop 4 s) }
 readBy state buffer piece (stops n s) = record { step = stepOf n (length piece - length s) NoMessage (stoppedBy n); buffer = buffer }
-readBy state buffer piece (whole m s) = handed state buffer piece m (length piece - length s)
+readBy state buffer piece (whole m s) = handed state buffer m (length piece - length s)
 
 -- "A reader state that no stream leaves is 5, before these, and nothing changes." "A stopped reader hands out nothing until reset and answers
 -- its number again."
 unfoldable pub read : State → List ℕ → List ℕ → Read
 read state buffer piece =
-    cond (taken state)
+    cond (isLeft state)
     (cond (eqb (state .stopped) 0)
     (readBy state buffer piece (first (pending state buffer ++ piece)))
     (refused (state .stopped) state buffer))

@@ -17,7 +17,7 @@ use Rattle.stream.specs.declared.header.Judged.the-variants.{Message}
 use Rattle.stream.specs.declared.reader.Event.the-variants.{NoMessage}
 use Rattle.stream.specs.declared.reader.Seen.the-variants.{Short, Bad, Body}
 use Rattle.stream.specs.Stream.{lengthOf, headerOf, Begins, short, bad, message, begins, firstOf, first}
-use Rattle.stream.specs.State.{stoppedBy, headerBegun, begunState, begunBytes, pending, taken}
+use Rattle.stream.specs.State.{stoppedBy, headerBegun, begunState, begunBytes, pending, isLeft}
 use Rattle.stream.specs.Reader.{stepOf, refused, handed, readBy, read}
 use Rattle.stream.specs.Seen.{seenOf, gathered}
 use Rattle.stream.specs.BeginsLaws.{shown, Head, message-head, short-few, judged-message, header-begins, Ends, shown-ends, restOf, ends-drop, ends-in-piece}
@@ -139,11 +139,11 @@ body-seen (message k s) n size at e = record { rest = s; is = (let f : k ≡ siz
 -- ---- what a call gives
 
 -- a state that no stream leaves
-pub read-not-left : (state : State) (buffer piece : List ℕ) → taken state ≡ false → read state buffer piece ≡ refused 5 state buffer
+pub read-not-left : (state : State) (buffer piece : List ℕ) → isLeft state ≡ false → read state buffer piece ≡ refused 5 state buffer
 unfolding read
 read-not-left state buffer piece e = rw e
 
-module _ (state : State) (buffer piece : List ℕ) (left : taken state ≡ true) where
+module _ (state : State) (buffer piece : List ℕ) (left : isLeft state ≡ true) where
   pub read-stopped : (state .stopped ≡ 0 → ⊥) → read state buffer piece ≡ refused (state .stopped) state buffer
   unfolding read
   read-stopped h = rw (left, ne-eqb (state .stopped) 0 h)

@@ -75,8 +75,8 @@ messageFits s = leb (s .length) 8192 && ltb (s .got) (s .length)
 
 -- not stopped: fewer than four bytes of a header and nothing else, or a message with bytes to come and nothing else; stopped: by 1 to 4, and
 -- nothing else
-unfoldable pub taken : State → Bool
-taken s =
+unfoldable pub isLeft : State → Bool
+isLeft s =
     cond (eqb (s .stopped) 0)
     (cond (eqb (s .length) 0) (headerFits s && eqb (s .got) 0) (noHeader s && messageFits s))
     (leb (s .stopped) 4 && (noHeader s && noMessage s))

@@ -11,7 +11,7 @@ use native.Mathlib.Omega.{arith}
 use borrow.Author.Tests.{eqb-true, leb-true, ltb-true, eq-eqb, ne-eqb}
 use Rattle.lists.specs.Truth.{both-hold, choice-cases}
 use Rattle.stream.specs.declared.state.State.{State}
-use Rattle.stream.specs.State.{begunBytes, noHeader, noMessage, byteFits, headerFits, messageFits, taken}
+use Rattle.stream.specs.State.{begunBytes, noHeader, noMessage, byteFits, headerFits, messageFits, isLeft}
 
 -- ---- the words
 
@@ -79,11 +79,11 @@ pub record StoppedWords (s : State) : Type 0 where
   pub length : s .length ≡ 0
   pub got : s .got ≡ 0
 
-module _ (s : State) (e : taken s ≡ true) where
+module _ (s : State) (e : isLeft s ≡ true) where
   -- a stopped reader
-  pub taken-stopped : (s .stopped ≡ 0 → ⊥) → StoppedWords s
-  unfolding taken noMessage
-  taken-stopped h =
+  pub is-left-stopped : (s .stopped ≡ 0 → ⊥) → StoppedWords s
+  unfolding isLeft noMessage
+  is-left-stopped h =
       let a = both-hold (leb (s .stopped) 4) _ (rw (ne-eqb (s .stopped) 0 h) at e) in
       let b = both-hold (noHeader s) _ (a .1) in
       let d = both-hold (eqb (s .length) 0) _ (b .1) in
@@ -95,16 +95,16 @@ module _ (s : State) (e : taken s ≡ true) where
       }
 
   -- a header, of which no byte need be in
-  pub taken-header : s .stopped ≡ 0 → s .length ≡ 0 → (headerFits s ≡ true) × (s .got ≡ 0)
-  unfolding taken
-  taken-header h k =
+  pub is-left-header : s .stopped ≡ 0 → s .length ≡ 0 → (headerFits s ≡ true) × (s .got ≡ 0)
+  unfolding isLeft
+  is-left-header h k =
       let a = both-hold (headerFits s) _ (rw (eq-eqb (s .stopped) 0 h, eq-eqb (s .length) 0 k) at e) in
       (a .0, eqb-true (s .got) 0 (a .1))
 
   -- a message
-  pub taken-message : s .stopped ≡ 0 → (s .length ≡ 0 → ⊥) → MessageWords s
-  unfolding taken messageFits
-  taken-message h k =
+  pub is-left-message : s .stopped ≡ 0 → (s .length ≡ 0 → ⊥) → MessageWords s
+  unfolding isLeft messageFits
+  is-left-message h k =
       let a = both-hold (noHeader s) _ (rw (eq-eqb (s .stopped) 0 h, ne-eqb (s .length) 0 k) at e) in
       let b = both-hold (leb (s .length) 8192) _ (a .1) in
       record {

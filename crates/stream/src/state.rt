@@ -4,7 +4,7 @@
 use wire::byte_at;
 ghost use mathlib.Core.Path.{_≡_};
 ghost use mathlib.Core.Bool.{_&&_};
-ghost use Rattle.stream.specs.State.{noneBegun, headerWords, headerBegun, messageBegun, stoppedBy, noHeader, noMessage, byteFits, headerFits, messageFits, taken};
+ghost use Rattle.stream.specs.State.{noneBegun, headerWords, headerBegun, messageBegun, stoppedBy, noHeader, noMessage, byteFits, headerFits, messageFits, isLeft};
 
 // `stopped`: 0, or the number that stopped the reader. `begun`: how many bytes of a header are in, and `first` to `third`
 // those bytes. `length`: that of a begun message, and `got` how many of its bytes are in the buffer.
@@ -131,7 +131,7 @@ fn message_fits(s: State) -> bool
 
 // Whether some stream leaves the state.
 pub fn is_left(s: State) -> bool
-    ensures { λ r. ⌜ r ≡ taken s ⌝ }
+    ensures { λ r. ⌜ r ≡ isLeft s ⌝ }
 {
     if s.stopped != 0 {
         return both(s.stopped <= 4, both(no_header(s), no_message(s)));

@@ -7,7 +7,7 @@ use borrow.Author.Tests.{not-true, not-false}
 use Rattle.stream.specs.declared.state.State.{State}
 use Rattle.stream.specs.declared.reader.Event.the-variants.{NoMessage}
 use Rattle.stream.specs.Reader.{Read, stepOf, refused}
-use Rattle.stream.specs.StateLaws.{header-says, taken-stopped, taken-header, taken-message}
+use Rattle.stream.specs.StateLaws.{header-says, is-left-stopped, is-left-header, is-left-message}
 use Rattle.stream.specs.ReaderLaws.{read-not-left, read-stopped, read-message, read-short, read-bad, read-body, body-place, body-limit}
 use borrow.Author.Needs.{needs}
 use Rattle.stream.proofs.reader.read_piece.Statement.{statement}
@@ -26,7 +26,7 @@ returns c =
     (c .answer .ensures ∙ sym (ap (λ (x : Read). x .step) e), sym (ap (λ (x : Read). x .buffer) e))
 
 cast-answer : tie.Need-cast-answer
-cast-answer c = let most = taken-stopped (c .before .before .before .before .args .state) (sym (c .before .before .is-left .ensures) ∙ not-false (c .before .before .is-left .result) (c .before .if1 .left)) (c .if2 .taken) .limit in record { fits = omega arith }
+cast-answer c = let most = is-left-stopped (c .before .before .before .before .args .state) (sym (c .before .before .is-left .ensures) ∙ not-false (c .before .before .is-left .result) (c .before .if1 .left)) (c .if2 .taken) .limit in record { fits = omega arith }
 
 answer-requires-2 : tie.Need-answer-requires-2
 answer-requires-2 c κs = search needs
@@ -40,7 +40,7 @@ returns-2 c =
 gather-requires : tie.Need-gather-requires
 gather-requires c κs =
     let whole : length (c .before .before .before .before .before .before .before .args .buffer .now) ≡ 8192 = search needs in
-    let m = taken-message (c .before .before .before .before .before .before .before .args .state) (sym (c .before .before .before .before .before .is-left .ensures) ∙ not-false (c .before .before .before .before .before .is-left .result) (c .before .before .before .before .if1 .left)) (c .before .before .before .if2 .left) (c .before .if3 .taken) in
+    let m = is-left-message (c .before .before .before .before .before .before .before .args .state) (sym (c .before .before .before .before .before .is-left .ensures) ∙ not-false (c .before .before .before .before .before .is-left .result) (c .before .before .before .before .if1 .left)) (c .before .before .before .if2 .left) (c .before .if3 .taken) in
     let limit = m .limit in
     let more = m .more in
     (omega arith, (omega arith, omega arith))
@@ -48,12 +48,12 @@ gather-requires c κs =
 returns-3 : tie.Need-returns-3
 returns-3 c =
     let whole : length (c .before .before .before .before .before .before .before .before .args .buffer .now) ≡ 8192 = search needs in
-    let m = taken-message (c .before .before .before .before .before .before .before .before .args .state) (sym (c .before .before .before .before .before .before .is-left .ensures) ∙ not-false (c .before .before .before .before .before .before .is-left .result) (c .before .before .before .before .before .if1 .left)) (c .before .before .before .before .if2 .left) (c .before .before .if3 .taken) in
+    let m = is-left-message (c .before .before .before .before .before .before .before .before .args .state) (sym (c .before .before .before .before .before .before .is-left .ensures) ∙ not-false (c .before .before .before .before .before .before .is-left .result) (c .before .before .before .before .before .if1 .left)) (c .before .before .before .before .if2 .left) (c .before .before .if3 .taken) in
     let e = read-message (c .before .before .before .before .before .before .before .before .args .state) (c .before .before .before .before .before .before .before .before .args .buffer .now) (c .before .before .before .before .before .before .before .before .args .piece .now) (sym (c .before .before .before .before .before .before .is-left .ensures) ∙ not-false (c .before .before .before .before .before .before .is-left .result) (c .before .before .before .before .before .if1 .left)) (c .before .before .before .before .if2 .left) (c .before .before .if3 .taken) (m .limit) whole (m .more) in
     (c .gather .ensures .0 ∙ sym (ap (λ (x : Read). x .step) e), c .gather .ensures .1 ∙ sym (ap (λ (x : Read). x .buffer) e))
 
 first-header-requires : tie.Need-first-header-requires
-first-header-requires c κs = taken-header (c .before .before .before .before .before .before .args .state) (sym (c .before .before .before .before .is-left .ensures) ∙ not-false (c .before .before .before .before .is-left .result) (c .before .before .before .if1 .left)) (c .before .before .if2 .left) (c .if3 .left) .0
+first-header-requires c κs = is-left-header (c .before .before .before .before .before .before .args .state) (sym (c .before .before .before .before .is-left .ensures) ∙ not-false (c .before .before .before .before .is-left .result) (c .before .before .before .if1 .left)) (c .before .before .if2 .left) (c .if3 .left) .0
 
 enum-known-seen : tie.Need-enum-known-seen
 enum-known-seen c = search needs
@@ -76,7 +76,7 @@ enum-known-seen-3 c = search needs
 gather-requires-2 : tie.Need-gather-requires-2
 gather-requires-2 c κs =
     let whole : length (c .before .before .before .before .before .before .before .before .before .before .before .args .buffer .now) ≡ 8192 = search needs in
-    let header = taken-header (c .before .before .before .before .before .before .before .before .before .before .before .args .state) (sym (c .before .before .before .before .before .before .before .before .before .is-left .ensures) ∙ not-false (c .before .before .before .before .before .before .before .before .before .is-left .result) (c .before .before .before .before .before .before .before .before .if1 .left)) (c .before .before .before .before .before .before .before .if2 .left) (c .before .before .before .before .before .if3 .left) in
+    let header = is-left-header (c .before .before .before .before .before .before .before .before .before .before .before .args .state) (sym (c .before .before .before .before .before .before .before .before .before .is-left .ensures) ∙ not-false (c .before .before .before .before .before .before .before .before .before .is-left .result) (c .before .before .before .before .before .before .before .before .if1 .left)) (c .before .before .before .before .before .before .before .if2 .left) (c .before .before .before .before .before .if3 .left) in
     let limit = body-limit (c .before .before .before .before .before .before .before .before .before .before .before .args .state) (c .before .before .before .before .before .before .before .before .before .before .before .args .buffer .now) (c .before .before .before .before .before .before .before .before .before .before .before .args .piece .now) (sym (c .before .before .before .before .before .before .before .before .before .is-left .ensures) ∙ not-false (c .before .before .before .before .before .before .before .before .before .is-left .result) (c .before .before .before .before .before .before .before .before .if1 .left)) (c .before .before .before .before .before .before .before .if2 .left) (c .before .before .before .before .before .if3 .left) (header-says (c .before .before .before .before .before .before .before .before .before .before .before .args .state) (header .0) .few) (header .1) (c .before .before .seen3 .given .0 .0) (c .before .before .seen3 .given .0 .1 .0) (sym (c .before .before .before .before .first-header .ensures) ∙ c .before .before .seen3 .given .1) in
     (omega arith, (omega arith, body-place (c .before .before .before .before .before .before .before .before .before .before .before .args .state) (c .before .before .before .before .before .before .before .before .before .before .before .args .buffer .now) (c .before .before .before .before .before .before .before .before .before .before .before .args .piece .now) (sym (c .before .before .before .before .before .before .before .before .before .is-left .ensures) ∙ not-false (c .before .before .before .before .before .before .before .before .before .is-left .result) (c .before .before .before .before .before .before .before .before .if1 .left)) (c .before .before .before .before .before .before .before .if2 .left) (c .before .before .before .before .before .if3 .left) (header-says (c .before .before .before .before .before .before .before .before .before .before .before .args .state) (header .0) .few) (header .1) (c .before .before .seen3 .given .0 .0) (c .before .before .seen3 .given .0 .1 .0) (sym (c .before .before .before .before .first-header .ensures) ∙ c .before .before .seen3 .given .1)))
 
@@ -93,7 +93,7 @@ returns-5 c =
 returns-6 : tie.Need-returns-6
 returns-6 c =
     let whole : length (c .before .before .before .before .before .before .before .before .before .before .before .before .args .buffer .now) ≡ 8192 = search needs in
-    let header = taken-header (c .before .before .before .before .before .before .before .before .before .before .before .before .args .state) (sym (c .before .before .before .before .before .before .before .before .before .before .is-left .ensures) ∙ not-false (c .before .before .before .before .before .before .before .before .before .before .is-left .result) (c .before .before .before .before .before .before .before .before .before .if1 .left)) (c .before .before .before .before .before .before .before .before .if2 .left) (c .before .before .before .before .before .before .if3 .left) in
+    let header = is-left-header (c .before .before .before .before .before .before .before .before .before .before .before .before .args .state) (sym (c .before .before .before .before .before .before .before .before .before .before .is-left .ensures) ∙ not-false (c .before .before .before .before .before .before .before .before .before .before .is-left .result) (c .before .before .before .before .before .before .before .before .before .if1 .left)) (c .before .before .before .before .before .before .before .before .if2 .left) (c .before .before .before .before .before .before .if3 .left) in
     let e = read-body (c .before .before .before .before .before .before .before .before .before .before .before .before .args .state) (c .before .before .before .before .before .before .before .before .before .before .before .before .args .buffer .now) (c .before .before .before .before .before .before .before .before .before .before .before .before .args .piece .now) (sym (c .before .before .before .before .before .before .before .before .before .before .is-left .ensures) ∙ not-false (c .before .before .before .before .before .before .before .before .before .before .is-left .result) (c .before .before .before .before .before .before .before .before .before .if1 .left)) (c .before .before .before .before .before .before .before .before .if2 .left) (c .before .before .before .before .before .before .if3 .left) (header-says (c .before .before .before .before .before .before .before .before .before .before .before .before .args .state) (header .0) .few) (header .1) (c .before .before .before .seen3 .given .0 .0) (c .before .before .before .seen3 .given .0 .1 .0) (sym (c .before .before .before .before .before .first-header .ensures) ∙ c .before .before .before .seen3 .given .1) whole in
     (c .gather2 .ensures .0 ∙ sym (ap (λ (x : Read). x .step) e), c .gather2 .ensures .1 ∙ sym (ap (λ (x : Read). x .buffer) e))
 

@@ -1,7 +1,7 @@
 -- `stream::state::is_left` meets its contract.
 -- Assumes nothing.
 use borrow.Author.Tests.{eq-eqb, ne-eqb}
-use Rattle.stream.specs.State.{taken}
+use Rattle.stream.specs.State.{isLeft}
 use borrow.Author.Needs.{needs}
 use Rattle.stream.proofs.state.is_left.Statement.{statement}
 use Rattle.stream.proofs.state.is_left.Tie as tie
@@ -19,7 +19,7 @@ both-requires-2 : tie.Need-both-requires-2
 both-requires-2 c κs = search needs
 
 returns : tie.Need-returns
-unfolding taken
+unfolding isLeft
 returns c = rw (ne-eqb (c .before .before .before .before .before .before .before .args .s .stopped) 0 (c .before .before .before .before .before .if1 .taken), c .both2 .ensures, c .before .both .ensures, c .before .before .before .no-header .ensures, c .before .before .no-message .ensures)
 
 header-fits-requires : tie.Need-header-fits-requires
@@ -29,7 +29,7 @@ both-requires-3 : tie.Need-both-requires-3
 both-requires-3 c κs = search needs
 
 returns-2 : tie.Need-returns-2
-unfolding taken
+unfolding isLeft
 returns-2 c = rw (eq-eqb (c .before .before .before .before .before .before .before .args .s .stopped) 0 (c .before .before .before .before .before .if1 .left), eq-eqb (c .before .before .before .before .before .before .before .args .s .length) 0 (c .before .before .before .if2 .taken), c .both3 .ensures, c .before .before .header-fits .ensures)
 
 no-header-requires-2 : tie.Need-no-header-requires-2
@@ -42,7 +42,7 @@ both-requires-4 : tie.Need-both-requires-4
 both-requires-4 c κs = search needs
 
 returns-3 : tie.Need-returns-3
-unfolding taken
+unfolding isLeft
 returns-3 c = rw (eq-eqb (c .before .before .before .before .before .before .before .args .s .stopped) 0 (c .before .before .before .before .before .if1 .left), ne-eqb (c .before .before .before .before .before .before .before .args .s .length) 0 (c .before .before .before .if2 .left), c .both4 .ensures, c .before .before .no-header2 .ensures, c .before .message-fits .ensures)
 
 pub is-left-spec : {M : Type 1} → statement M
