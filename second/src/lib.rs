@@ -5,7 +5,8 @@
 //! The state is [`tables::Tables`] and a slice of file memory. [`host`] has
 //! the host's calls, [`message::take_message`] takes a message, and [`words`]
 //! offers all of them over the tables as the host hands them over. [`stream`]
-//! reads and writes a terminal's stream.
+//! reads and writes a terminal's stream, [`stream_words`] over the words that a
+//! host keeps of a reader.
 #![forbid(unsafe_code)]
 
 pub mod builder;
@@ -21,5 +22,6 @@ pub mod reply;
 pub mod request;
 pub mod rng;
 pub mod stream;
+pub mod stream_words;
 pub mod tables;
 pub mod words;
