@@ -1,7 +1,7 @@
 //! Readers in states that no stream leaves.
 
 use super::Streams;
-use second::stream_words::StreamWords;
+use second::stream_words::{unpack, StreamWords};
 
 /// States that some stream leaves.
 const STATES: [StreamWords; 14] = [
@@ -88,6 +88,19 @@ impl Streams {
             words[word] = rng.pick(&[value, value, small, 0]);
         }
         words
+    }
+
+    /// Words that no stream leaves, for one step; then the stream goes on.
+    pub fn interrupted(&mut self, piece: &[u8]) -> Result<(), String> {
+        let before = self.readers.words;
+        let mut words = before;
+        words[self.rng().below(before.len())] = self.rng().pick(&VALUES);
+        if unpack(&words, &self.readers.buffer).is_none() {
+            self.tally.met("damaged in a stream, which then goes on");
+            self.on_damaged(words, piece)?;
+            self.readers.words = before;
+        }
+        Ok(())
     }
 
     fn on_damaged(&mut self, words: StreamWords, piece: &[u8]) -> Result<(), String> {

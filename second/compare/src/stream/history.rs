@@ -60,8 +60,35 @@ impl Streams {
             expect(&given.replies, &planned.replies, "replies written")?;
             expect(&given.words, &planned.words, "tables")?;
             expect(&given.memory, &planned.memory, "files")?;
+            self.replies_read(&given)?;
         }
         Ok(())
+    }
+
+    /// The replies as the terminal reads them, in pieces. One above 8,192 bytes
+    /// stops it.
+    fn replies_read(&mut self, given: &Given) -> Result<(), String> {
+        let done = given.taken.iter().filter(|(number, _)| *number == 0);
+        let replies: Vec<_> = done.map(|(_, reply)| reply.clone()).collect();
+        let short = replies.iter().take_while(|reply| reply.len() <= LONGEST);
+        let planned: Vec<_> = short.cloned().collect();
+        let stopped = planned.len() < replies.len();
+        self.reset()?;
+        let (mut read, mut number) = (Vec::new(), 0);
+        let mut rest = &given.replies[..];
+        while !rest.is_empty() && number == 0 {
+            let length = (1 + self.rng().below(5000)).min(rest.len());
+            let more = self.feed(&rest[..length])?;
+            rest = &rest[length..];
+            read.extend(more.0);
+            number = more.1;
+        }
+        expect(
+            &number,
+            &if stopped { 4 } else { 0 },
+            "number for the replies",
+        )?;
+        expect(&read, &planned, "replies read")
     }
 
     /// Plans the history while its messages are taken one by one.
@@ -122,7 +149,7 @@ impl Streams {
             expect(&number, &0, "number of a piece of the history")?;
             for message in messages {
                 let given = take(run, &message_trial(message))?;
-                self.tally.met("history: message taken");
+                self.tally.taken(given.0, &given.1);
                 if given.0 == 0 {
                     replies.extend(self.written_reply(&given.1)?);
                 }

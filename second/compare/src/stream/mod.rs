@@ -81,31 +81,41 @@ impl Streams {
         if self.rng().below(16) == 0 {
             self.readers.litter(&mut self.planner.rng);
         }
+        let (messages, number) = self.feed_all(&stream.bytes, pieces)?;
+        expect(&messages, &stream.messages, "messages handed out")?;
+        expect(&number, &stream.number, "number")?;
+        expect(&self.readers.words, &stream.left, "state left")?;
+        let begun = &self.readers.buffer[..stream.begun.len()];
+        expect(&begun, &&stream.begun[..], "bytes of the message begun")
+    }
+
+    /// Hands in the bytes in pieces of these lengths, and an empty piece to a
+    /// reader that is stopped then: the messages handed out, and the number.
+    fn feed_all(&mut self, bytes: &[u8], pieces: &[usize]) -> Result<(Vec<Vec<u8>>, u8), String> {
         let (mut messages, mut number) = (Vec::new(), 0);
-        let mut rest = &stream.bytes[..];
+        let mut rest = bytes;
         for &length in pieces {
             let (piece, behind) = rest.split_at(length);
             rest = behind;
+            if self.rng().below(64) == 0 {
+                self.interrupted(piece)?;
+            }
             let (more, given) = self.feed(piece)?;
-            if number != 0 && (given != number || !more.is_empty()) {
-                return Err(format!("stopped with {number}, then {given}"));
+            if number != 0 {
+                expect(
+                    &(&more[..], given),
+                    &(&[][..], number),
+                    "a piece when stopped",
+                )?;
             }
             number = given;
             messages.extend(more);
         }
         if number != 0 {
             let given = self.feed(&[])?;
-            expect(
-                &given,
-                &(Vec::new(), number),
-                "stopped, then an empty piece",
-            )?;
+            expect(&given, &(Vec::new(), number), "an empty piece when stopped")?;
         }
-        expect(&messages, &stream.messages, "messages handed out")?;
-        expect(&number, &stream.number, "number")?;
-        expect(&self.readers.words, &stream.left, "state left")?;
-        let begun = &self.readers.buffer[..stream.begun.len()];
-        expect(&begun, &&stream.begun[..], "bytes of the message begun")
+        Ok((messages, number))
     }
 
     /// Hands in a piece, and what is left of it, until all is read: the

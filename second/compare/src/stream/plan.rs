@@ -255,7 +255,12 @@ impl StreamPlanner {
 
     /// Lengths of pieces of a stream, in all at least its own.
     pub fn cuts(&mut self, length: usize) -> Vec<usize> {
-        let widest = self.rng.pick(&[1, 1, 2, 4, 9, 60, 60, 1000, 9000]);
+        // A long one is seldom cut small: each piece is a step.
+        let small = length < 3000 || self.rng.below(10) == 0;
+        let widest = match small {
+            true => self.rng.pick(&[1, 1, 2, 4, 9, 60]),
+            false => self.rng.pick(&[60, 60, 1000, 9000]),
+        };
         let mut pieces = Vec::new();
         let mut sum = 0;
         while sum < length {

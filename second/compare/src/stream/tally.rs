@@ -8,7 +8,7 @@ use std::collections::BTreeMap;
 const LEAST: usize = 50;
 
 /// What must be met, besides the classes of bad headers.
-const MET: [&str; 48] = [
+const MET: [&str; 51] = [
     "read: 0",
     "read: 1",
     "read: 2",
@@ -44,6 +44,7 @@ const MET: [&str; 48] = [
     "cut in a bad header",
     "stream in pieces of one byte",
     "damaged, but a state",
+    "damaged in a stream, which then goes on",
     "reset: nothing begun",
     "reset: begun",
     "reset: stopped",
@@ -56,7 +57,9 @@ const MET: [&str; 48] = [
     "write: 2",
     "write: 2, one byte missing",
     "read back",
-    "history: message taken",
+    "history: message done",
+    "history: message refused on the wire",
+    "history: message dropped",
 ];
 
 #[derive(Default)]
@@ -183,6 +186,15 @@ impl StreamTally {
                 self.met_if(room == length + 3, "write: 2, one byte missing");
             }
         }
+    }
+
+    /// A message of the history and its reply.
+    pub fn taken(&mut self, number: u8, reply: &[u8]) {
+        self.met(match number {
+            0 if reply[5] == 0 => "history: message done",
+            0 => "history: message refused on the wire",
+            _ => "history: message dropped",
+        });
     }
 
     /// Prints the counts. False if something was met too seldom.
