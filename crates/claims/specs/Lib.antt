@@ -11,5 +11,6 @@ pub mod StreamLaws
 pub mod StreamKept
 pub mod StreamCut
 pub mod StreamStates
+pub mod StreamReasons
 pub mod StreamBack
 pub mod StreamCases
