@@ -99,7 +99,7 @@ pub record Demand1 : Type 0 where
 -- ---- the proof: each line cites the theorem that does the work
 
 -- a reason that holds for the number given, and gives its number
-exactly : {R : ℕ → Type 0} {number : ℕ} → R number → ((n : ℕ) → R n → number ≡ n) → (n : ℕ) → (number ≡ n) ↔ R n
+pub exactly : {R : ℕ → Type 0} {number : ℕ} → R number → ((n : ℕ) → R n → number ≡ n) → (n : ℕ) → (number ≡ n) ↔ R n
 exactly {R} {number} reason given n = (λ e. rw (← e) reason, λ r. given n r)
 
 pub demand-1 : Demand1

@@ -2,4 +2,5 @@ pub mod Call
 pub mod Demand1
 pub mod Demand2
 pub mod Demand3
+pub mod Request1
 pub mod Possible
