@@ -7,3 +7,9 @@ pub mod LoadBytes
 pub mod RemovalPlain
 pub mod HostFrames
 pub mod Cases
+pub mod StreamLaws
+pub mod StreamKept
+pub mod StreamCut
+pub mod StreamStates
+pub mod StreamBack
+pub mod StreamCases

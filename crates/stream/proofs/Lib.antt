@@ -1,0 +1,4 @@
+pub mod FirstHeader
+pub mod Gathering
+pub mod Passing
+pub mod Writing
