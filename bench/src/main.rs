@@ -1,12 +1,13 @@
 //! Measures the gateway library beside the second program, in one run: what a
-//! message costs, how the cost grows with a chain, and how much stack a call
-//! uses. Prints tables in Markdown.
+//! message costs, how the cost grows with a chain, what the stream adds, and
+//! how much stack a call uses. Prints tables in Markdown.
 
 mod clock;
 mod measure;
 mod requests;
 mod scene;
 mod stack;
+mod stream;
 
 use measure::{by_library, cost, costs};
 use scene::Scene;
@@ -34,6 +35,7 @@ fn main() {
     let scenes = scene::all();
     message_table(&scenes, rounds);
     chain_table(&scenes, rounds);
+    stream::table(&scenes[0], rounds);
     stack_table(&scenes);
 }
 
@@ -112,6 +114,9 @@ fn stack_table(scenes: &[Scene]) {
     println!("|---|--:|--:|");
     println!("| none | {} | |", stack.used(&mut || {}));
     for (name, used) in host_calls(scenes, &mut stack) {
+        println!("| {name} | {used} | |");
+    }
+    for (name, used) in stream::stack_used(&scenes[0], &mut stack) {
         println!("| {name} | {used} | |");
     }
     for which in 0..requests::all(&scenes[0]).len() {

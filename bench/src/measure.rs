@@ -33,7 +33,7 @@ pub struct Cost {
 }
 
 /// Something that is done so many times.
-type Batch<'a> = Box<dyn FnMut(usize) + 'a>;
+pub type Batch<'a> = Box<dyn FnMut(usize) + 'a>;
 
 /// What a call is lent besides the tables.
 struct Lent {
@@ -161,7 +161,7 @@ fn median(mut times: Vec<f64>) -> f64 {
 }
 
 /// The median time of each, in nanoseconds for one call.
-fn in_turns(rounds: usize, batches: Vec<Batch>) -> Vec<f64> {
+pub fn in_turns(rounds: usize, batches: Vec<Batch>) -> Vec<f64> {
     let prepared = batches.into_iter().map(|mut batch| {
         let calls = calls_in_batch(&mut batch);
         (calls, batch, Vec::new())

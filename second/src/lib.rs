@@ -1,10 +1,12 @@
 //! The independent second program: the gateway's message core written from
-//! document 01 alone, to compare the first program with. It shares no code
-//! with it.
+//! documents 01 and 02 alone, to compare the first program with. It shares no
+//! code with it.
 //!
 //! The state is [`tables::Tables`] and a slice of file memory. [`host`] has
 //! the host's calls, [`message::take_message`] takes a message, and [`words`]
-//! offers all of them over the tables as the host hands them over.
+//! offers all of them over the tables as the host hands them over. [`stream`]
+//! reads and writes a terminal's stream, [`stream_words`] over the words that a
+//! host keeps of a reader.
 #![forbid(unsafe_code)]
 
 pub mod builder;
@@ -19,5 +21,7 @@ pub mod refusals;
 pub mod reply;
 pub mod request;
 pub mod rng;
+pub mod stream;
+pub mod stream_words;
 pub mod tables;
 pub mod words;

@@ -2,8 +2,18 @@
 
 use std::sync::atomic::{AtomicUsize, Ordering};
 
-/// The number of the call being made.
-pub static CALL: AtomicUsize = AtomicUsize::new(0);
+/// How many calls were begun, so the number of the next.
+static CALLS: AtomicUsize = AtomicUsize::new(0);
+
+/// Begins a call. Gives its number, from 0 on.
+pub fn begin_call() -> usize {
+    CALLS.fetch_add(1, Ordering::Relaxed)
+}
+
+/// The number of the call begun last.
+pub fn call() -> usize {
+    CALLS.load(Ordering::Relaxed).saturating_sub(1)
+}
 
 extern "C" {
     fn signal(number: i32, handler: extern "C" fn(i32)) -> usize;
@@ -26,7 +36,7 @@ extern "C" fn crashed(number: i32) {
     put(b"\nCRASH: signal ");
     put_number(number as usize);
     put(b" in call ");
-    put_number(CALL.load(Ordering::Relaxed));
+    put_number(call());
     put(b" (a byte outside the buffers handed over was touched, or the library gave up);\n");
     put(b"run again with the same seed, number of calls and that call to see it\n");
     // SAFETY: ends the program.

@@ -1,9 +1,10 @@
 //! Compares the gateway library with the second program, call by call over
-//! long histories.
+//! long histories, and then over streams.
 //!
-//! `compare_gateway [CALLS [SEED [SHOW]]]` makes that many calls on both. It
-//! ends with status 1 at the first difference, or if some answer was met too
-//! seldom. SHOW is the number of a call to print before it is made.
+//! `compare_gateway [CALLS [SEED [SHOW]]]` makes that many calls on both, and
+//! behind them those of the streams. It ends with status 1 at the first
+//! difference, or if some answer was met too seldom. SHOW is the number of a
+//! call to print before it is made.
 
 mod call;
 mod crash;
@@ -11,6 +12,7 @@ mod damage;
 mod plan;
 mod report;
 mod sides;
+mod stream;
 mod tally;
 
 use call::Trial;
@@ -19,9 +21,8 @@ use plan::Planner;
 use second::rng::Rng;
 use second::tables::Tables;
 use second::words::unpack;
-use sides::Sides;
+use sides::{Given, Sides};
 use std::process::ExitCode;
-use std::sync::atomic::Ordering;
 use tally::Tally;
 
 const CALLS: usize = 300_000;
@@ -38,17 +39,17 @@ struct Run {
 
 impl Run {
     /// A call on both sides, counted.
-    fn make(&mut self, trial: &Trial) -> Result<u8, String> {
-        crash::CALL.store(self.tally.calls, Ordering::Relaxed);
-        if self.show == Some(self.tally.calls) {
-            println!("call {}:", self.tally.calls);
+    fn make(&mut self, trial: &Trial) -> Result<Given, String> {
+        let call = crash::begin_call();
+        if self.show == Some(call) {
+            println!("call {call}:");
             println!("{}", report::described(trial, &self.sides.words));
         }
         let side = self.planner.rng.pick(&[Side::Start, Side::End]);
         let shift = self.planner.rng.below(4096);
         let given = self.sides.make(trial, side, shift)?;
         self.tally.count(trial, given, &self.sides.room);
-        Ok(given.number)
+        Ok(given)
     }
 
     /// Empties the tables, from whatever they hold.
@@ -121,6 +122,15 @@ fn argument<T: std::str::FromStr>(place: usize) -> Option<T> {
     }
 }
 
+/// Says what differs in the call made last.
+fn differs(report: &str, seed: u64) -> ExitCode {
+    let call = crash::call();
+    println!("DIFFERENCE at call {call}, seed {seed}");
+    println!("{report}");
+    println!("compare_gateway: {call} calls the same, then a difference");
+    ExitCode::FAILURE
+}
+
 fn main() -> ExitCode {
     let calls = argument(1).unwrap_or(CALLS);
     let seed = argument(2).unwrap_or(SEED);
@@ -134,18 +144,18 @@ fn main() -> ExitCode {
     crash::watch();
     while run.tally.calls < calls {
         if let Err(report) = run.history(calls) {
-            println!("DIFFERENCE at call {}, seed {seed}", run.tally.calls);
-            println!("{report}");
-            println!(
-                "compare_gateway: {} calls the same, then a difference",
-                run.tally.calls
-            );
-            return ExitCode::FAILURE;
+            return differs(&report, seed);
         }
     }
     let good = run.tally.print();
     println!("compare_gateway: {} calls, no difference", run.tally.calls);
-    if good {
+    let stream_tally = match stream::compare(&mut run, seed) {
+        Ok(tally) => tally,
+        Err(report) => return differs(&report, seed),
+    };
+    let streams_good = stream_tally.print();
+    println!("compare_gateway: streams, no difference");
+    if good && streams_good {
         ExitCode::SUCCESS
     } else {
         ExitCode::FAILURE

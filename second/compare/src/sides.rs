@@ -48,6 +48,13 @@ impl Sides {
         }
     }
 
+    /// Sets both sides to this state.
+    pub fn restore(&mut self, words: &Words, memory: &[u8]) {
+        self.words = *words;
+        self.memory.copy_from_slice(memory);
+        self.library.memory.put(memory, Side::Start);
+    }
+
     /// Makes the call on both sides and compares everything. The error is a
     /// report. The library's places are against the side; what is prefilled
     /// is so from place `shift` of the pattern.

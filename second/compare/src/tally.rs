@@ -297,7 +297,7 @@ impl Tally {
     }
 }
 
-fn enough(count: usize, least: usize, what: &str) -> bool {
+pub fn enough(count: usize, least: usize, what: &str) -> bool {
     if count < least {
         println!("FAILED: met {count} times only: {what}");
     }

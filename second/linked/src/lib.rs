@@ -37,4 +37,19 @@ extern "C" {
         room_length: usize,
         reply_length: *mut usize,
     ) -> u8;
+    pub fn gateway_stream_reset(state: *mut u64);
+    pub fn gateway_stream_read(
+        state: *mut u64,
+        buffer: *mut u8,
+        piece: *const u8,
+        piece_length: usize,
+        step: *mut u64,
+    ) -> u8;
+    pub fn gateway_stream_write(
+        message: *const u8,
+        message_length: usize,
+        room: *mut u8,
+        room_length: usize,
+        written: *mut usize,
+    ) -> u8;
 }
