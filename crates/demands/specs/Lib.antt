@@ -31,3 +31,4 @@ pub mod Ready
 pub mod Exported
 pub mod OutOfRange
 pub mod WordsNamed
+pub mod StreamTaken
