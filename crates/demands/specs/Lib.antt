@@ -32,3 +32,4 @@ pub mod Exported
 pub mod OutOfRange
 pub mod WordsNamed
 pub mod StreamTaken
+pub mod StreamSeen
