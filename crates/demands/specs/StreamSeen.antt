@@ -18,7 +18,7 @@ use Rattle.stream.specs.Writer.{framed, writtenOf, write}
 use Rattle.stream.specs.StateLaws.{taken-stopped}
 use Rattle.stream.specs.ReaderLaws.{read-not-left, read-stopped, read-going}
 use Rattle.boundary.specs.StreamWords.{stateIn, wordsOf, stepWords, pieceRead, stepAfter, writtenAfter}
-use Rattle.boundary.specs.StreamWordsLaws.{words-state, step-stands, step-given, written-stands}
+use Rattle.boundary.specs.StreamWordsLaws.{step-stands, step-given, written-stands}
 use Rattle.claims.specs.StreamCut.{stopped-words, stops-number}
 use Rattle.claims.specs.StreamStates.{LeftBySome, left-passes, passes-left, left-not-five}
 
@@ -97,7 +97,7 @@ read-stops state buffer piece left =
     rw (read-stopped state buffer piece left stop)
     (λ n. record { low = some (state .stopped) stop; high = words .limit; words = stopped-words state words; kept = refl }))
 
-module _ (w buffer piece step : List ℕ) (r : ℕ) (w′ buffer′ step′ : List ℕ) (seven : length w ≡ 7)
+module _ (w buffer piece step : List ℕ) (r : ℕ) (w′ buffer′ step′ : List ℕ) (own : w ≡ wordsOf (stateIn w))
     (number : r ≡ pieceRead w buffer piece .step .number) (words : w′ ≡ wordsOf (pieceRead w buffer piece .step .state)) (bytes : buffer′ ≡ pieceRead w buffer piece .buffer)
     (given : step′ ≡ stepAfter step (pieceRead w buffer piece .step)) where
   abbrev core : Read
@@ -132,7 +132,7 @@ module _ (w buffer piece step : List ℕ) (r : ℕ) (w′ buffer′ step′ : Li
   -- words that hold the state before hold the words before
   back : core .step .state ≡ stateRead w → w′ ≡ w
   unfolding stateIn
-  back e = is-words ∙ ap wordsOf e ∙ words-state w seven
+  back e = is-words ∙ ap wordsOf e ∙ sym own
 
   left-test : LeftBySome (stateRead w) → taken (stateRead w) ≡ true
   left-test l = rw (l .leaves) at (left-passes (l .stream) (l .bytes))

@@ -12,18 +12,20 @@ ghost use Rattle.stream.specs.State.{noneBegun};
 ghost use Rattle.stream.specs.Writer.{write};
 ghost use Rattle.boundary.specs.StreamWords.{stateIn, wordsOf, stepWords, pieceRead, stepAfter, writtenAfter};
 
-// The state that the words hold.
+// The state that the words hold; they are its words.
 fn state_in(words: &[u64; 7]) -> State
     ensures { λ r. ⌜ r ≡ stateIn (now (words .entry)) ⌝ }
+    ensures { λ r. ⌜ now (words .entry) ≡ wordsOf r ⌝ }
 {
+    let w: &[u64] = words;
     State {
-        stopped: words[0],
-        begun: words[1],
-        first: words[2],
-        second: words[3],
-        third: words[4],
-        length: words[5],
-        got: words[6],
+        stopped: w[0],
+        begun: w[1],
+        first: w[2],
+        second: w[3],
+        third: w[4],
+        length: w[5],
+        got: w[6],
     }
 }
 
@@ -61,7 +63,8 @@ pub extern "C" fn gateway_stream_reset(state: &mut [u64; 7])
     put_state(start(), state);
 }
 
-// A piece of the stream, up to the end of the first message that becomes whole. The step is written on 0 only.
+// A piece of the stream, up to the end of the first message that becomes whole. The step is written on 0 only. Any words are those of
+// the state that they hold, so that a state left as it was is words left as they were.
 #[no_mangle]
 pub extern "C" fn gateway_stream_read(
     state: &mut [u64; 7],
@@ -69,6 +72,7 @@ pub extern "C" fn gateway_stream_read(
     piece: &[u8],
     step: &mut [u64; 4],
 ) -> u8
+    ensures { λ _. ⌜ now (state .entry) ≡ wordsOf (stateIn (now (state .entry))) ⌝ }
     ensures { λ r. ⌜ r ≡ pieceRead (now (state .entry)) (now (buffer .entry)) (now (piece .entry)) .step .number ⌝ }
     ensures { λ _. ⌜ now (state .exit) ≡ wordsOf (pieceRead (now (state .entry)) (now (buffer .entry)) (now (piece .entry)) .step .state) ⌝ }
     ensures { λ _. ⌜ now (buffer .exit) ≡ pieceRead (now (state .entry)) (now (buffer .entry)) (now (piece .entry)) .buffer ⌝ }

@@ -23,13 +23,14 @@ unfolding pieceRead
 returns c =
     let args = c .before .before .before .before .before .before .before .before .args in
     let called = c .before .before .before .read-piece in
-    let state = c .before .before .before .before .before .state-in .ensures in
+    let state = c .before .before .before .before .before .state-in .ensures .0 in
+    let own = c .before .before .before .before .before .state-in .ensures .1 ∙ ap wordsOf state in
     let given = pieceRead (args .state .now) (args .buffer .now) (args .piece .now) in
     let same = called .ensures .0 ∙ ap (λ (s : State). read s (args .buffer .now) (args .piece .now) .step) state in
     let bytes = called .ensures .1 ∙ ap (λ (s : State). read s (args .buffer .now) (args .piece .now) .buffer) state in
     let words = c .before .put-state .ensures ∙ ap (λ (s : Step). wordsOf (s .state)) same in
     let number = ap (λ (s : Step). s .number) same in
-    (number, (words, (bytes, step-stands (args .step .now) (given .step) (λ z. c .if1 .taken (number ∙ z)))))
+    (own, (number, (words, (bytes, step-stands (args .step .now) (given .step) (λ z. c .if1 .taken (number ∙ z))))))
 
 put-step-requires : tie.Need-put-step-requires
 put-step-requires c κs = search needs
@@ -39,14 +40,15 @@ unfolding pieceRead
 returns-2 c =
     let args = c .before .before .before .before .before .before .before .before .before .before .args in
     let called = c .before .before .before .before .before .read-piece in
-    let state = c .before .before .before .before .before .before .before .state-in .ensures in
+    let state = c .before .before .before .before .before .before .before .state-in .ensures .0 in
+    let own = c .before .before .before .before .before .before .before .state-in .ensures .1 ∙ ap wordsOf state in
     let given = pieceRead (args .state .now) (args .buffer .now) (args .piece .now) in
     let same = called .ensures .0 ∙ ap (λ (s : State). read s (args .buffer .now) (args .piece .now) .step) state in
     let bytes = called .ensures .1 ∙ ap (λ (s : State). read s (args .buffer .now) (args .piece .now) .buffer) state in
     let words = c .before .before .before .put-state .ensures ∙ ap (λ (s : Step). wordsOf (s .state)) same in
     let number = ap (λ (s : Step). s .number) same in
     let done = sym number ∙ c .before .before .if1 .left in
-    (sym done, (words, (bytes, c .put-step .ensures ∙ ap (λ (s : Step). stepWords (s .taken) (s .event)) same ∙ step-given (args .step .now) (given .step) done)))
+    (own, (sym done, (words, (bytes, c .put-step .ensures ∙ ap (λ (s : Step). stepWords (s .taken) (s .event)) same ∙ step-given (args .step .now) (given .step) done))))
 
 pub gateway-stream-read-spec : {M : Type 1} → statement M
 gateway-stream-read-spec =
