@@ -1,7 +1,7 @@
 /*
- * Reads every field of the tables by its name in gateway.h. The calls below give a field of some record a value that no
- * other field of the record has, and each count another, so a field that the header has in another place than the library
- * is read with a wrong value.
+ * Reads every field of the tables, of a reader's state and of its step by its name in gateway.h. The calls below give a
+ * field of some record a value that no other field of the record has, and each count another, so a field that the header has
+ * in another place than the library is read with a wrong value.
  *
  * Exit status: 0 if every field is as given and stands at its word; 1 if not, with each that is not; 2 if a call was
  * refused.
@@ -10,6 +10,7 @@
 
 #include <stdio.h>
 #include <stdlib.h>
+#include <string.h>
 
 #define MESSAGE 71 /* bytes of a LOCKING message with one range of 20 bytes */
 
@@ -222,11 +223,99 @@ static void read_words(void)
     WORD(files[15].size, 1171);
 }
 
+static struct gateway_stream reader;
+static struct gateway_stream_step step;
+
+/* Hands a piece to the reader; the number must be the one expected. */
+static void feed(const uint8_t *piece, size_t length, uint8_t number)
+{
+    static uint8_t buffer[GATEWAY_STREAM_BUFFER];
+    uint8_t given = gateway_stream_read(&reader, buffer, piece, length, &step);
+    if (given == number)
+        return;
+    fprintf(stderr, "fields: gateway_stream_read returned %u and not %u\n", (unsigned)given, (unsigned)number);
+    exit(2);
+}
+
+static void same_state(size_t place, struct gateway_stream due)
+{
+    same("stopped", place, reader.stopped, due.stopped);
+    same("begun", place, reader.begun, due.begun);
+    same("first", place, reader.first, due.first);
+    same("second", place, reader.second, due.second);
+    same("third", place, reader.third, due.third);
+    same("length", place, reader.length, due.length);
+    same("got", place, reader.got, due.got);
+}
+
+static void same_step(size_t place, struct gateway_stream_step due)
+{
+    same("taken", place, step.taken, due.taken);
+    same("event", place, step.event, due.event);
+    same("at", place, step.at, due.at);
+    same("length", place, step.length, due.length);
+}
+
+/* Begun headers and messages, a message in the piece behind a keep-alive, one in the buffer, and a stop. */
+static void read_stream(void)
+{
+    static const uint8_t begun[] = {0x85, 7, 9};
+    static const uint8_t large[] = {0, 0, 1, 44, 'a', 'b', 'c', 'd', 'e'};
+    static const uint8_t two[] = {0x85, 0, 0, 0, 0, 0, 0, 3, 'a', 'b', 'c', 0, 0, 0, 2, 'd'};
+    static const uint8_t rest[] = {'e', 0};
+    static const uint8_t long_header[] = {0, 0x20, 1};
+    memset(&reader, 0xFF, sizeof reader);
+    gateway_stream_reset(&reader);
+    same_state(0, (struct gateway_stream){0});
+    feed(begun, sizeof begun, GATEWAY_DONE);
+    same_state(1, (struct gateway_stream){.begun = 3, .first = 0x85, .second = 7, .third = 9});
+    same_step(1, (struct gateway_stream_step){.taken = 3, .event = GATEWAY_STREAM_WANTED});
+    gateway_stream_reset(&reader);
+    feed(large, sizeof large, GATEWAY_DONE);
+    same_state(2, (struct gateway_stream){.length = 300, .got = 5});
+    gateway_stream_reset(&reader);
+    feed(two, sizeof two, GATEWAY_DONE);
+    same_state(3, (struct gateway_stream){0});
+    same_step(3, (struct gateway_stream_step){.taken = 11, .event = GATEWAY_STREAM_IN_PIECE, .at = 8, .length = 3});
+    feed(two + 11, sizeof two - 11, GATEWAY_DONE);
+    same_state(4, (struct gateway_stream){.length = 2, .got = 1});
+    feed(rest, sizeof rest, GATEWAY_DONE);
+    same_step(4, (struct gateway_stream_step){.taken = 1, .event = GATEWAY_STREAM_IN_BUFFER, .length = 2});
+    feed(rest + 1, 1, GATEWAY_DONE);
+    feed(long_header, sizeof long_header, GATEWAY_STREAM_TOO_LONG);
+    same_state(5, (struct gateway_stream){.stopped = GATEWAY_STREAM_TOO_LONG});
+    /* the last step stands: none was written */
+    same_step(5, (struct gateway_stream_step){.taken = 1, .event = GATEWAY_STREAM_WANTED});
+    reader.got = 1;
+    feed(begun, sizeof begun, GATEWAY_STREAM_NO_SUCH_STATE);
+    same_state(6, (struct gateway_stream){.stopped = GATEWAY_STREAM_TOO_LONG, .got = 1});
+}
+
+#define STATE_WORD(field, word) same("the word of the state's " #field, 0, offsetof(struct gateway_stream, field) / 8, word)
+#define STEP_WORD(field, word) same("the word of the step's " #field, 0, offsetof(struct gateway_stream_step, field) / 8, word)
+
+static void read_stream_words(void)
+{
+    STATE_WORD(stopped, 0);
+    STATE_WORD(begun, 1);
+    STATE_WORD(first, 2);
+    STATE_WORD(second, 3);
+    STATE_WORD(third, 4);
+    STATE_WORD(length, 5);
+    STATE_WORD(got, 6);
+    STEP_WORD(taken, 0);
+    STEP_WORD(event, 1);
+    STEP_WORD(at, 2);
+    STEP_WORD(length, 3);
+}
+
 int main(void)
 {
     fill();
     read_records();
     read_words();
+    read_stream();
+    read_stream_words();
     printf("fields: %lu read, %lu wrong\n", read_fields, wrong);
     return wrong == 0 ? 0 : 1;
 }

@@ -1,51 +1,36 @@
 /*
  * An example host: it serves one file, the revocation list, to two terminals.
  *
- *     host [--show] [LIST] < messages > replies
+ *     host [--show] [--pieces SIZE] [--list LIST] [CONNECTION=STREAM ..] > replies
  *
- * Messages come framed on standard input, and replies go framed to standard output. A frame is the number of the
- * connection and the length of the message, each in 4 bytes with the high byte first, then the message. A message that
- * is dropped has no reply, so no frame is written for it. With --show a person can read what came of each message.
+ * A stream is the bytes of a terminal's TCP connection: messages, each behind the four-byte session header of RFC 1002.
+ * Terminal 1 is connection 5 and terminal 2 is connection 6. The files are read one after the other, and what is begun on a
+ * connection at the end of one goes on in its next. With no file named, standard input is connection 5's stream. Replies go
+ * to standard output in the same framing, in the order of their messages. A message that is dropped has no reply. With
+ * --show a person can read what came of each message.
  *
- * LIST is a file of at most 4,096 bytes to serve; without it a built-in list is served.
+ * SIZE is how many bytes are read at a time at most, 1 to 4,096. LIST is a file of at most 4,096 bytes to serve; without it a
+ * built-in list is served.
  *
- * Exit status: 0 if all input was well framed; 1 if it ended inside a frame; 2 if the host could not go on.
+ * Exit status: 0 if every stream ended behind a message; 1 if one ended inside a message or its reader was stopped by a
+ * header; 2 if the host could not go on.
  */
 #include "gateway.h"
 #include "show.h"
 
+#include <fcntl.h>
 #include <stdbool.h>
 #include <stdio.h>
 #include <stdlib.h>
 #include <string.h>
+#include <unistd.h>
 
-/*
- * The library drops a message over 8,192 bytes. One byte more is enough for it to say so; what is longer than that is
- * never held in memory.
- */
-#define LONGEST_HANDED 8193
-
-#define HEAD_LENGTH 8
+#define LONGEST_PIECE 4096
 #define REVOCATION_LIST 0 /* the list's file number */
-
-enum reading { READING_WHOLE, READING_END, READING_BROKEN };
 
 /* Values that document 01 gives to rights and accesses. */
 enum { RIGHT_READ = 0, RIGHT_READ_WRITE = 1 };
 enum { ACCESS_READ = 0, ACCESS_BOTH = 2 };
-
-/*
- * All memory that the library is lent. The host keeps the tables and the file memory from call to call; message and room
- * are free for other use between calls.
- */
-struct host {
-    struct gateway_tables tables;
-    uint8_t memory[GATEWAY_MEMORY];
-    uint8_t message[LONGEST_HANDED];
-    uint8_t room[GATEWAY_ROOM];
-    unsigned long messages; /* how many frames were read */
-    bool show;
-};
 
 /* A terminal as the gateway knows it after login. Login itself is the host's matter and left out here. */
 struct terminal {
@@ -61,6 +46,30 @@ static const struct terminal terminals[] = {
 };
 
 #define TERMINALS (sizeof terminals / sizeof terminals[0])
+
+/* What the host keeps for a connection: its reader, and the reader's buffer. */
+struct line {
+    uint32_t connection;
+    struct gateway_stream reader;
+    uint8_t buffer[GATEWAY_STREAM_BUFFER];
+};
+
+/*
+ * All memory that the library is lent. The host keeps the tables, the file memory and the lines from call to call; the rest is
+ * free for other use between calls.
+ */
+struct host {
+    struct gateway_tables tables;
+    uint8_t memory[GATEWAY_MEMORY];
+    struct line lines[TERMINALS];
+    uint8_t piece[LONGEST_PIECE];
+    uint8_t room[GATEWAY_ROOM];
+    uint8_t framed[GATEWAY_STREAM_ROOM];
+    size_t piece_size;
+    unsigned long messages; /* how many were handed out */
+    bool show;
+    bool broken; /* a stream ended inside a message, or a header stopped its reader */
+};
 
 static const char built_in_list[] = "Certificates revoked by the office, one to a line, as of this morning: "
                                     "0017 0042 0311 0768 0901 1024 1183 1399 1777 2048";
@@ -121,8 +130,11 @@ static void prepare(struct host *host, const char *path)
 {
     gateway_empty(&host->tables);
     load_list(host, path);
-    for (size_t place = 0; place < TERMINALS; place++)
+    for (size_t place = 0; place < TERMINALS; place++) {
         add_terminal(host, &terminals[place]);
+        host->lines[place].connection = terminals[place].connection;
+        gateway_stream_reset(&host->lines[place].reader);
+    }
 }
 
 /* What a host does when a terminal hangs up. Its sessions go, and with them all that it had open or locked. */
@@ -134,114 +146,148 @@ static void hang_up(struct host *host)
     }
 }
 
-static uint32_t get_number(const uint8_t *bytes)
+/* The room has GATEWAY_STREAM_ROOM bytes, so no reply of the library is refused. */
+static void write_reply(struct host *host, size_t length)
 {
-    return (uint32_t)bytes[0] << 24 | (uint32_t)bytes[1] << 16 | (uint32_t)bytes[2] << 8 | bytes[3];
-}
-
-static void put_number(uint8_t *bytes, uint32_t number)
-{
-    for (int place = 0; place < 4; place++)
-        bytes[place] = (uint8_t)(number >> (24 - 8 * place));
-}
-
-static enum reading read_bytes(uint8_t *bytes, size_t length)
-{
-    size_t got = fread(bytes, 1, length, stdin);
-    if (got == length)
-        return READING_WHOLE;
-    return got == 0 ? READING_END : READING_BROKEN;
-}
-
-/* Reads a message that is too long, part by part, and forgets it: the next frame starts behind it. */
-static enum reading skip_bytes(uint32_t length)
-{
-    uint8_t part[512];
-    while (length > 0) {
-        size_t next = length < sizeof part ? length : sizeof part;
-        if (read_bytes(part, next) != READING_WHOLE)
-            return READING_BROKEN;
-        length -= (uint32_t)next;
-    }
-    return READING_WHOLE;
-}
-
-static void write_reply(const struct host *host, uint32_t connection, size_t length)
-{
-    uint8_t head[HEAD_LENGTH];
-    put_number(head, connection);
-    put_number(head + 4, (uint32_t)length);
-    fwrite(head, 1, sizeof head, stdout);
-    fwrite(host->room, 1, length, stdout);
+    size_t written = 0;
+    require_done(gateway_stream_write(host->room, length, host->framed, sizeof host->framed, &written),
+                 "gateway_stream_write");
+    fwrite(host->framed, 1, written, stdout);
 }
 
 /*
  * Done: the reply goes out, also if it refuses the request on the wire. Dropped: nothing goes out. Any other number is a
  * fault of this host.
  */
-static void take_message(struct host *host, uint32_t connection, size_t length)
+static void take_message(struct host *host, uint32_t connection, const uint8_t *message, size_t length)
 {
     size_t reply_length = 0;
-    uint8_t number = gateway_take_message(&host->tables, connection, host->message, length, host->memory,
-                                          sizeof host->memory, host->room, sizeof host->room, &reply_length);
+    host->messages++;
+    if (host->show)
+        show_message(host->messages, connection, length);
+    uint8_t number = gateway_take_message(&host->tables, connection, message, length, host->memory, sizeof host->memory,
+                                          host->room, sizeof host->room, &reply_length);
     if (number != GATEWAY_DROPPED)
         require_done(number, "gateway_take_message");
     if (host->show)
         show_taken(number, host->room, reply_length, &host->tables);
     else if (number == GATEWAY_DONE)
-        write_reply(host, connection, reply_length);
+        write_reply(host, reply_length);
 }
 
-static enum reading serve_frame(struct host *host)
+/* A header that the reader does not take: nothing behind it can be told apart, so a host hangs up. */
+static void stopped(struct host *host, const struct line *line, uint8_t number)
 {
-    uint8_t head[HEAD_LENGTH];
-    enum reading reading = read_bytes(head, sizeof head);
-    if (reading != READING_WHOLE)
-        return reading;
-    uint32_t connection = get_number(head);
-    uint32_t length = get_number(head + 4);
-    host->messages++;
-    if (host->show)
-        show_frame(host->messages, connection, length);
-    if (length > LONGEST_HANDED) {
-        if (host->show)
-            show_too_long();
-        return skip_bytes(length);
+    if (number == GATEWAY_STREAM_NO_SUCH_STATE)
+        stop("a reader's state was damaged");
+    host->broken = true;
+    fprintf(stderr, "host: connection %lu: the reader stopped, %u, %s\n", (unsigned long)line->connection, (unsigned)number,
+            stream_number_in_words(number));
+    require_done(gateway_drop_connection(&host->tables, line->connection), "gateway_drop_connection");
+}
+
+/* Hands a piece to the reader until all of it is taken, and each message, where it stands, to the library. */
+static bool feed(struct host *host, struct line *line, const uint8_t *piece, size_t length)
+{
+    for (size_t done = 0; done < length;) {
+        struct gateway_stream_step step;
+        uint8_t number = gateway_stream_read(&line->reader, line->buffer, piece + done, length - done, &step);
+        if (number != GATEWAY_DONE) {
+            stopped(host, line, number);
+            return false;
+        }
+        if (step.event == GATEWAY_STREAM_IN_PIECE)
+            take_message(host, line->connection, piece + done + step.at, step.length);
+        else if (step.event == GATEWAY_STREAM_IN_BUFFER)
+            take_message(host, line->connection, line->buffer, step.length);
+        done += step.taken;
     }
-    if (length > 0 && read_bytes(host->message, length) != READING_WHOLE)
-        return READING_BROKEN;
-    take_message(host, connection, length);
-    return READING_WHOLE;
+    return true;
 }
 
-static int serve(struct host *host)
+/*
+ * Reads a stream to its end, in the pieces that come, and sends the replies of each before it waits for the next. A reader
+ * that a header stopped gets no more.
+ */
+static void serve(struct host *host, struct line *line, int stream)
 {
-    enum reading reading;
-    do
-        reading = serve_frame(host);
-    while (reading == READING_WHOLE);
-    if (ferror(stdin))
-        stop("the input cannot be read");
+    ssize_t length;
+    if (line->reader.stopped != 0)
+        return;
+    do {
+        if (fflush(stdout) != 0)
+            stop("the output cannot be written");
+        length = read(stream, host->piece, host->piece_size);
+        if (length < 0)
+            stop("the input cannot be read");
+    } while (length > 0 && feed(host, line, host->piece, (size_t)length));
+}
+
+/* CONNECTION=STREAM */
+static void serve_file(struct host *host, const char *word)
+{
+    const char *path = strchr(word, '=');
+    for (size_t place = 0; path != NULL && place < TERMINALS; place++) {
+        if (strtoul(word, NULL, 10) != terminals[place].connection)
+            continue;
+        int stream = open(path + 1, O_RDONLY);
+        if (stream < 0)
+            stop("a stream cannot be opened");
+        serve(host, &host->lines[place], stream);
+        close(stream);
+        return;
+    }
+    stop("a stream of no terminal; CONNECTION=STREAM is needed, and 5 or 6 for CONNECTION");
+}
+
+/* Every stream ends with nothing begun. */
+static void end_lines(struct host *host)
+{
+    for (size_t place = 0; place < TERMINALS; place++) {
+        const struct gateway_stream *reader = &host->lines[place].reader;
+        if (reader->begun == 0 && reader->length == 0)
+            continue;
+        host->broken = true;
+        fprintf(stderr, "host: connection %lu: the stream ends inside a message\n",
+                (unsigned long)host->lines[place].connection);
+    }
     if (fflush(stdout) != 0 || ferror(stdout))
         stop("the output cannot be written");
-    if (reading == READING_BROKEN)
-        fprintf(stderr, "host: the input ends inside a frame\n");
-    return reading == READING_BROKEN ? 1 : 0;
+}
+
+/* The word behind an option. */
+static const char *value(int count, char **words, int place)
+{
+    if (place + 1 >= count)
+        stop("usage: host [--show] [--pieces SIZE] [--list LIST] [CONNECTION=STREAM ..]");
+    return words[place + 1];
 }
 
 int main(int count, char **words)
 {
-    /* Static: the library needs stack of its own, and some 95 KB of buffers should not compete with it. */
+    /* Static: the library needs stack of its own, and some 120 KB of buffers should not compete with it. */
     static struct host host;
+    const char *list = NULL;
     int next = 1;
-    if (next < count && strcmp(words[next], "--show") == 0) {
-        host.show = true;
-        next++;
+    host.piece_size = LONGEST_PIECE;
+    for (; next < count && words[next][0] == '-'; next++) {
+        if (strcmp(words[next], "--show") == 0)
+            host.show = true;
+        else if (strcmp(words[next], "--pieces") == 0)
+            host.piece_size = strtoul(value(count, words, next++), NULL, 10);
+        else if (strcmp(words[next], "--list") == 0)
+            list = value(count, words, next++);
+        else
+            stop("no such option");
     }
-    if (count - next > 1)
-        stop("usage: host [--show] [LIST] < messages");
-    prepare(&host, next < count ? words[next] : NULL);
-    int status = serve(&host);
+    if (host.piece_size < 1 || host.piece_size > LONGEST_PIECE)
+        stop("a piece has 1 to 4,096 bytes");
+    prepare(&host, list);
+    if (next == count)
+        serve(&host, &host.lines[0], STDIN_FILENO);
+    for (; next < count; next++)
+        serve_file(&host, words[next]);
+    end_lines(&host);
     hang_up(&host);
-    return status;
+    return host.broken ? 1 : 0;
 }

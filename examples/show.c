@@ -65,6 +65,23 @@ const char *number_in_words(uint8_t number)
     return "a number that is not defined";
 }
 
+const char *stream_number_in_words(uint8_t number)
+{
+    switch (number) {
+    case GATEWAY_STREAM_OTHER_TYPE:
+        return "a header of another type";
+    case GATEWAY_STREAM_RESERVED_FLAGS:
+        return "reserved flag bits";
+    case GATEWAY_STREAM_KEEP_ALIVE_LENGTH:
+        return "a keep-alive with a length";
+    case GATEWAY_STREAM_TOO_LONG:
+        return "a message of more than 8,192 bytes";
+    case GATEWAY_STREAM_NO_SUCH_STATE:
+        return "a state that no stream leaves";
+    }
+    return "a number that is not defined";
+}
+
 static const char *status_in_words(unsigned class, unsigned code)
 {
     for (size_t place = 0; place < sizeof statuses / sizeof statuses[0]; place++)
@@ -154,14 +171,9 @@ static void show_tables(const struct gateway_tables *tables)
            tables->session_count, tables->tree_count, tables->open_count, tables->lock_count);
 }
 
-void show_frame(unsigned long place, uint32_t connection, uint32_t length)
+void show_message(unsigned long place, uint32_t connection, size_t length)
 {
-    printf("message %lu on connection %" PRIu32 ": %" PRIu32 " bytes\n", place, connection, length);
-}
-
-void show_too_long(void)
-{
-    printf("  too long to be handed on, no reply\n");
+    printf("message %lu on connection %" PRIu32 ": %zu bytes\n", place, connection, length);
 }
 
 void show_taken(uint8_t number, const uint8_t *reply, size_t length, const struct gateway_tables *tables)

@@ -7,11 +7,11 @@
 /* What a number returned by a call means. */
 const char *number_in_words(uint8_t number);
 
-/* A frame that was read: which one, on which connection, how long. */
-void show_frame(unsigned long place, uint32_t connection, uint32_t length);
+/* What a number that stopped a reader means. */
+const char *stream_number_in_words(uint8_t number);
 
-/* The frame's message was too long to be handed to the library. */
-void show_too_long(void);
+/* A message that was handed out: which one, on which connection, how long. */
+void show_message(unsigned long place, uint32_t connection, size_t length);
 
 /* What the library returned, the reply if there is one, and how many records the tables then hold. */
 void show_taken(uint8_t number, const uint8_t *reply, size_t length, const struct gateway_tables *tables);

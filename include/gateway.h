@@ -6,10 +6,12 @@
  * not run at the same time.
  *
  * No pointer may be NULL, not even one whose length is 0, and no two areas handed to one call may overlap: the tables,
- * an out-parameter, the contents or the message, the file memory, the reply room.
+ * an out-parameter, the contents or the message, the file memory, the reply room; a reader's state, its buffer, the
+ * piece and the step.
  *
- * Every call but gateway_empty returns one of the numbers below. A call that returns anything but GATEWAY_DONE has
- * written nothing at all: no table, no file byte, no reply byte, no out-parameter.
+ * Every call on tables but gateway_empty returns one of the numbers below. A call that returns anything but GATEWAY_DONE
+ * has written nothing at all: no table, no file byte, no reply byte, no out-parameter. The stream's calls, at the end of
+ * this file, have numbers of their own.
  */
 #ifndef GATEWAY_H
 #define GATEWAY_H
@@ -138,6 +140,81 @@ uint8_t gateway_drop_connection(struct gateway_tables *tables, uint32_t connecti
 uint8_t gateway_take_message(struct gateway_tables *tables, uint32_t connection, const uint8_t *message,
                              size_t message_length, uint8_t *memory, size_t memory_length, uint8_t *room,
                              size_t room_length, size_t *reply_length);
+
+/*
+ * The stream. On TCP each message stands behind the four-byte session header of RFC 1002. The reader takes the bytes of a
+ * connection in pieces, however they are cut, and hands out the messages; the writer puts a message behind its header.
+ */
+
+/* What gateway_stream_read returns beside GATEWAY_DONE. 1 to 4 stop the reader: it answers that number until it is reset. */
+#define GATEWAY_STREAM_OTHER_TYPE 1        /* a header of another type than 0x00 and 0x85 */
+#define GATEWAY_STREAM_RESERVED_FLAGS 2    /* a flag bit other than the lowest is set */
+#define GATEWAY_STREAM_KEEP_ALIVE_LENGTH 3 /* a keep-alive whose length is not 0 */
+#define GATEWAY_STREAM_TOO_LONG 4          /* a message of more than 8,192 bytes */
+#define GATEWAY_STREAM_NO_SUCH_STATE 5     /* no stream leaves such a state: a fault of the host; nothing was written */
+
+/* What gateway_stream_write returns beside GATEWAY_DONE. Nothing was written. */
+#define GATEWAY_STREAM_WRITE_TOO_LONG 1 /* the message has more than GATEWAY_ROOM bytes */
+#define GATEWAY_STREAM_WRITE_NO_ROOM 2  /* the room is under the message's length and GATEWAY_STREAM_HEADER */
+
+#define GATEWAY_STREAM_HEADER 4      /* bytes of a session header */
+#define GATEWAY_STREAM_BUFFER 8192   /* bytes of buffer that each reader is lent */
+#define GATEWAY_STREAM_ROOM 12296    /* bytes of room that any reply with its header fits in */
+#define GATEWAY_STREAM_STATE_WORDS 7 /* 64-bit words in a reader's state */
+#define GATEWAY_STREAM_STEP_WORDS 4  /* 64-bit words in what a call of the reader gives */
+
+/*
+ * A reader's state, which the host keeps for each connection with the reader's buffer. Start with gateway_stream_reset. Any
+ * values are legal: those that no stream leaves are GATEWAY_STREAM_NO_SUCH_STATE.
+ */
+struct gateway_stream {
+    uint64_t stopped; /* 0, or the number that stopped the reader; then all else is 0 */
+    uint64_t begun;   /* how many bytes of a header are in: 0 to 3 */
+    uint64_t first;   /* those bytes; 0 where a byte is not in */
+    uint64_t second;
+    uint64_t third;
+    uint64_t length; /* of a begun message, 1 to 8,192; 0 if none is begun */
+    uint64_t got;    /* how many of its bytes are in the buffer: less than its length */
+};
+
+/* What became of a piece. */
+#define GATEWAY_STREAM_WANTED 0    /* no message became whole: all of the piece was taken and more bytes are wanted */
+#define GATEWAY_STREAM_IN_PIECE 1  /* a message stands in the piece, from `at` on */
+#define GATEWAY_STREAM_IN_BUFFER 2 /* a message stands in the buffer, from 0 on */
+
+struct gateway_stream_step {
+    uint64_t taken;  /* how many bytes of the piece were taken: the next call's piece starts behind them */
+    uint64_t event;  /* one of the three above */
+    uint64_t at;     /* where the message starts in the piece; otherwise 0 */
+    uint64_t length; /* the message's length, 0 to 8,192; 0 if there is none */
+};
+
+#ifdef __cplusplus
+static_assert(sizeof(struct gateway_stream) == GATEWAY_STREAM_STATE_WORDS * sizeof(uint64_t), "the state is 7 words");
+static_assert(sizeof(struct gateway_stream_step) == GATEWAY_STREAM_STEP_WORDS * sizeof(uint64_t), "the step is 4 words");
+#else
+_Static_assert(sizeof(struct gateway_stream) == GATEWAY_STREAM_STATE_WORDS * sizeof(uint64_t), "the state is 7 words");
+_Static_assert(sizeof(struct gateway_stream_step) == GATEWAY_STREAM_STEP_WORDS * sizeof(uint64_t), "the step is 4 words");
+#endif
+
+/* A reader that has read nothing, whatever the state was. */
+void gateway_stream_reset(struct gateway_stream *state);
+
+/*
+ * Takes a piece of the stream up to the end of the first message that becomes whole, or all of it. The buffer has
+ * GATEWAY_STREAM_BUFFER bytes and is the reader's as long as a message is begun. On GATEWAY_DONE *step says what became of
+ * the piece. On 1 to 4 the reader is stopped: the state says so and nothing else, and neither *step nor the buffer was
+ * written; messages handed out before stand.
+ */
+uint8_t gateway_stream_read(struct gateway_stream *state, uint8_t *buffer, const uint8_t *piece, size_t piece_length,
+                            struct gateway_stream_step *step);
+
+/*
+ * Writes a message behind its header to the start of the room. On GATEWAY_DONE *written is the length of both, and the
+ * bytes of the room behind them are as they were.
+ */
+uint8_t gateway_stream_write(const uint8_t *message, size_t message_length, uint8_t *room, size_t room_length,
+                             size_t *written);
 
 #ifdef __cplusplus
 }

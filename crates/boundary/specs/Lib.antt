@@ -1,3 +1,5 @@
 pub mod Boundary
 pub mod BoundaryLaws
 pub mod MessageLaws
+pub mod StreamWords
+pub mod StreamWordsLaws

@@ -39,3 +39,5 @@ pub mod Ready
 pub mod Exported
 pub mod OutOfRange
 pub mod WordsNamed
+pub mod StreamTaken
+pub mod StreamSeen

@@ -1,6 +1,9 @@
-// Each exported function called as it stands, with what the host sees of it in the core's own words (`demands/specs/Exported.antt`). A
-// contract of `gateway` that says less, or that speaks of another argument, does not give these.
+// Each exported function called as it stands, with what the host sees of it in the core's own words (`demands/specs/Exported.antt`,
+// `StreamSeen.antt`). A contract of `gateway` that says less, or that speaks of another argument, does not give these.
 
+use gateway::byte_stream::gateway_stream_read;
+use gateway::byte_stream::gateway_stream_reset;
+use gateway::byte_stream::gateway_stream_write;
 use gateway::gateway_add_open;
 use gateway::gateway_add_session;
 use gateway::gateway_add_tree;
@@ -13,7 +16,9 @@ ghost use lib.ListN.{replicate};
 ghost use Rattle.tables.specs.Words.{tablesOf};
 ghost use Rattle.host.specs.HostCall.{addSession, addTree, addOpen, dropConnection};
 ghost use Rattle.claims.specs.HostFrames.{SessionAdded, TreeAdded, OpenAdded, ConnectionDropped};
+ghost use Rattle.stream.specs.State.{noneBegun};
 ghost use Rattle.demands.specs.Exported.{Seen, LoadSeen, MessageSeen};
+ghost use Rattle.demands.specs.StreamSeen.{stateRead, PieceSeen, WrittenSeen};
 
 // Every word is 0: no record in use, every file empty.
 pub fn seen_empty(tables: &mut [u64; 1172])
@@ -77,4 +82,31 @@ pub fn seen_message(
     ensures { λ r. ⌜ MessageSeen connection (now (message .entry)) (now (tables .entry)) (now (memory .entry)) (now (room .entry)) (now (written .entry)) r (now (tables .exit)) (now (memory .exit)) (now (room .exit)) (now (written .exit)) ⌝ }
 {
     gateway_take_message(tables, connection, message, memory, room, written)
+}
+
+// A reader that has read nothing, whatever the words were: all are 0.
+pub fn seen_stream_reset(state: &mut [u64; 7])
+    ensures { λ _. ⌜ now (state .exit) ≡ replicate 7 0 ⌝ }
+    ensures { λ _. ⌜ stateRead (now (state .exit)) ≡ noneBegun ⌝ }
+{
+    gateway_stream_reset(state);
+}
+
+// That piece of the stream.
+pub fn seen_stream_read(
+    state: &mut [u64; 7],
+    buffer: &mut [u8; 8192],
+    piece: &[u8],
+    step: &mut [u64; 4],
+) -> u8
+    ensures { λ r. ⌜ PieceSeen (now (state .entry)) (now (buffer .entry)) (now (piece .entry)) (now (step .entry)) r (now (state .exit)) (now (buffer .exit)) (now (step .exit)) ⌝ }
+{
+    gateway_stream_read(state, buffer, piece, step)
+}
+
+// That message behind its header.
+pub fn seen_stream_write(message: &[u8], room: &mut [u8], written: &mut usize) -> u8
+    ensures { λ r. ⌜ WrittenSeen (now (message .entry)) (now (room .entry)) (now (written .entry)) r (now (room .exit)) (now (written .exit)) ⌝ }
+{
+    gateway_stream_write(message, room, written)
 }

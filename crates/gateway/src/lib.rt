@@ -2,6 +2,7 @@
 // right, a file or an access is 32 bits wide, and one that its field cannot hold is answered as document 01 says for that number.
 
 mod argument;
+pub mod byte_stream;
 
 use crate::argument::to_number;
 use crate::argument::to_small;
