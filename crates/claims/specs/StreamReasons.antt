@@ -45,20 +45,20 @@ module _ (kind flags high low : ℕ) where
   stop-says n =
       cond-case (λ (j : Judged). j ≡ Stop n → StopReason kind flags high low n) (not (known kind)) (Stop 1) _
       (λ u e. let z : 1 ≡ n = cc in
-          let k = neither-holds (eqb kind 0) (eqb kind 133) (not-true (known kind) u) in
-          rw (← z) (another-type (eqb-false kind 0 (k .0)) (eqb-false kind 133 (k .1))))
+      let k = neither-holds (eqb kind 0) (eqb kind 133) (not-true (known kind) u) in
+      rw (← z) (another-type (eqb-false kind 0 (k .0)) (eqb-false kind 133 (k .1))))
       (λ u. let k : (kind ≡ 0x00) ⊎ (kind ≡ 0x85) = known-says kind (not-false (known kind) u) in
       cond-case (λ (j : Judged). j ≡ Stop n → StopReason kind flags high low n) (ltb 1 flags) (Stop 2) _
       (λ v e. let z : 2 ≡ n = cc in rw (← z) (reserved-flags k (ltb-true 1 flags v)))
       (λ v. let f : flags ≤ 1 = ltb-false 1 flags v in
       cond-case (λ (j : Judged). j ≡ Stop n → StopReason kind flags high low n) (eqb kind 133) _ _
       (λ w. cond-case (λ (j : Judged). j ≡ Stop n → StopReason kind flags high low n) (eqb (lengthOf flags high low) 0) KeepAlive (Stop 3)
-        (λ x e. let z : _≡_ {A = ℕ} 0 1 = cc in absurd (omega arith))
-        (λ x e. let z : 3 ≡ n = cc in let y : (lengthOf flags high low ≡ 0 → ⊥) = eqb-false (lengthOf flags high low) 0 x in
-            rw (← z) (keep-alive-with-length (eqb-true kind 133 w) f (omega arith))))
+      (λ x e. let z : _≡_ {A = ℕ} 0 1 = cc in absurd (omega arith))
+      (λ x e. let z : 3 ≡ n = cc in let y : (lengthOf flags high low ≡ 0 → ⊥) = eqb-false (lengthOf flags high low) 0 x in
+      rw (← z) (keep-alive-with-length (eqb-true kind 133 w) f (omega arith))))
       (λ w. cond-case (λ (j : Judged). j ≡ Stop n → StopReason kind flags high low n) (ltb 8192 (lengthOf flags high low)) (Stop 4) (Message (lengthOf flags high low))
-        (λ x e. let z : 4 ≡ n = cc in rw (← z) (too-long (elim k [ | inl a ↦ a | inr b ↦ absurd (eqb-false kind 133 w b) ]) f (ltb-true 8192 (lengthOf flags high low) x)))
-        (λ x e. let z : _≡_ {A = ℕ} 0 1 = cc in absurd (omega arith)))))
+      (λ x e. let z : 4 ≡ n = cc in rw (← z) (too-long (elim k [ inl a ↦ a | inr b ↦ absurd (eqb-false kind 133 w b) ]) f (ltb-true 8192 (lengthOf flags high low) x)))
+      (λ x e. let z : _≡_ {A = ℕ} 0 1 = cc in absurd (omega arith)))))
 
   stop-given : (n : ℕ) → StopReason kind flags high low n → judge kind flags high low ≡ Stop n
   unfolding judge judgeLength known

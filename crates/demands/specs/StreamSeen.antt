@@ -12,10 +12,10 @@ use Rattle.lists.specs.Truth.{test-cases, fails}
 use Rattle.stream.specs.declared.state.State.{State}
 use Rattle.stream.specs.declared.reader.Event.the-variants.{NoMessage, InPiece, InBuffer}
 use Rattle.stream.specs.Stream.{First, wanted, stops, whole, first}
-use Rattle.stream.specs.State.{stoppedBy, pending, taken}
+use Rattle.stream.specs.State.{stoppedBy, pending, isLeft}
 use Rattle.stream.specs.Reader.{Read, stepOf, refused, handed, readBy, read}
 use Rattle.stream.specs.Writer.{framed, writtenOf, write}
-use Rattle.stream.specs.StateLaws.{taken-stopped}
+use Rattle.stream.specs.StateLaws.{is-left-stopped}
 use Rattle.stream.specs.ReaderLaws.{read-not-left, read-stopped, read-going}
 use Rattle.boundary.specs.StreamWords.{stateIn, wordsOf, stepWords, pieceRead, stepAfter, writtenAfter}
 use Rattle.boundary.specs.StreamWordsLaws.{step-stands, step-given, written-stands}
@@ -86,14 +86,14 @@ stops-by state buffer piece (whole m q) e n = absurd (n (test-cases (eqb (state 
 some : (n : ℕ) → (n ≡ 0 → ⊥) → 1 ≤ n
 some n h = test-cases (eqb n 0) (λ e. absurd (h (eqb-true n 0 e))) (λ e. let k = eqb-false n 0 e in omega arith)
 
-read-stops : (state : State) (buffer piece : List ℕ) → taken state ≡ true → (read state buffer piece .step .number ≡ 0 → ⊥) → Stopped buffer (read state buffer piece)
+read-stops : (state : State) (buffer piece : List ℕ) → isLeft state ≡ true → (read state buffer piece .step .number ≡ 0 → ⊥) → Stopped buffer (read state buffer piece)
 unfolding refused stepOf
 read-stops state buffer piece left =
     test-cases (eqb (state .stopped) 0)
     (λ e. rw (read-going state buffer piece left (eqb-true (state .stopped) 0 e)) (stops-by state buffer piece (first (pending state buffer ++ piece)) refl))
     (λ e.
     let stop = eqb-false (state .stopped) 0 e in
-    let words = taken-stopped state left stop in
+    let words = is-left-stopped state left stop in
     rw (read-stopped state buffer piece left stop)
     (λ n. record { low = some (state .stopped) stop; high = words .limit; words = stopped-words state words; kept = refl }))
 
@@ -134,26 +134,26 @@ module _ (w buffer piece step : List ℕ) (r : ℕ) (w′ buffer′ step′ : Li
   unfolding stateIn
   back e = is-words ∙ ap wordsOf e ∙ sym own
 
-  left-test : LeftBySome (stateRead w) → taken (stateRead w) ≡ true
+  left-test : LeftBySome (stateRead w) → isLeft (stateRead w) ≡ true
   left-test l = rw (l .leaves) at (left-passes (l .stream) (l .bytes))
 
-  not-five-left : (r ≡ 5 → ⊥) → taken (stateRead w) ≡ true
+  not-five-left : (r ≡ 5 → ⊥) → isLeft (stateRead w) ≡ true
   unfolding refused stepOf
   not-five-left n =
-      test-cases (taken (stateRead w)) (λ t. t)
+      test-cases (isLeft (stateRead w)) (λ t. t)
       (λ f. absurd (n (is-number ∙ ap (λ (k : Read). k .step .number) (read-not-left (stateRead w) buffer piece f))))
 
   five-refused : r ≡ 5 → core ≡ refused 5 (stateRead w) buffer
   five-refused e =
       read-not-left (stateRead w) buffer piece
-      (fails (taken (stateRead w)) λ t. let most = left-not-five (stateRead w) (passes-left (stateRead w) t) buffer piece in let five = is-number in omega arith)
+      (fails (isLeft (stateRead w)) λ t. let most = left-not-five (stateRead w) (passes-left (stateRead w) t) buffer piece in let five = is-number in omega arith)
 
   -- `gateway_stream_read`
   pub piece-seen : PieceSeen w buffer piece step r w′ buffer′ step′
   unfolding refused stepOf stepWords
   piece-seen =
       record {
-        no-such-state = λ none. test-cases (taken (stateRead w)) (λ t. absurd (none (passes-left (stateRead w) t)))
+        no-such-state = λ none. test-cases (isLeft (stateRead w)) (λ t. absurd (none (passes-left (stateRead w) t)))
             (λ f. is-number ∙ ap (λ (k : Read). k .step .number) (read-not-left (stateRead w) buffer piece f));
         only-then = λ five l. let most = left-not-five (stateRead w) l buffer piece in let same-number = is-number in let no : ⊥ = omega arith in no;
         nothing-written = λ five.

@@ -12,7 +12,7 @@ use Rattle.stream.specs.declared.state.State.{State}
 use Rattle.stream.specs.declared.reader.Event.{Event}
 use Rattle.stream.specs.declared.reader.Event.the-variants.{NoMessage, InPiece, InBuffer}
 use Rattle.stream.specs.Stream.{Begins, message, begins, First, wanted, stops, whole, first, Carried, withMessage, carriedBy, carried, Left, begun, stopped, fed}
-use Rattle.stream.specs.State.{noneBegun, stateOf, leftOf, taken}
+use Rattle.stream.specs.State.{noneBegun, stateOf, leftOf, isLeft}
 use Rattle.stream.specs.Reader.{Read, read}
 use Rattle.stream.specs.BeginsLaws.{shown, message-head, judged-message}
 use Rattle.claims.specs.StreamLaws.{whole-seen, whole-size, first-shorter, carried-step}
@@ -142,7 +142,7 @@ pub record AsInOne (connection : ℕ) (l : Lent) (h : Hosted) (c : Carried) : Ty
   pub state : h .state ≡ stateOf (c .left)
 
 -- from any state that some stream leaves
-pub taken-however-cut : (connection : ℕ) (l : Lent) (pieces : List (List ℕ)) → AllBytes pieces → (state : State) (buffer : List ℕ) → taken state ≡ true → length buffer ≡ 8192
+pub taken-however-cut : (connection : ℕ) (l : Lent) (pieces : List (List ℕ)) → AllBytes pieces → (state : State) (buffer : List ℕ) → isLeft state ≡ true → length buffer ≡ 8192
     → AsInOne connection l (hostPieces connection state buffer pieces l) (fed (leftOf state buffer) (flatten pieces))
 taken-however-cut connection l pieces b state buffer left room =
     let same = reader-however-cut pieces b state buffer left room in
@@ -199,7 +199,7 @@ fed-short (begun p) s = carried-short (p ++ s)
 fed-short (stopped n) s = no-messages
 
 -- those that the reader hands out
-pub handed-out-short : (pieces : List (List ℕ)) → AllBytes pieces → (state : State) (buffer : List ℕ) → taken state ≡ true → length buffer ≡ 8192
+pub handed-out-short : (pieces : List (List ℕ)) → AllBytes pieces → (state : State) (buffer : List ℕ) → isLeft state ≡ true → length buffer ≡ 8192
     → AllShort (drainedAll state buffer pieces .messages)
 handed-out-short pieces b state buffer left room =
     rw (reader-however-cut pieces b state buffer left room .messages) (fed-short (leftOf state buffer) (flatten pieces))

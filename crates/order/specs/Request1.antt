@@ -1,12 +1,12 @@
 -- Change request 1 of document 02, "Messages arrive in a stream", sentence by sentence. Assumes nothing.
-use mathlib.Core.Path.{_≡_, ap}
+use mathlib.Core.Path.{_≡_, refl, ap, _∙_}
 use mathlib.Core.Logic.{_↔_}
 use Prim.Native.Nat.{ℕ, _+_, _≤_}
 use mathlib.Core.Bool.{true}
 use mathlib.Core.List.{List, [], _∷_, _++_, flatten}
 use lib.ListN.{length}
-use Rattle.stream.specs.Stream.{judge, stopped, carried}
-use Rattle.stream.specs.State.{noneBegun, stateOf, isLeft}
+use Rattle.stream.specs.Stream.{judge, begun, stopped, carried}
+use Rattle.stream.specs.State.{noneBegun, headerWords, headerBegun, begunState, stateOf, isLeft}
 use Rattle.stream.specs.Reader.{Read, read}
 use Rattle.stream.specs.Writer.{write}
 use Rattle.stream.specs.declared.header.Judged.the-variants.{Stop}
@@ -79,6 +79,10 @@ pub record Request1 : Type 0 where
 
 -- ---- the proof: each line cites the theorem that does the work
 
+none-left : stateOf (begun []) ≡ noneBegun
+unfolding stateOf begunState headerBegun headerWords noneBegun
+none-left = refl
+
 left-test : (state : State) → LeftBySome state → isLeft state ≡ true
 left-test state l = rw (l .leaves) at (left-passes (l .stream) (l .bytes))
 
@@ -89,13 +93,18 @@ request-1 =
       before-stands = stopped-stands;
       however-cut = reader-in-one;
       written-read-back = λ message room short fits pieces b same buffer size.
-          let q = written-back message room short fits pieces b same buffer size in (q .messages, q .state);
+          let q = written-back message room short fits pieces b same buffer size in (q .messages, q .state ∙ none-left);
       stopped-again = λ state left stop buffer piece. let q = reader-stopped state buffer piece (left-test state left) stop in (
-        ap (λ (r : Read). r .step .number) q, ap (λ (r : Read). r .step .taken) q, ap (λ (r : Read). r .step .state) q, ap (λ (r : Read). r .buffer) q,
+        ap (λ (r : Read). r .step .number) q,
+        ap (λ (r : Read). r .step .taken) q,
+        ap (λ (r : Read). r .step .state) q,
+        ap (λ (r : Read). r .buffer) q,
       );
       five-exactly = record {
         is-five = λ state none buffer piece. let q = not-left-five state none buffer piece in (
-          ap (λ (r : Read). r .step .number) q, ap (λ (r : Read). r .step .state) q, ap (λ (r : Read). r .buffer) q,
+          ap (λ (r : Read). r .step .number) q,
+          ap (λ (r : Read). r .step .state) q,
+          ap (λ (r : Read). r .buffer) q,
         );
         no-other = left-not-five;
       };
