@@ -41,3 +41,4 @@ pub mod OutOfRange
 pub mod WordsNamed
 pub mod StreamTaken
 pub mod StreamSeen
+pub mod NoSentence

@@ -8,8 +8,8 @@ use Rattle.wire.specs.LittleEndian.{byteAt}
 use Rattle.records.specs.declared.Tables.{Tables}
 use Rattle.host.specs.HostCall.{addSession, addTree, addOpen, loadFile, loadMemory, dropConnection}
 use Rattle.chain.specs.Layout.{LOCKING, READ, WRITE, CLOSE, LOGOFF, TREE_DISCONNECT, PROCESS_EXIT, FIRST, closeFid}
-use Rattle.chain.specs.Grammar.{Span, Reading}
-use Rattle.message.specs.Message.{Taken, notTaken}
+use Rattle.chain.specs.Grammar.{Span, Reading, Sentence}
+use Rattle.message.specs.Message.{Taken, notTaken, take-message}
 use Rattle.message.specs.declared.refusal.Status.{Status}
 use Rattle.invariants.specs.Sound.{Good}
 use Rattle.claims.specs.HostReasons.{SessionReason, TreeReason, OpenReason, LoadReason, DropReason, addSession-reason, addSession-given, addTree-reason, addTree-given, addOpen-reason, addOpen-given, loadFile-reason, loadFile-given, dropConnection-reason, dropConnection-given}
@@ -23,8 +23,10 @@ use Rattle.demands.specs.FirstReadings.{read-exact, write-exact, close-exact, d
 use Rattle.demands.specs.RoomKept.{RoomKept, refused-writes-nothing, room-kept}
 use Rattle.demands.specs.SpansRefused.{AllCarried, spans-refused}
 use Rattle.demands.specs.CallsOneByOne.{Calls}
-use Rattle.demands.specs.SpansOneByOne.{callSpans}
-use Rattle.demands.specs.Reached.{Reached, reached-good}
+use Rattle.demands.specs.SpansOneByOne.{aloneSpan, callSpans}
+use Rattle.demands.specs.Reached.{HostCall, call-good, Reached, reached-good}
+use Rattle.demands.specs.Calls.{statusRead}
+use Rattle.demands.specs.NoSentence.{no-sentence-taken}
 use Rattle.order.specs.Call.{Call, gives, Answerable, BeginsKnown, OneCommand, statusGiven, Says, sender, someRoom}
 
 -- "No message and no host call, with any bytes, may stop the box or touch memory it wasn't lent": that is what the check of a crate with code shows of each of
@@ -62,11 +64,17 @@ pub record RefusedByNumber : Type 0 where
       → Unchanged t (loadFile t file bytes memory) × (loadMemory t file bytes memory ≡ memory)
   pub drop : (t : Tables) (connection : ℕ) → (dropConnection t connection .number ≡ 0 → ⊥) → Unchanged t (dropConnection t connection)
 
+-- nor does a message change anything that is no sentence, whatever its command (2/1, 2/22): its reply is the header and one refused block
+abbrev pub NoSentence : Type 0
+NoSentence =
+    (c : Call) → Answerable c → (Sentence (c .message) → ⊥) → (gives c .tables ≡ c .tables) × (gives c .memory ≡ c .memory) × (gives c .length ≡ 35)
+
 -- what the commands of some blocks leave, sent one to a message up to the first refused
 abbrev pub leftBy : Call → List Span → Calls
 leftBy c spans = callSpans (c .connection) (c .message) someRoom spans (c .tables) (c .memory)
 
--- and a command refused in the reply (Status not 0), alone or in a chain, leaves what the commands before it have left; those after it aren't begun
+-- and a command refused in the reply (Status not 0), alone or in a chain, leaves what the commands before it have left; its own message, sent on that, is answered with
+-- the same Status; those after it aren't begun
 pub record CommandRefused (c : Call) (spans : List Span) : Type 0 where
   pub front : List Span
   pub command : Span
@@ -75,14 +83,16 @@ pub record CommandRefused (c : Call) (spans : List Span) : Type 0 where
   pub front-stands : AllCarried (c .connection) (c .message) someRoom front (c .tables) (c .memory)
   pub tables-left : gives c .tables ≡ leftBy c front .tables
   pub memory-left : gives c .memory ≡ leftBy c front .memory
+  pub refused-alone : statusRead (take-message (c .connection) (aloneSpan (c .message) command) (leftBy c front .tables) (leftBy c front .memory) someRoom .room) ≡ statusGiven c
   pub later-not-begun : leftBy c spans ≡ leftBy c (front ++ (command ∷ []))
 
 abbrev pub RefusedInReply : Type 0
 RefusedInReply = (c : Call) (spans : List Span) → Answerable c → Reading (c .message) spans → (Says c 0 0 → ⊥) → CommandRefused c spans
 
--- document 01: "Every call on sound tables leaves sound tables": over all histories, so that a host which starts with none and writes no word itself never meets 4
-abbrev pub SoundForEver : Type 0
-SoundForEver = (t : Tables) → Reached t → Good t
+-- document 01: "Every call on sound tables leaves sound tables"; so over all histories, and a host that starts with none and writes no word itself never meets 4
+pub record SoundStays : Type 0 where
+  pub one-call : (t after : Tables) (memory left : List ℕ) → HostCall t memory after left → Good t → Good after
+  pub for-ever : (t : Tables) → Reached t → Good t
 
 -- document 01, "reply room 12,292": the reply fits in it, and no byte behind the reply is written
 abbrev pub RoomSuffices : Type 0
@@ -92,8 +102,9 @@ pub record Demand1 : Type 0 where
   pub number-for-its-reason : NumberForItsReason
   pub status-for-its-reason : StatusForItsReason
   pub refused-by-number : RefusedByNumber
+  pub no-sentence : NoSentence
   pub refused-in-reply : RefusedInReply
-  pub sound-for-ever : SoundForEver
+  pub sound-stays : SoundStays
   pub room-suffices : RoomSuffices
 
 -- ---- the proof: each line cites the theorem that does the work
@@ -131,6 +142,8 @@ demand-1 =
         load = λ t file bytes memory n. (loadFile-refused t file bytes memory n, loadMemory-refused t file bytes memory n);
         drop = dropConnection-refused;
       };
+      no-sentence = λ c a none.
+          let q = no-sentence-taken (c .connection) (c .message) (c .tables) (c .memory) (c .room) (a .fit) none in (q .0 .same-tables, q .0 .same-memory, q .1);
       refused-in-reply = λ c spans a r n.
           let q = spans-refused (c .connection) (c .message) r (c .tables) (c .memory) (c .room) someRoom (a .good) (a .fit) (length-replicate {A = ℕ} 12292 0) n in
           record {
@@ -141,8 +154,9 @@ demand-1 =
             front-stands = q .front-carried;
             tables-left = q .tables-left;
             memory-left = q .memory-left;
+            refused-alone = q .status-so;
             later-not-begun = q .not-begun;
           };
-      sound-for-ever = λ t r. reached-good r;
+      sound-stays = record { one-call = λ t after memory left call g. call-good call g; for-ever = λ t r. reached-good r };
       room-suffices = λ c g. room-kept (c .connection) (c .message) (c .tables) (c .memory) (c .room) (g .shaped);
     }

@@ -3,7 +3,7 @@ use mathlib.Core.Path.{_≡_}
 use mathlib.Core.Logic.{_↔_}
 use Prim.Native.Nat.{ℕ, _+_, _^_, _≤_}
 use mathlib.Core.Bool.{Bool, true}
-use mathlib.Core.List.{List, map, List·Memᴰ as In}
+use mathlib.Core.List.{List, [], _∷_, map, List·Memᴰ as In}
 use Rattle.wire.specs.LittleEndian.{le16At}
 use Rattle.records.specs.declared.Open.{Open}
 use Rattle.records.specs.declared.Lock.{Lock}
@@ -11,8 +11,9 @@ use Rattle.records.specs.Held.{locksOf}
 use Rattle.locks.specs.Range.{Overlap}
 use Rattle.locks.specs.declared.types.LockRange.{LockRange}
 use Rattle.chain.specs.Layout.{LOCKING, READ, WRITE, CLOSE, LOGOFF, TREE_DISCONNECT, PROCESS_EXIT, headerCommand, FIRST, fidAfterAndx, lockType, unlockCount, lockCount, closeFid}
-use Rattle.chain.specs.Grammar.{Span, Reading}
-use Rattle.claims.specs.Cases.{table, cases}
+use Rattle.chain.specs.Grammar.{Span, Reading, Sentence}
+use Rattle.claims.specs.Cases.{message, table, cases}
+use Rattle.demands.specs.SentenceCases.{message-61-sentence, message-60-none, message-62-sentence}
 use Rattle.demands.specs.Admitted.{Admitted}
 use Rattle.demands.specs.CommandReasons.{OnlyTwoBits}
 use Rattle.demands.specs.LoneLock.{OfFile, loneRange, sharedIn}
@@ -31,11 +32,15 @@ use Rattle.order.specs.Call.{Call, gives, Answerable, OneCommand, Says, 
 -- (message/specs/Message.antt: `take-message`; host/specs/HostCall.antt), and the contract of each entry point is an equation with that definition. The papers'
 -- numbers stand a second time, as literals, in the crate `literals`. What the definitions come to, in plain words:
 
--- document 01's starred cases 1 to 12: what the definitions give is what the document says
-abbrev pub StarredCases : Type 0
-StarredCases = map (λ c. c .given) table ≡ map (λ c. c .said) table
+-- document 01's starred cases 1 to 12: what the definitions give is what the document says; cases 1 to 3 of the grammar, "with 62 and 85 bytes" whatever the free byte
+pub record StarredCases : Type 0 where
+  pub rows : map (λ c. c .given) table ≡ map (λ c. c .said) table
+  pub case-1 : Sentence (message 61 [])
+  pub case-2 : Sentence (message 60 []) → ⊥
+  pub case-3 : (x : ℕ) → Sentence (message 62 (x ∷ []))
 
--- a command alone in its message that is carried out (Status 0/0): what its reply says and what it leaves
+-- a command alone in its message that is carried out (Status 0/0): what it leaves, and a READ's bytes and a WRITE's count in the reply (every byte of each kind of reply:
+-- literals/specs/Replies.antt)
 abbrev DoneAlone : Call → ℕ → Type 0
 DoneAlone c command = Answerable c × OneCommand c command × Says c 0 0
 
@@ -115,7 +120,7 @@ pub record Demand2 : Type 0 where
 pub demand-2 : Demand2
 demand-2 =
     record {
-      starred-cases = cases;
+      starred-cases = record { rows = cases; case-1 = message-61-sentence; case-2 = message-60-none; case-3 = message-62-sentence };
       carried-out = record {
         locking = λ c d. locking-reading (c .connection) (c .message) (d .1 .reading) (c .tables) (c .memory) (c .room) (d .0 .good) (d .0 .fit) (d .2) (d .1 .is);
         read = λ c d. read-reading (c .connection) (c .message) (d .1 .reading) (c .tables) (c .memory) (c .room) (d .0 .good) (d .0 .fit) (d .2) (d .1 .is);
