@@ -8,6 +8,8 @@ use mathlib.Core.List.{List, [], _∷_, _++_, flatten}
 use lib.ListN.{length, take, drop}
 use Rattle.records.specs.declared.Tables.{Tables}
 use Rattle.message.specs.Message.{Taken, take-message}
+use Rattle.invariants.specs.Sound.{Good}
+use Rattle.invariants.specs.Fit.{take-message-good}
 use Rattle.stream.specs.declared.state.State.{State}
 use Rattle.stream.specs.declared.reader.Event.{Event}
 use Rattle.stream.specs.declared.reader.Event.the-variants.{NoMessage, InPiece, InBuffer}
@@ -164,6 +166,20 @@ cut-twice connection l ps qs b d same buffer other room size =
     taken-in-one connection l ps b buffer room .taken
     ∙ ap (λ (s : List ℕ). takenAll connection (carried s .messages) l) same
     ∙ sym (taken-in-one connection l qs d other size .taken)
+
+-- ---- sound tables stay sound
+
+taken-good : (connection : ℕ) (ms : List (List ℕ)) (l : Lent) → Good (l .tables) → Good (takenAll connection ms l .lent .tables)
+unfolding takenAll nothingTaken withTaken takeOne lentAfter
+taken-good connection [] l g = g
+taken-good connection (m ∷ ms) l g =
+    taken-good connection ms (lentAfter (takeOne connection m l)) (take-message-good connection m (l .tables) (l .memory) (l .room) g)
+
+-- whatever bytes come, in whatever pieces, to a reader in whatever state
+pub hosted-good : (connection : ℕ) (state : State) (buffer : List ℕ) (pieces : List (List ℕ)) (l : Lent) → Good (l .tables)
+    → Good (hostPieces connection state buffer pieces l .taken .lent .tables)
+hosted-good connection state buffer pieces l g =
+    rw (pieces-taken connection state buffer pieces l) (taken-good connection (drainedAll state buffer pieces .messages) l g)
 
 -- ---- no message handed out is longer than 8,192 bytes
 
