@@ -42,7 +42,7 @@ first-framed m s h =
     sym (drop-drop (length m) 4 (headerOf (length m) ++ (m ++ s))) ∙ drop-append-seam m s in
     rw (header-begins (length m) (m ++ s) h, le-leb (4 + length m) (suc (suc (suc (suc (length (m ++ s)))))) enough, behind, take-append-seam m s)
 
-carried-framed : (m s : List ℕ) → length m ≤ 8192 → carried (framed m ++ s) ≡ withMessage m (carried s)
+pub carried-framed : (m s : List ℕ) → length m ≤ 8192 → carried (framed m ++ s) ≡ withMessage m (carried s)
 unfolding carriedBy
 carried-framed m s h = carried-step (framed m ++ s) ∙ rw (first-framed m s h)
 

@@ -3,6 +3,7 @@ use mathlib.Core.Path.{_≡_, refl}
 use Prim.Native.Nat.{ℕ}
 use mathlib.Core.List.{List, [], _∷_}
 use Rattle.stream.specs.declared.reader.Event.the-variants.{NoMessage, InPiece}
+use Rattle.stream.specs.declared.header.Judged.the-variants.{Stop}
 use Rattle.stream.specs.Stream.{lengthOf, known, judgeLength, judge, beginsBy, begins, firstOf, first, withMessage, carriedBy, carriedWithin, carried, begun, stopped}
 use Rattle.stream.specs.State.{noneBegun, stoppedBy, begunBytes, pending, byteFits, headerFits, isLeft}
 use Rattle.stream.specs.Reader.{stepOf, handed, readBy, read}
@@ -19,7 +20,7 @@ unfolding carried carriedWithin carriedBy first firstOf begins
 three-bytes = refl
 
 -- the order: another type before a reserved flag; a reserved flag before a keep-alive's length; the 17th bit of a keep-alive's length and of a message's
-another-type-first : judge 1 2 0 0 ≡ judge 1 0 0 0
+another-type-first : judge 1 2 0 0 ≡ Stop 1
 unfolding judge judgeLength known lengthOf
 another-type-first = refl
 
