@@ -7,3 +7,4 @@ pub mod Codes
 pub mod Words
 pub mod Inside
 pub mod Replies
+pub mod Stream
