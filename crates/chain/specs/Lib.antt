@@ -2,8 +2,10 @@ pub mod Layout
 pub mod Header
 pub mod Grammar
 pub mod Parse
+pub mod Request
 pub mod Chain
 pub mod Judged
 pub mod ParseLaws
+pub mod RequestLaws
 pub mod Rows
 pub mod ChainLaws

@@ -3,16 +3,14 @@
 -- Assumes nothing.
 use mathlib.Core.Path.{_≡_, refl, sym, ap, _∙_}
 use Prim.Native.Nat.{ℕ, _≤_}
-use mathlib.Core.Logic.{_⊎_, inl, inr}
-use mathlib.Core.Bool.{Bool, true, false, cond, _&&_, _||_, false≢true}
+use mathlib.Core.Bool.{Bool, true, false, cond, _&&_, false≢true}
 use mathlib.Core.List.{List}
 use lib.ListN.{length}
-use lib.Dec.{eqb}
-use borrow.Author.Tests.{eqb-true}
-use Rattle.lists.specs.Truth.{decided, chosen}
 use Rattle.chain.specs.Layout.{CLOSE, PROCESS_EXIT, LOCKING, READ, WRITE, TREE_DISCONNECT, LOGOFF, blockEnd}
 use Rattle.chain.specs.Parse.{bare, lockingFits, readFits, writeFits, linkFits, linkAt, answer, parseLocking, parseRead, parseWrite, parseClose, parseLogoff, parseEmpty, parse}
 use Rattle.chain.specs.ParseLaws.{bare-inside, locking-inside, read-inside, write-inside}
+use Rattle.chain.specs.Request.{requestNamed, isAndx}
+use Rattle.chain.specs.RequestLaws.{Unserved, by-request}
 use Rattle.chain.specs.Judged.{isWhole, judged}
 use Rattle.chain.specs.declared.block.Body.{Body}
 use Rattle.chain.specs.declared.block.Body.the-variants.{ProcessExit}
@@ -20,28 +18,27 @@ use Rattle.chain.specs.declared.block.Next.{Next}
 use Rattle.chain.specs.declared.block.Next.the-variants.{End}
 use Rattle.chain.specs.declared.block.Judged.{Judged}
 use Rattle.chain.specs.declared.block.Judged.the-variants as judge
-
--- the requests whose words begin with AndX
-unfoldable pub isAndx : ℕ → Bool
-isAndx command = eqb command LOCKING || (eqb command READ || (eqb command WRITE || eqb command LOGOFF))
+use Rattle.chain.specs.declared.command.ServedRequest.{ServedRequest}
+use Rattle.chain.specs.declared.command.ServedRequest.the-variants as named
 
 -- the row's test of the block, without its AndX words
-unfoldable pub rowFits : List ℕ → ℕ → ℕ → Bool
-rowFits s command at =
-    cond (eqb command LOCKING) (lockingFits s at)
-    (cond (eqb command READ) (readFits s at)
-    (cond (eqb command WRITE) (writeFits s at)
-    (cond (eqb command CLOSE) (bare s at 3)
-    (cond (eqb command LOGOFF) (bare s at 2)
-    (cond (eqb command TREE_DISCONNECT) (bare s at 0)
-    (cond (eqb command PROCESS_EXIT) (bare s at 0) false))))))
+unfoldable pub rowFits : List ℕ → ServedRequest → ℕ → Bool
+rowFits s named.Locking at = lockingFits s at
+rowFits s named.Read at = readFits s at
+rowFits s named.Write at = writeFits s at
+rowFits s named.Close at = bare s at 3
+rowFits s named.Logoff at = bare s at 2
+rowFits s named.TreeDisconnect at = bare s at 0
+rowFits s named.ProcessExit at = bare s at 0
+rowFits s named.None at = false
 
 -- and with them, where it has them
 unfoldable pub fits : List ℕ → ℕ → ℕ → Bool
-fits s command at = cond (isAndx command) (rowFits s command at && linkFits s command at) (rowFits s command at)
+fits s command at =
+    cond (isAndx (requestNamed command)) (rowFits s (requestNamed command) at && linkFits s command at) (rowFits s (requestNamed command) at)
 
 unfoldable pub nextAt : List ℕ → ℕ → ℕ → Next
-nextAt s command at = cond (isAndx command) (linkAt s at) End
+nextAt s command at = cond (isAndx (requestNamed command)) (linkAt s at) End
 
 -- the AndX words, judged
 unfoldable pub linkJudged : List ℕ → ℕ → ℕ → Judged
@@ -56,77 +53,57 @@ module _ (s : List ℕ) (at : ℕ) where
   Row command = (body : Body) × HasBody s command at body
 
   row-locking : Row LOCKING
-  unfolding parse parseLocking fits rowFits isAndx nextAt
+  unfolding parse parseLocking fits rowFits isAndx requestNamed nextAt
   row-locking = (_, record { is = refl })
 
   row-read : Row READ
-  unfolding parse parseRead fits rowFits isAndx nextAt
+  unfolding parse parseRead fits rowFits isAndx requestNamed nextAt
   row-read = (_, record { is = refl })
 
   row-write : Row WRITE
-  unfolding parse parseWrite fits rowFits isAndx nextAt
+  unfolding parse parseWrite fits rowFits isAndx requestNamed nextAt
   row-write = (_, record { is = refl })
 
   row-close : Row CLOSE
-  unfolding parse parseClose fits rowFits isAndx nextAt
+  unfolding parse parseClose fits rowFits isAndx requestNamed nextAt
   row-close = (_, record { is = refl })
 
   row-logoff : Row LOGOFF
-  unfolding parse parseLogoff fits rowFits isAndx nextAt
+  unfolding parse parseLogoff fits rowFits isAndx requestNamed nextAt
   row-logoff = (_, record { is = refl })
 
   row-tree-disconnect : Row TREE_DISCONNECT
-  unfolding parse parseEmpty fits rowFits isAndx nextAt
+  unfolding parse parseEmpty fits rowFits isAndx requestNamed nextAt
   row-tree-disconnect = (_, record { is = refl })
 
-  row-process-exit : HasBody s PROCESS_EXIT at ProcessExit
-  unfolding parse parseEmpty fits rowFits isAndx nextAt
+  pub row-process-exit : HasBody s PROCESS_EXIT at ProcessExit
+  unfolding parse parseEmpty fits rowFits isAndx requestNamed nextAt
   row-process-exit = record { is = refl }
 
-  -- a command that is none of the six others: the seventh, or no request served
-  module _ (command : ℕ) (l : eqb command LOCKING ≡ false) (r : eqb command READ ≡ false) (w : eqb command WRITE ≡ false) (c : eqb command CLOSE ≡ false)
-      (o : eqb command LOGOFF ≡ false) (t : eqb command TREE_DISCONNECT ≡ false) where
-    last-or-none : (eqb command PROCESS_EXIT ≡ true) ⊎ (eqb command PROCESS_EXIT ≡ false) → HasBody s command at ProcessExit
-    unfolding parse answer fits rowFits isAndx nextAt
-    last-or-none (inl e) = rw (eqb-true command PROCESS_EXIT e) row-process-exit
-    last-or-none (inr e) = record { is = rw (l, r, w, c, o, t, e) }
-
-    pub row-rest : HasBody s command at ProcessExit
-    row-rest = last-or-none (decided (eqb command PROCESS_EXIT))
-
-  -- a command is one, or is told from it
-  by-row : (k command : ℕ) → Row k → (eqb command k ≡ false → Row command) → (eqb command k ≡ true) ⊎ (eqb command k ≡ false) → Row command
-  by-row k command here other (inl e) = rw (eqb-true command k e) here
-  by-row k command here other (inr e) = other e
+  -- what is no request served has no block, so it may have any fields
+  pub row-none : (command : ℕ) → Unserved command → HasBody s command at ProcessExit
+  unfolding parse answer fits rowFits isAndx requestNamed nextAt
+  row-none command u =
+      record { is = rw (u .no-locking, u .no-read, u .no-write, u .no-close, u .no-logoff, u .no-tree-disconnect, u .no-process-exit) }
 
   pub parse-row : (command : ℕ) → Row command
   parse-row command =
-      by-row LOCKING command row-locking
-      (λ l. by-row READ command row-read
-      (λ r. by-row WRITE command row-write
-      (λ w. by-row CLOSE command row-close
-      (λ c. by-row LOGOFF command row-logoff
-      (λ o. by-row TREE_DISCONNECT command row-tree-disconnect (λ t. (ProcessExit, row-rest command l r w c o t)) (decided (eqb command TREE_DISCONNECT)))
-      (decided (eqb command LOGOFF)))
-      (decided (eqb command CLOSE)))
-      (decided (eqb command WRITE)))
-      (decided (eqb command READ)))
-      (decided (eqb command LOCKING))
+      by-request (λ (request : ServedRequest) (command : ℕ). Row command) command row-locking row-read row-write row-close row-logoff row-tree-disconnect
+      (ProcessExit, row-process-exit) (λ u. (ProcessExit, row-none command u))
 
 -- ---- a block judged
 
 -- a block that fits its row stands inside the message
-pub row-inside : (s : List ℕ) (command at : ℕ) → rowFits s command at ≡ true → blockEnd s at ≤ length s
+pub row-inside : (s : List ℕ) (request : ServedRequest) (at : ℕ) → rowFits s request at ≡ true → blockEnd s at ≤ length s
 unfolding rowFits
-row-inside s command at e =
-    chosen (eqb command LOCKING) (lockingFits s at) _ true (locking-inside s at)
-    (chosen (eqb command READ) (readFits s at) _ true (read-inside s at)
-    (chosen (eqb command WRITE) (writeFits s at) _ true (write-inside s at)
-    (chosen (eqb command CLOSE) (bare s at 3) _ true (bare-inside s at 3)
-    (chosen (eqb command LOGOFF) (bare s at 2) _ true (bare-inside s at 2)
-    (chosen (eqb command TREE_DISCONNECT) (bare s at 0) _ true (bare-inside s at 0)
-    (chosen (eqb command PROCESS_EXIT) (bare s at 0) false true (bare-inside s at 0) (λ f. absurd (false≢true f))))))))
-    e
+row-inside s named.Locking at e = locking-inside s at e
+row-inside s named.Read at e = read-inside s at e
+row-inside s named.Write at e = write-inside s at e
+row-inside s named.Close at e = bare-inside s at 3 e
+row-inside s named.Logoff at e = bare-inside s at 2 e
+row-inside s named.TreeDisconnect at e = bare-inside s at 0 e
+row-inside s named.ProcessExit at e = bare-inside s at 0 e
+row-inside s named.None at e = absurd (false≢true e)
 
 judged-answer : (s : List ℕ) (command at : ℕ) (t : Bool) (body : Body) (next : Next) → judged (answer s command at t body next) ≡ cond t (judge.Stands next) judge.Malformed
 unfolding judged answer
@@ -144,17 +121,17 @@ module _ (s : List ℕ) (command at : ℕ) where
   neither true u = refl
   neither false u = refl
 
-  module _ (row : rowFits s command at ≡ false) where
+  module _ (row : rowFits s (requestNamed command) at ≡ false) where
     pub judged-misfit : judged (parse s command at) ≡ judge.Malformed
     unfolding fits
-    judged-misfit = rw (judged-row, row, neither (isAndx command) (linkFits s command at))
+    judged-misfit = rw (judged-row, row, neither (isAndx (requestNamed command)) (linkFits s command at))
 
-  module _ (row : rowFits s command at ≡ true) where
-    pub judged-plain : isAndx command ≡ false → judged (parse s command at) ≡ judge.Stands End
+  module _ (row : rowFits s (requestNamed command) at ≡ true) where
+    pub judged-plain : isAndx (requestNamed command) ≡ false → judged (parse s command at) ≡ judge.Stands End
     unfolding fits nextAt
     judged-plain plain = rw (judged-row, plain, row)
 
-    pub judged-link : isAndx command ≡ true → judged (parse s command at) ≡ linkJudged s command at
+    pub judged-link : isAndx (requestNamed command) ≡ true → judged (parse s command at) ≡ linkJudged s command at
     unfolding fits nextAt linkJudged
     judged-link andx = rw (judged-row, andx, row)
 

@@ -2,7 +2,7 @@
 
 ghost use mathlib.Core.Path.{_≡_};
 ghost use Rattle.chain.specs.Parse.{mayFollow};
-ghost use Rattle.chain.specs.Rows.{isAndx};
+ghost use Rattle.chain.specs.Request.{requestNamed, isAndx, isServed};
 
 pub const CLOSE: u8 = 0x04;
 
@@ -21,16 +21,58 @@ pub const LOGOFF: u8 = 0x74;
 // The AndXCommand that ends a chain.
 pub const NO_COMMAND: u8 = 0xff;
 
-// Whether the command's words begin with AndX: "Words after AndX" in the grammar's table.
-pub(crate) fn is_andx(command: u8) -> bool
-    ensures { λ r. ⌜ r ≡ isAndx command ⌝ }
+// The requests served, as the grammar's table has them, and one case for every other command.
+pub enum ServedRequest {
+    Locking,
+    Read,
+    Write,
+    Close,
+    Logoff,
+    TreeDisconnect,
+    ProcessExit,
+    None,
+}
+
+// The request that a command's number names: the list of the numbers served stands here alone.
+pub(crate) fn request_named(command: u8) -> ServedRequest
+    ensures { λ r. ⌜ r ≡ requestNamed command ⌝ }
 {
     match command {
-        LOCKING => true,
-        READ => true,
-        WRITE => true,
-        LOGOFF => true,
-        _ => false,
+        LOCKING => ServedRequest::Locking,
+        READ => ServedRequest::Read,
+        WRITE => ServedRequest::Write,
+        CLOSE => ServedRequest::Close,
+        LOGOFF => ServedRequest::Logoff,
+        TREE_DISCONNECT => ServedRequest::TreeDisconnect,
+        PROCESS_EXIT => ServedRequest::ProcessExit,
+        _ => ServedRequest::None,
+    }
+}
+
+// Whether the request's words begin with AndX: "Words after AndX" in the grammar's table.
+pub(crate) fn is_andx(request: ServedRequest) -> bool
+    ensures { λ r. ⌜ r ≡ isAndx request ⌝ }
+{
+    match request {
+        ServedRequest::Locking => true,
+        ServedRequest::Read => true,
+        ServedRequest::Write => true,
+        ServedRequest::Close => false,
+        ServedRequest::Logoff => true,
+        ServedRequest::TreeDisconnect => false,
+        ServedRequest::ProcessExit => false,
+        ServedRequest::None => false,
+    }
+}
+
+// Whether the command is in the grammar's table: "2/22 header command not served".
+pub fn is_served(command: u8) -> bool
+    ensures { λ r. ⌜ r ≡ isServed (requestNamed command) ⌝ }
+{
+    let request = request_named(command);
+    match request {
+        ServedRequest::None => false,
+        _ => true,
     }
 }
 

@@ -2,16 +2,11 @@
 
 use crate::block::Judged;
 use crate::block::Next;
-use crate::command::CLOSE;
-use crate::command::LOCKING;
-use crate::command::LOGOFF;
 use crate::command::NO_COMMAND;
-use crate::command::PROCESS_EXIT;
-use crate::command::READ;
-use crate::command::TREE_DISCONNECT;
-use crate::command::WRITE;
+use crate::command::ServedRequest;
 use crate::command::is_andx;
 use crate::command::may_follow;
+use crate::command::request_named;
 use crate::place::LOCK_TYPE;
 use crate::place::LOCKING_BYTE_COUNT;
 use crate::place::LOCKS;
@@ -79,19 +74,19 @@ fn write_fits(s: &[u8], at: usize) -> bool
     false
 }
 
-// Whether the block with that command at a place is one of its row; no other request is served.
-fn row_fits(s: &[u8], command: u8, at: usize) -> bool
-    ensures { λ r. ⌜ r ≡ rowFits (now (s .entry)) command at ⌝ }
+// Whether the block at a place is one of the request's row; no other request is served.
+fn row_fits(s: &[u8], request: ServedRequest, at: usize) -> bool
+    ensures { λ r. ⌜ r ≡ rowFits (now (s .entry)) request at ⌝ }
 {
-    match command {
-        LOCKING => locking_fits(s, at),
-        READ => read_fits(s, at),
-        WRITE => write_fits(s, at),
-        CLOSE => is_bare(s, at, 3),
-        LOGOFF => is_bare(s, at, 2),
-        TREE_DISCONNECT => is_bare(s, at, 0),
-        PROCESS_EXIT => is_bare(s, at, 0),
-        _ => false,
+    match request {
+        ServedRequest::Locking => locking_fits(s, at),
+        ServedRequest::Read => read_fits(s, at),
+        ServedRequest::Write => write_fits(s, at),
+        ServedRequest::Close => is_bare(s, at, 3),
+        ServedRequest::Logoff => is_bare(s, at, 2),
+        ServedRequest::TreeDisconnect => is_bare(s, at, 0),
+        ServedRequest::ProcessExit => is_bare(s, at, 0),
+        ServedRequest::None => false,
     }
 }
 
@@ -118,10 +113,11 @@ fn judge_link(s: &[u8], command: u8, at: usize) -> Judged
 pub fn judge_block(s: &[u8], command: u8, at: usize) -> Judged
     ensures { λ r. ⌜ r ≡ judged (parse (now (s .entry)) command at) ⌝ }
 {
-    if !row_fits(s, command, at) {
+    let request = request_named(command);
+    if !row_fits(s, request, at) {
         return Judged::Malformed;
     }
-    if !is_andx(command) {
+    if !is_andx(request) {
         return Judged::Stands(Next::End);
     }
     judge_link(s, command, at)

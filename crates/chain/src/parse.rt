@@ -6,13 +6,9 @@ use crate::block::LockingFields;
 use crate::block::Next;
 use crate::block::ReadFields;
 use crate::block::WriteFields;
-use crate::command::CLOSE;
-use crate::command::LOCKING;
-use crate::command::LOGOFF;
-use crate::command::READ;
-use crate::command::TREE_DISCONNECT;
-use crate::command::WRITE;
+use crate::command::ServedRequest;
 use crate::command::is_andx;
+use crate::command::request_named;
 use crate::place::CLOSE_FID;
 use crate::place::FID;
 use crate::place::LOCK_TYPE;
@@ -106,14 +102,16 @@ fn body_at(s: &[u8], command: u8, at: usize) -> Body
     requires { ⌜ at < length (now s) ⌝ }
     ensures { λ r. ⌜ HasBody (now (s .entry)) command at r ⌝ }
 {
-    match command {
-        LOCKING => locking_body(s, at),
-        READ => read_body(s, at),
-        WRITE => write_body(s, at),
-        CLOSE => Body::Close(wire::le16_at(s, at + CLOSE_FID)),
-        LOGOFF => Body::Logoff,
-        TREE_DISCONNECT => Body::TreeDisconnect,
-        _ => Body::ProcessExit,
+    let request = request_named(command);
+    match request {
+        ServedRequest::Locking => locking_body(s, at),
+        ServedRequest::Read => read_body(s, at),
+        ServedRequest::Write => write_body(s, at),
+        ServedRequest::Close => Body::Close(wire::le16_at(s, at + CLOSE_FID)),
+        ServedRequest::Logoff => Body::Logoff,
+        ServedRequest::TreeDisconnect => Body::TreeDisconnect,
+        ServedRequest::ProcessExit => Body::ProcessExit,
+        ServedRequest::None => Body::ProcessExit,
     }
 }
 
@@ -122,7 +120,7 @@ fn next_at(s: &[u8], command: u8, at: usize) -> Next
     requires { ⌜ at < length (now s) ⌝ }
     ensures { λ r. ⌜ r ≡ nextAt (now (s .entry)) command at ⌝ }
 {
-    if is_andx(command) {
+    if is_andx(request_named(command)) {
         return link_at(s, at);
     }
     Next::End

@@ -14,6 +14,9 @@ use Rattle.chain.specs.Chain.{blocksFrom, blocks}
 use Rattle.chain.specs.Judged.{isWhole, readable}
 use Rattle.chain.specs.Parse.{parse}
 use Rattle.chain.specs.ParseLaws.{placed}
+use Rattle.chain.specs.Request.{requestNamed, isServed}
+use Rattle.chain.specs.RequestLaws.{by-request}
+use Rattle.chain.specs.declared.command.ServedRequest.{ServedRequest}
 use Rattle.chain.specs.declared.block.Next.{Next}
 use Rattle.chain.specs.declared.block.Next.the-variants.{End, Follow}
 use Rattle.chain.specs.declared.block.Block.{Block}
@@ -166,6 +169,13 @@ finish s room whole why place t memory before after f e long enough =
     rw (n, r, f .tables-are, f .memory-is)
 
 -- ---- the three ways a message fit to be answered is answered
+
+-- the requests served are those that the grammar's table names
+pub served-named : (command : ℕ) → isServed (requestNamed command) ≡ served command
+unfolding isServed served
+served-named command =
+    by-request (λ (request : ServedRequest) (n : ℕ). isServed request ≡ served n) command refl refl refl refl refl refl refl
+    (λ u. rw (u .no-locking, u .no-read, u .no-write, u .no-close, u .no-logoff, u .no-tree-disconnect, u .no-process-exit))
 
 pub answered-not-served : (connection : ℕ) (s : List ℕ) (t : Tables) (memory : List ℕ) → served (headerCommand s) ≡ false
     → answered connection s t memory ≡ onlyStatus (statusOf NotServed) t memory

@@ -2,13 +2,7 @@
 // then the chain, command by command.
 
 use crate::run::run_chain;
-use chain::command::CLOSE;
-use chain::command::LOCKING;
-use chain::command::LOGOFF;
-use chain::command::PROCESS_EXIT;
-use chain::command::READ;
-use chain::command::TREE_DISCONNECT;
-use chain::command::WRITE;
+use chain::command::is_served;
 use chain::header::COMMAND;
 use chain::header::FIRST;
 use chain::header::PID_LOW;
@@ -36,7 +30,7 @@ ghost use Prim.Native.Nat.{_≤_};
 ghost use lib.ListN.{length};
 ghost use Rattle.records.specs.declared.Tables.{Tables};
 ghost use Rattle.message.specs.Refusal.{statusOf};
-ghost use Rattle.message.specs.Message.{served, onlyStatus, answered, replied};
+ghost use Rattle.message.specs.Message.{onlyStatus, answered, replied};
 ghost use Rattle.invariants.specs.Sound.{Good};
 ghost use Rattle.tables.specs.Words.{tablesOf, inUseFit};
 ghost use Rattle.boundary.specs.Boundary.{messageTaken};
@@ -59,22 +53,6 @@ fn refuse_call(number: u8) -> Taken
     ensures { λ r. ⌜ r ≡ refusal number ⌝ }
 {
     Taken { number, length: 0 }
-}
-
-// "2/22 header command not served".
-fn is_served(command: u8) -> bool
-    ensures { λ r. ⌜ r ≡ served command ⌝ }
-{
-    match command {
-        LOCKING => true,
-        READ => true,
-        WRITE => true,
-        CLOSE => true,
-        LOGOFF => true,
-        TREE_DISCONNECT => true,
-        PROCESS_EXIT => true,
-        _ => false,
-    }
 }
 
 // Who sends the message.

@@ -1,31 +1,83 @@
--- `chain::command::is_andx` meets its contract: each arm is a request whose words begin with AndX, and the rest is none of them.
+-- `chain::command::is_andx` meets its contract: each arm is the definition's.
 -- Assumes nothing.
-use borrow.Author.Tests.{ne-eqb}
-use Rattle.chain.specs.Rows.{isAndx}
+use borrow.Author.Needs.{needs}
+use Rattle.chain.specs.Request.{isAndx}
 use Rattle.chain.proofs.command.is_andx.Statement.{statement}
 use Rattle.chain.proofs.command.is_andx.Tie as tie
 
+enum-told : tie.Need-enum-told
+enum-told c = search needs
+
+enum-told-2 : tie.Need-enum-told-2
+enum-told-2 c = search needs
+
+enum-told-3 : tie.Need-enum-told-3
+enum-told-3 c = search needs
+
+enum-told-4 : tie.Need-enum-told-4
+enum-told-4 c = search needs
+
+enum-told-5 : tie.Need-enum-told-5
+enum-told-5 c = search needs
+
+enum-told-6 : tie.Need-enum-told-6
+enum-told-6 c = search needs
+
+enum-told-7 : tie.Need-enum-told-7
+enum-told-7 c = search needs
+
+enum-told-8 : tie.Need-enum-told-8
+enum-told-8 c = search needs
+
 returns : tie.Need-returns
 unfolding isAndx
-returns c = rw (c .match .keys1)
+returns c = rw (c .enum-told .given .1)
 
 returns-2 : tie.Need-returns-2
 unfolding isAndx
-returns-2 c = rw (c .match .keys2)
+returns-2 c = rw (c .enum-told2 .given .1)
 
 returns-3 : tie.Need-returns-3
 unfolding isAndx
-returns-3 c = rw (c .match .keys3)
+returns-3 c = rw (c .enum-told3 .given .1)
 
 returns-4 : tie.Need-returns-4
 unfolding isAndx
-returns-4 c = rw (c .match .keys4)
+returns-4 c = rw (c .enum-told4 .given .1)
 
 returns-5 : tie.Need-returns-5
 unfolding isAndx
-returns-5 c =
-    let command = c .before .args .command in
-    rw (ne-eqb command 36 (c .match .rest .0 .0 .0 .1), ne-eqb command 46 (c .match .rest .0 .0 .1), ne-eqb command 47 (c .match .rest .0 .1), ne-eqb command 116 (c .match .rest .1))
+returns-5 c = rw (c .enum-told5 .given .1)
+
+returns-6 : tie.Need-returns-6
+unfolding isAndx
+returns-6 c = rw (c .enum-told6 .given .1)
+
+returns-7 : tie.Need-returns-7
+unfolding isAndx
+returns-7 c = rw (c .enum-told7 .given .1)
+
+returns-8 : tie.Need-returns-8
+unfolding isAndx
+returns-8 c = rw (c .enum-told8 .given .1)
 
 pub is-andx-spec : {M : Type 1} → statement M
-is-andx-spec = tie.close (tie.spec returns returns-2 returns-3 returns-4 returns-5)
+is-andx-spec =
+    tie.close
+    (tie.spec
+    enum-told
+    enum-told-2
+    enum-told-3
+    enum-told-4
+    enum-told-5
+    enum-told-6
+    enum-told-7
+    enum-told-8
+    returns
+    returns-2
+    returns-3
+    returns-4
+    returns-5
+    returns-6
+    returns-7
+    returns-8)

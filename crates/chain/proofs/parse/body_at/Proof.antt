@@ -1,20 +1,37 @@
--- `chain::parse::body_at` meets its contract: each command's arm is the definition's.
+-- `chain::parse::body_at` meets its contract: each request's arm is the definition's, at the request's number.
 -- Assumes nothing.
-use borrow.Author.Tests.{ne-eqb}
+use mathlib.Core.Path.{sym, _∙_}
 use Rattle.chain.specs.Parse.{parse, parseClose, parseLogoff, parseEmpty}
-use Rattle.chain.specs.Rows.{fits, rowFits, isAndx, nextAt, row-rest}
+use Rattle.chain.specs.Request.{requestNamed, isAndx}
+use Rattle.chain.specs.RequestLaws.{Names, names}
+use Rattle.chain.specs.Rows.{fits, rowFits, nextAt, row-process-exit, row-none}
 use borrow.Author.Needs.{needs}
 use Rattle.chain.proofs.parse.body_at.Statement.{statement}
 use Rattle.chain.proofs.parse.body_at.Tie as tie
 
+request-named-requires : tie.Need-request-named-requires
+request-named-requires c κs = search needs
+
+enum-told : tie.Need-enum-told
+enum-told c = search needs
+
 locking-body-requires : tie.Need-locking-body-requires
 locking-body-requires c κs = search needs
+
+enum-told-2 : tie.Need-enum-told-2
+enum-told-2 c = search needs
 
 read-body-requires : tie.Need-read-body-requires
 read-body-requires c κs = search needs
 
+enum-told-3 : tie.Need-enum-told-3
+enum-told-3 c = search needs
+
 write-body-requires : tie.Need-write-body-requires
 write-body-requires c κs = search needs
+
+enum-told-4 : tie.Need-enum-told-4
+enum-told-4 c = search needs
 
 add-le16-at : tie.Need-add-le16-at
 add-le16-at c = search needs
@@ -22,45 +39,77 @@ add-le16-at c = search needs
 le16-at-requires : tie.Need-le16-at-requires
 le16-at-requires c κs = search needs
 
+enum-told-5 : tie.Need-enum-told-5
+enum-told-5 c = search needs
+
+enum-told-6 : tie.Need-enum-told-6
+enum-told-6 c = search needs
+
+enum-told-7 : tie.Need-enum-told-7
+enum-told-7 c = search needs
+
+enum-told-8 : tie.Need-enum-told-8
+enum-told-8 c = search needs
+
 returns : tie.Need-returns
-returns c = rw (c .before .match .keys1) (c .locking-body .ensures)
+unfolding Names
+returns c = rw (names (c .before .before .before .before .before .args .command) (sym (c .before .enum-told .given .1) ∙ c .before .before .before .request-named .ensures)) (c .locking-body .ensures)
 
 returns-2 : tie.Need-returns-2
-returns-2 c = rw (c .before .match .keys2) (c .read-body .ensures)
+unfolding Names
+returns-2 c = rw (names (c .before .before .before .before .before .args .command) (sym (c .before .enum-told2 .given .1) ∙ c .before .before .before .request-named .ensures)) (c .read-body .ensures)
 
 returns-3 : tie.Need-returns-3
-returns-3 c = rw (c .before .match .keys3) (c .write-body .ensures)
+unfolding Names
+returns-3 c = rw (names (c .before .before .before .before .before .args .command) (sym (c .before .enum-told3 .given .1) ∙ c .before .before .before .request-named .ensures)) (c .write-body .ensures)
 
 returns-4 : tie.Need-returns-4
-unfolding parse fits rowFits isAndx nextAt parseClose
-returns-4 c = record { is = rw (c .before .match .keys4, c .le16-at .ensures) }
+unfolding Names parse fits rowFits isAndx requestNamed nextAt parseClose
+returns-4 c = record { is = rw (names (c .before .before .before .before .before .args .command) (sym (c .before .enum-told4 .given .1) ∙ c .before .before .before .request-named .ensures), c .le16-at .ensures) }
 
 returns-5 : tie.Need-returns-5
-unfolding parse fits rowFits isAndx nextAt parseLogoff
-returns-5 c = record { is = rw (c .match .keys5) }
+unfolding Names parse fits rowFits isAndx requestNamed nextAt parseLogoff
+returns-5 c = record { is = rw (names (c .before .before .before .before .args .command) (sym (c .enum-told5 .given .1) ∙ c .before .before .request-named .ensures)) }
 
 returns-6 : tie.Need-returns-6
-unfolding parse fits rowFits isAndx nextAt parseEmpty
-returns-6 c = record { is = rw (c .match .keys6) }
+unfolding Names parse fits rowFits isAndx requestNamed nextAt parseEmpty
+returns-6 c = record { is = rw (names (c .before .before .before .before .args .command) (sym (c .enum-told6 .given .1) ∙ c .before .before .request-named .ensures)) }
 
 returns-7 : tie.Need-returns-7
+unfolding Names
 returns-7 c =
-    let args = c .before .before .args in
-    row-rest (args .s .now) (args .at) (args .command) (ne-eqb (args .command) 36 (c .match .rest .0 .0 .0 .0 .0 .1)) (ne-eqb (args .command) 46 (c .match .rest .0 .0 .0 .0 .1)) (ne-eqb (args .command) 47 (c .match .rest .0 .0 .0 .1)) (ne-eqb (args .command) 4 (c .match .rest .0 .0 .1)) (ne-eqb (args .command) 116 (c .match .rest .0 .1)) (ne-eqb (args .command) 113 (c .match .rest .1))
+    let args = c .before .before .before .before .args in
+    rw (names (args .command) (sym (c .enum-told7 .given .1) ∙ c .before .before .request-named .ensures)) (row-process-exit (args .s .now) (args .at))
+
+returns-8 : tie.Need-returns-8
+unfolding Names
+returns-8 c =
+    let args = c .before .before .before .before .args in
+    row-none (args .s .now) (args .at) (args .command) (names (args .command) (sym (c .enum-told8 .given .1) ∙ c .before .before .request-named .ensures))
 
 pub body-at-spec : {M : Type 1} → statement M
 body-at-spec =
     tie.close
     (tie.spec
+    request-named-requires
+    enum-told
     locking-body-requires
+    enum-told-2
     read-body-requires
+    enum-told-3
     write-body-requires
+    enum-told-4
     add-le16-at
     le16-at-requires
+    enum-told-5
+    enum-told-6
+    enum-told-7
+    enum-told-8
     returns
     returns-2
     returns-3
     returns-4
     returns-5
     returns-6
-    returns-7)
+    returns-7
+    returns-8)

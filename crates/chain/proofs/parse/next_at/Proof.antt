@@ -5,6 +5,9 @@ use borrow.Author.Needs.{needs}
 use Rattle.chain.proofs.parse.next_at.Statement.{statement}
 use Rattle.chain.proofs.parse.next_at.Tie as tie
 
+request-named-requires : tie.Need-request-named-requires
+request-named-requires c κs = search needs
+
 is-andx-requires : tie.Need-is-andx-requires
 is-andx-requires c κs = search needs
 
@@ -13,11 +16,11 @@ link-at-requires c κs = search needs
 
 returns : tie.Need-returns
 unfolding nextAt
-returns c = rw (← (c .before .before .is-andx .ensures), c .before .if1 .taken) (c .link-at .ensures)
+returns c = rw (← (c .before .before .before .request-named .ensures), ← (c .before .before .is-andx .ensures), c .before .if1 .taken) (c .link-at .ensures)
 
 returns-2 : tie.Need-returns-2
 unfolding nextAt
-returns-2 c = rw (← (c .before .is-andx .ensures), c .if1 .left)
+returns-2 c = rw (← (c .before .before .request-named .ensures), ← (c .before .is-andx .ensures), c .if1 .left)
 
 pub next-at-spec : {M : Type 1} → statement M
-next-at-spec = tie.close (tie.spec is-andx-requires link-at-requires returns returns-2)
+next-at-spec = tie.close (tie.spec request-named-requires is-andx-requires link-at-requires returns returns-2)

@@ -1,7 +1,8 @@
 -- `chain::parse::write_body` meets its contract: the numbers read are those of the definition.
 -- Assumes nothing.
 use Rattle.chain.specs.Parse.{parse, parseWrite}
-use Rattle.chain.specs.Rows.{fits, rowFits, isAndx, nextAt}
+use Rattle.chain.specs.Request.{requestNamed, isAndx}
+use Rattle.chain.specs.Rows.{fits, rowFits, nextAt}
 use borrow.Author.Needs.{needs}
 use Rattle.chain.proofs.parse.write_body.Statement.{statement}
 use Rattle.chain.proofs.parse.write_body.Tie as tie
@@ -40,7 +41,7 @@ cast-from : tie.Need-cast-from
 cast-from c = search needs
 
 returns : tie.Need-returns
-unfolding parse fits rowFits isAndx nextAt parseWrite
+unfolding parse fits rowFits isAndx requestNamed nextAt parseWrite
 returns c = record { is = rw (c .before .before .before .before .le16-at .ensures, c .before .before .offset-at .ensures, c .before .before .before .byte-at .ensures, c .before .le16-at2 .ensures, c .le16-at3 .ensures) }
 
 pub write-body-spec : {M : Type 1} → statement M

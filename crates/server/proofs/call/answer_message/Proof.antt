@@ -14,7 +14,7 @@ use Rattle.message.specs.Caller.{callerOf}
 use Rattle.message.specs.Message.{served, runChain, replied}
 use Rattle.tables.specs.Words.{tablesOf}
 use Rattle.server.specs.TakenOf.{takenOf}
-use Rattle.server.specs.Taking.{readable-here, run-fits, finish, answered-not-served, answered-none, answered-run}
+use Rattle.server.specs.Taking.{readable-here, run-fits, finish, served-named, answered-not-served, answered-none, answered-run}
 
 byte-at-requires : tie.Need-byte-at-requires
 byte-at-requires c κs = search needs
@@ -36,7 +36,7 @@ returns c =
     let args = c .before .before .before .before .before .before .before .before .before .before .before .before .args in
     let byte-at = c .before .before .before .before .before .before .before .byte-at in
     let is-served = c .before .before .before .before .before .before .is-served in (
-      c .before .before .refuse-message .ensures (tablesOf (args .words .now)) ∙ ap (replied (args .s .now) (args .room .now)) (sym (answered-not-served (args .connection) (args .s .now) (tablesOf (args .words .now)) (args .memory .now) (sym (is-served .ensures ∙ ap served (byte-at .ensures)) ∙ not-true (is-served .result) (c .before .before .before .before .before .if1 .taken)))),
+      c .before .before .refuse-message .ensures (tablesOf (args .words .now)) ∙ ap (replied (args .s .now) (args .room .now)) (sym (answered-not-served (args .connection) (args .s .now) (tablesOf (args .words .now)) (args .memory .now) (sym (is-served .ensures ∙ served-named (byte-at .result) ∙ ap served (byte-at .ensures)) ∙ not-true (is-served .result) (c .before .before .before .before .before .if1 .taken)))),
       λ f. f,
     )
 
@@ -59,7 +59,7 @@ returns-2 c =
     let is-served = c .before .before .before .before .before .before .before .before .is-served in
     let if1 = c .before .before .before .before .before .before .before .if1 in
     let is-sentence = c .before .before .before .before .before .before .is-sentence in (
-      c .before .before .refuse-message2 .ensures (tablesOf (args .words .now)) ∙ ap (replied (args .s .now) (args .room .now)) (sym (answered-none (args .connection) (args .s .now) (tablesOf (args .words .now)) (args .memory .now) (sym (is-served .ensures ∙ ap served (byte-at .ensures)) ∙ not-false (is-served .result) (if1 .left)) (ap (λ (n : ℕ). readable (blocksFrom (args .s .now) n 32)) (sym (byte-at .ensures)) ∙ sym (is-sentence .ensures) ∙ not-true (is-sentence .result) (c .before .before .before .before .before .if2 .taken)))),
+      c .before .before .refuse-message2 .ensures (tablesOf (args .words .now)) ∙ ap (replied (args .s .now) (args .room .now)) (sym (answered-none (args .connection) (args .s .now) (tablesOf (args .words .now)) (args .memory .now) (sym (is-served .ensures ∙ served-named (byte-at .result) ∙ ap served (byte-at .ensures)) ∙ not-false (is-served .result) (if1 .left)) (ap (λ (n : ℕ). readable (blocksFrom (args .s .now) n 32)) (sym (byte-at .ensures)) ∙ sym (is-sentence .ensures) ∙ not-true (is-sentence .result) (c .before .before .before .before .before .if2 .taken)))),
       λ f. f,
     )
 
@@ -109,7 +109,7 @@ returns-3 c =
     let enough : 12292 ≤ length (args .room .now) = pre .1 .1 .1 .1 .1 in (
       finish (args .s .now) (args .room .now) (runChain (callerOf (args .connection) (args .s .now)) (args .s .now) (blocks (args .s .now)) (tablesOf (args .words .now)) (args .memory .now)) (run-chain .result .status) (run-chain .result .length) (tablesOf (run-chain .last .1 .1 .0)) (run-chain .last .1 .1 .1 .0) (run-chain .last .1 .1 .1 .1 .0) (write-header .last .1 .1 .0) f
           (write-header .ensures) (omega arith) (omega arith)
-          ∙ ap (replied (args .s .now) (args .room .now)) (sym (answered-run (args .connection) (args .s .now) (tablesOf (args .words .now)) (args .memory .now) (sym (is-served .ensures ∙ ap served (byte-at .ensures)) ∙ not-false (is-served .result) (if1 .left)))),
+          ∙ ap (replied (args .s .now) (args .room .now)) (sym (answered-run (args .connection) (args .s .now) (tablesOf (args .words .now)) (args .memory .now) (sym (is-served .ensures ∙ served-named (byte-at .result) ∙ ap served (byte-at .ensures)) ∙ not-false (is-served .result) (if1 .left)))),
       run-chain .ensures .1,
     )
 

@@ -1,0 +1,43 @@
+-- `chain::command::request_named` meets its contract: each arm is the definition's.
+-- Assumes nothing.
+use borrow.Author.Tests.{ne-eqb}
+use Rattle.chain.specs.Request.{requestNamed}
+use Rattle.chain.proofs.command.request_named.Statement.{statement}
+use Rattle.chain.proofs.command.request_named.Tie as tie
+
+returns : tie.Need-returns
+unfolding requestNamed
+returns c = rw (c .match .keys1)
+
+returns-2 : tie.Need-returns-2
+unfolding requestNamed
+returns-2 c = rw (c .match .keys2)
+
+returns-3 : tie.Need-returns-3
+unfolding requestNamed
+returns-3 c = rw (c .match .keys3)
+
+returns-4 : tie.Need-returns-4
+unfolding requestNamed
+returns-4 c = rw (c .match .keys4)
+
+returns-5 : tie.Need-returns-5
+unfolding requestNamed
+returns-5 c = rw (c .match .keys5)
+
+returns-6 : tie.Need-returns-6
+unfolding requestNamed
+returns-6 c = rw (c .match .keys6)
+
+returns-7 : tie.Need-returns-7
+unfolding requestNamed
+returns-7 c = rw (c .match .keys7)
+
+returns-8 : tie.Need-returns-8
+unfolding requestNamed
+returns-8 c =
+    let command = c .before .args .command in
+    rw (ne-eqb command 36 (c .match .rest .0 .0 .0 .0 .0 .0 .1), ne-eqb command 46 (c .match .rest .0 .0 .0 .0 .0 .1), ne-eqb command 47 (c .match .rest .0 .0 .0 .0 .1), ne-eqb command 4 (c .match .rest .0 .0 .0 .1), ne-eqb command 116 (c .match .rest .0 .0 .1), ne-eqb command 113 (c .match .rest .0 .1), ne-eqb command 17 (c .match .rest .1))
+
+pub request-named-spec : {M : Type 1} → statement M
+request-named-spec = tie.close (tie.spec returns returns-2 returns-3 returns-4 returns-5 returns-6 returns-7 returns-8)
