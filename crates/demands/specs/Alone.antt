@@ -17,12 +17,12 @@ use Rattle.invariants.specs.BlockParse.{block-inside, write-words, andx-words, 
 use Rattle.readings.specs.Moved.{Kept, kept-plain, kept-count, kept-front, kept-behind, kept-not-write, Moved}
 
 -- the requests named ANDX
-unfoldable pub isAndx : ℕ → Bool
-isAndx command = eqb command LOCKING || (eqb command READ || (eqb command WRITE || eqb command LOGOFF))
+unfoldable pub namedAndx : ℕ → Bool
+namedAndx command = eqb command LOCKING || (eqb command READ || (eqb command WRITE || eqb command LOGOFF))
 
 -- "with AndXCommand 0xFF where it has one": it is a block's byte 1
 unfoldable pub endSet : ℕ → List ℕ → List ℕ
-endSet command bytes = cond (isAndx command) (set bytes 1 0xFF) bytes
+endSet command bytes = cond (namedAndx command) (set bytes 1 0xFF) bytes
 
 -- "and a WRITE_ANDX's DataOffset": bytes 23 and 24, the lower first
 unfoldable pub dataSet : ℕ → ℕ → List ℕ → List ℕ
@@ -47,13 +47,13 @@ length-if : (t : Bool) (l m : List ℕ) → length m ≡ length l → length (co
 length-if true l m e = e
 length-if false l m e = refl
 
-end-byte : (command k : ℕ) (bytes : List ℕ) → (isAndx command ≡ true → k ≡ 1 → ⊥) → byteAt (endSet command bytes) k ≡ byteAt bytes k
+end-byte : (command k : ℕ) (bytes : List ℕ) → (namedAndx command ≡ true → k ≡ 1 → ⊥) → byteAt (endSet command bytes) k ≡ byteAt bytes k
 unfolding endSet
-end-byte command k bytes n = set-if (isAndx command) bytes 1 0xFF k n
+end-byte command k bytes n = set-if (namedAndx command) bytes 1 0xFF k n
 
 length-end : (command : ℕ) (bytes : List ℕ) → length (endSet command bytes) ≡ length bytes
 unfolding endSet
-length-end command bytes = length-if (isAndx command) bytes (set bytes 1 0xFF) (length-set bytes 1 0xFF)
+length-end command bytes = length-if (namedAndx command) bytes (set bytes 1 0xFF) (length-set bytes 1 0xFF)
 
 data-if : (t : Bool) (l : List ℕ) (a b k : ℕ) → (t ≡ true → k ≡ 23 → ⊥) → (t ≡ true → k ≡ 24 → ⊥) → getD (cond t (set (set l 23 a) 24 b) l) k 0 ≡ getD l k 0
 data-if true l a b k n m = getD-set-other (set l 23 a) 24 k b 0 (m refl) ∙ getD-set-other l 23 k a 0 (n refl)
@@ -71,8 +71,8 @@ length-data command offset bytes =
     (length-set (set bytes 23 (offset % 256)) 24 (offset / 256 % 256) ∙ length-set bytes 23 (offset % 256))
 
 -- a request not named ANDX is not taken for one
-plain-not : {command : ℕ} → Plain command → isAndx command ≡ true → ⊥
-unfolding isAndx
+plain-not : {command : ℕ} → Plain command → namedAndx command ≡ true → ⊥
+unfolding namedAndx
 plain-not close-plain e = let z : _≡_ {A = ℕ} 0 1 = cc in omega arith
 plain-not tree-disconnect-plain e = let z : _≡_ {A = ℕ} 0 1 = cc in omega arith
 plain-not process-exit-plain e = let z : _≡_ {A = ℕ} 0 1 = cc in omega arith
@@ -82,8 +82,8 @@ plain-not-write close-plain e = let z : _≡_ {A = ℕ} 0 1 = cc in omega arith
 plain-not-write tree-disconnect-plain e = let z : _≡_ {A = ℕ} 0 1 = cc in omega arith
 plain-not-write process-exit-plain e = let z : _≡_ {A = ℕ} 0 1 = cc in omega arith
 
-andx-is : {command : ℕ} → NamedAndx command → isAndx command ≡ true
-unfolding isAndx
+andx-is : {command : ℕ} → NamedAndx command → namedAndx command ≡ true
+unfolding namedAndx
 andx-is locking-andx = refl
 andx-is read-andx = refl
 andx-is write-andx = refl
@@ -104,7 +104,7 @@ write-data (tree-disconnect h) e = absurd (omega arith)
 write-data (process-exit h) e = absurd (omega arith)
 
 -- bytes kept are not those set
-kept-end : {command k : ℕ} → Kept command k → isAndx command ≡ true → k ≡ 1 → ⊥
+kept-end : {command k : ℕ} → Kept command k → namedAndx command ≡ true → k ≡ 1 → ⊥
 kept-end (kept-plain p) e f = plain-not p e
 kept-end kept-count e f = omega arith
 kept-end (kept-front a b) e f = omega arith
