@@ -2,7 +2,6 @@
 // what the one before left, from empty tables on. For each a line is printed: the number, the number given out or the reply's length,
 // the reply in hex, and a digest of the tables and the file memory.
 
-mod digest;
 mod line;
 mod play;
 

@@ -7,8 +7,8 @@
 //   6 take a message: connection 4, length 2, the bytes
 // Any other byte is passed over. What stands behind the end reads as 0, and bytes are cut there.
 
-use crate::digest::state_digest;
 use crate::line::put_line;
+use digest::state_digest;
 use host::answer::Row;
 use host::connection::drop_connection;
 use host::file::load_file;

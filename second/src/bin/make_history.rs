@@ -77,7 +77,7 @@ fn made() -> Maker {
 /// What is wrong with a history; nothing, if it is to be used.
 fn complaints(made: &Maker) -> Vec<String> {
     let mut complaints = made.complaints.clone();
-    complaints.extend(made.tally.missing());
+    complaints.extend(made.tally.missing(tally::required()));
     let mut require = |holds: bool, text: &str| {
         if !holds {
             complaints.push(text.to_string());

@@ -130,6 +130,11 @@ fn take_counted(history: &mut &[u8]) -> Option<Vec<u8>> {
     Some(front.to_vec())
 }
 
+/// A polynomial in 257.
+pub fn digest(numbers: impl Iterator<Item = u64>) -> u64 {
+    numbers.fold(0, |d, x| (d * 257 + x % P + 1) % P)
+}
+
 /// What a call gave.
 #[derive(Clone, Debug, PartialEq, Eq)]
 pub struct Answer {
@@ -176,8 +181,7 @@ impl State {
     /// The digest of the words and the file memory.
     pub fn digest(&self) -> u64 {
         let bytes = self.memory.iter().map(|&byte| u64::from(byte));
-        let all = self.words.iter().copied().chain(bytes);
-        all.fold(0, |d, x| (d * 257 + x % P + 1) % P)
+        digest(self.words.iter().copied().chain(bytes))
     }
 
     /// The line of an answer, this being the state after it: `NUMBER VALUE

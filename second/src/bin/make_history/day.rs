@@ -125,7 +125,7 @@ fn sender(rng: &mut Rng, tables: &Tables, open: Open) -> User {
 }
 
 /// A chain drawn by lot from the grammar.
-fn chain(rng: &mut Rng, tables: &Tables, open: Open, pid: u16) -> Vec<Ask> {
+pub fn chain(rng: &mut Rng, tables: &Tables, open: Open, pid: u16) -> Vec<Ask> {
     let first = match rng.below(100) {
         0..=39 => any_locking(rng, tables, open, pid),
         40..=64 => any_read(rng, open),

@@ -60,7 +60,7 @@ pub struct Tally {
 }
 
 impl Tally {
-    fn count(&mut self, thing: impl Into<String>) {
+    pub fn count(&mut self, thing: impl Into<String>) {
         *self.counts.entry(thing.into()).or_default() += 1;
     }
 
@@ -235,9 +235,9 @@ impl Tally {
     }
 
     /// What was not reached often enough.
-    pub fn missing(&self) -> Vec<String> {
+    pub fn missing(&self, required: Vec<(String, usize)>) -> Vec<String> {
         let count = |thing: &String| self.counts.get(thing).copied().unwrap_or(0);
-        required()
+        required
             .into_iter()
             .filter(|(thing, least)| count(thing) < *least)
             .map(|(thing, least)| format!("{thing}: {} times, not {least}", count(&thing)))
@@ -251,7 +251,7 @@ impl Tally {
 }
 
 /// Everything that a history must reach, with the least count.
-fn required() -> Vec<(String, usize)> {
+pub fn required() -> Vec<(String, usize)> {
     let mut all: Vec<_> = SINGLE
         .map(|(thing, least)| (thing.to_string(), least))
         .into();
@@ -305,11 +305,11 @@ fn refusals_by_command() -> Vec<(String, usize)> {
         .collect()
 }
 
-fn refusal_name((class, code): (u8, u16)) -> String {
+pub fn refusal_name((class, code): (u8, u16)) -> String {
     format!("refused {class}/{code}")
 }
 
-fn name(command: u8) -> &'static str {
+pub fn name(command: u8) -> &'static str {
     match command {
         CLOSE => "CLOSE",
         PROCESS_EXIT => "PROCESS_EXIT",

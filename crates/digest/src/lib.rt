@@ -2,12 +2,12 @@
 
 ghost use mathlib.Core.Path.{_≡_};
 ghost use Prim.Native.Nat.{_<_};
-ghost use Rattle.replay.specs.Digest.{digest};
+ghost use Rattle.digest.specs.Digest.{digest};
 
 const PRIME: u64 = 4294967291;
 
 // Numbers added to a digest.
-fn digest_words(start: u64, words: &[u64]) -> u64
+pub fn digest_words(start: u64, words: &[u64]) -> u64
     requires { ⌜ start < 4294967291 ⌝ }
     ensures { λ r. ⌜ (r ≡ digest start (now (words .entry))) × (r < 4294967291) ⌝ }
 {
@@ -27,7 +27,7 @@ fn wide(x: u8) -> u64
 }
 
 // Bytes added to a digest.
-fn digest_bytes(start: u64, bytes: &[u8]) -> u64
+pub fn digest_bytes(start: u64, bytes: &[u8]) -> u64
     requires { ⌜ start < 4294967291 ⌝ }
     ensures { λ r. ⌜ r ≡ digest start (now (bytes .entry)) ⌝ }
 {
@@ -41,7 +41,7 @@ fn digest_bytes(start: u64, bytes: &[u8]) -> u64
 }
 
 // The words of the tables, then the file memory.
-pub(crate) fn state_digest(words: &[u64], memory: &[u8]) -> u64
+pub fn state_digest(words: &[u64], memory: &[u8]) -> u64
     ensures { λ r. ⌜ r ≡ digest (digest 0 (now (words .entry))) (now (memory .entry)) ⌝ }
 {
     digest_bytes(digest_words(0, words), memory)

@@ -1,12 +1,12 @@
--- `replay::digest::digest_words` meets its contract: what is left is digested from here.
+-- `digest::digest_words` meets its contract: what is left is digested from here.
 -- Assumes nothing.
-use Rattle.replay.proofs.digest.digest_words.Statement.{statement}
-use Rattle.replay.proofs.digest.digest_words.Tie as tie
+use Rattle.digest.proofs.digest_words.Statement.{statement}
+use Rattle.digest.proofs.digest_words.Tie as tie
 use native.Mathlib.Omega.{arith}
 use mathlib.Core.Path.{_≡_, refl, sym, _∙_}
 use Prim.Native.Nat.{_-_, _<_}
 use lib.ListN.{length, drop}
-use Rattle.replay.specs.Digest.{added, digest, digest-more, digest-end}
+use Rattle.digest.specs.Digest.{added, digest, digest-more, digest-end}
 
 abbrev Inv-loop : tie.InvT-loop
 Inv-loop start words d₀ i₀ d i = (digest d₀ words ≡ digest d (drop i words)) × (d < 4294967291)

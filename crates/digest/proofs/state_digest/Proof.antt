@@ -1,11 +1,11 @@
--- `replay::digest::state_digest` meets its contract: the words of the tables, then the file memory.
+-- `digest::state_digest` meets its contract: the words of the tables, then the file memory.
 -- Assumes nothing.
 use borrow.Author.Needs.{needs}
-use Rattle.replay.proofs.digest.state_digest.Statement.{statement}
-use Rattle.replay.proofs.digest.state_digest.Tie as tie
+use Rattle.digest.proofs.state_digest.Statement.{statement}
+use Rattle.digest.proofs.state_digest.Tie as tie
 use mathlib.Core.Path.{ap, _∙_}
 use Prim.Native.Nat.{ℕ}
-use Rattle.replay.specs.Digest.{digest}
+use Rattle.digest.specs.Digest.{digest}
 
 digest-words-requires : tie.Need-digest-words-requires
 digest-words-requires c κs = search needs

@@ -1,13 +1,13 @@
--- `replay::digest::digest_bytes` meets its contract: what is left is digested from here.
+-- `digest::digest_bytes` meets its contract: what is left is digested from here.
 -- Assumes nothing.
-use Rattle.replay.proofs.digest.digest_bytes.Statement.{statement}
-use Rattle.replay.proofs.digest.digest_bytes.Tie as tie
+use Rattle.digest.proofs.digest_bytes.Statement.{statement}
+use Rattle.digest.proofs.digest_bytes.Tie as tie
 use borrow.Author.Needs.{needs}
 use native.Mathlib.Omega.{arith}
 use mathlib.Core.Path.{_≡_, refl, sym, _∙_, ap}
 use Prim.Native.Nat.{_-_, _<_, ℕ, _+_, _*_, _%_}
 use lib.ListN.{length, drop}
-use Rattle.replay.specs.Digest.{added, digest, digest-more, digest-end}
+use Rattle.digest.specs.Digest.{added, digest, digest-more, digest-end}
 
 abbrev Inv-loop : tie.InvT-loop
 Inv-loop start bytes d₀ i₀ d i = (digest d₀ bytes ≡ digest d (drop i bytes)) × (d < 4294967291)

@@ -1,0 +1,223 @@
+//! The messages of one terminal, each made for the tables that the ones before
+//! it leave.
+
+use crate::day::chain;
+use crate::maker::{lengthened, read, write, Maker, User};
+use second::builder::{locking, Ask, Asked};
+use second::listing::{self, Answer};
+use second::messages::{all, worked};
+use second::refusals::WireRefusal::*;
+use second::tables::LOCKS;
+use std::collections::BTreeMap;
+
+pub const CONNECTION: u32 = 5;
+
+/// Messages drawn by lot.
+const DRAWN: usize = 130;
+/// Most bytes of a message taken from the lister's.
+const SHORT: usize = 130;
+
+const TERMINAL: User = User {
+    connection: CONNECTION,
+    uid: 1,
+    tid: 1,
+    pid: 7,
+};
+/// The terminal's other process.
+const OTHER: User = User { pid: 8, ..TERMINAL };
+/// Opens of file 0 by each, and of file 1 for reading.
+const FID: u16 = 1;
+const BEHIND: u16 = 2;
+const READ_ONLY: u16 = 3;
+
+struct Sent<'a> {
+    maker: &'a mut Maker,
+    messages: Vec<Vec<u8>>,
+}
+
+/// The messages, in the order sent.
+pub fn messages(maker: &mut Maker) -> Vec<Vec<u8>> {
+    let mut sent = Sent {
+        maker,
+        messages: Vec::new(),
+    };
+    sent.any(worked());
+    sent.refusals();
+    sent.drawn();
+    sent.malformed();
+    sent.sizes();
+    sent.locks_full();
+    sent.leaving();
+    sent.messages
+}
+
+impl Sent<'_> {
+    /// A message whose answer is not foretold.
+    fn any(&mut self, message: Vec<u8>) {
+        self.maker.take(CONNECTION, message.clone());
+        self.messages.push(message);
+    }
+
+    fn with(&mut self, user: User, asks: &[Ask], wanted: (u8, u16)) {
+        let message = self.maker.message(user, asks);
+        self.maker.take_for(CONNECTION, message.clone(), wanted);
+        self.messages.push(message);
+    }
+
+    fn done(&mut self, user: User, asks: &[Ask]) {
+        self.with(user, asks, (0, 0));
+    }
+
+    fn dropped(&mut self, message: Vec<u8>) {
+        self.maker.dropped(CONNECTION, message.clone());
+        self.messages.push(message);
+    }
+
+    /// Each refusal of a chain but a full lock table's, first in it or second.
+    fn refusals(&mut self) {
+        let stands = write(FID, 20, b"stands");
+        let held: Asked = (8, 200, 10);
+        self.done(OTHER, &[locking(BEHIND, 0, &[], &[held])]);
+        let passes = [(7, u64::MAX, 2)];
+        let refused = [
+            (User { uid: 9, ..TERMINAL }, read(FID, 0, 9), NoSession),
+            (User { tid: 9, ..TERMINAL }, read(FID, 0, 9), NoTree),
+            (TERMINAL, read(9, 0, 9), NoOpen),
+            (TERMINAL, write(READ_ONLY, 0, b"x"), Access),
+            (TERMINAL, locking(FID, 2, &[], &[]), LockType),
+            (TERMINAL, locking(FID, 0, &[held], &[]), NotLocked),
+            (TERMINAL, locking(FID, 0x10, &[], &passes), RangePasses),
+            (TERMINAL, read(FID, 195, 9), Conflict),
+            (TERMINAL, write(FID, 4096, b"x"), FileFull),
+        ];
+        for (user, ask, refusal) in refused {
+            let wanted = refusal.class_and_code();
+            self.with(user, std::slice::from_ref(&ask), wanted);
+            if !matches!(ask, Ask::Locking { .. }) {
+                self.with(user, &[stands.clone(), ask], wanted);
+            }
+        }
+        for kind in [0x02, 0x80] {
+            let ask = locking(FID, kind, &[], &[(7, 0, 1)]);
+            self.with(TERMINAL, &[ask], LockType.class_and_code());
+        }
+        let near = locking(FID, 0, &[(7, 0, 1)], &[]);
+        self.with(TERMINAL, &[near], NotLocked.class_and_code());
+        let far = locking(FID, 0x11, &[], &[(7, 2, u64::MAX)]);
+        self.with(TERMINAL, &[far], RangePasses.class_and_code());
+        self.done(OTHER, &[locking(BEHIND, 0, &[held], &[])]);
+    }
+
+    /// Chains drawn by lot that remove nothing, a few of them damaged.
+    fn drawn(&mut self) {
+        let before = self.messages.len();
+        while self.messages.len() < before + DRAWN {
+            let tables = self.maker.tables();
+            let rng = &mut self.maker.rng;
+            let open = rng.pick(tables.opens.in_use());
+            let user = if open.fid == BEHIND { OTHER } else { TERMINAL };
+            let asks = chain(rng, &tables, open, user.pid);
+            if asks.iter().any(removes) {
+                continue;
+            }
+            let mut message = self.maker.message(user, &asks);
+            if self.maker.rng.below(20) == 0 {
+                let place = 32 + self.maker.rng.below(message.len() - 32);
+                message[place] = self.maker.rng.byte();
+            }
+            self.any(message);
+        }
+    }
+
+    /// Short ones of the lister's messages that are no chain, some for each
+    /// reason.
+    fn malformed(&mut self) {
+        let mut seen: BTreeMap<String, usize> = BTreeMap::new();
+        for made in all() {
+            let reason = match listing::answer(&made.bytes) {
+                Answer::Chain(_) => continue,
+                Answer::NotAChain(reason) => format!("{:?}", reason.why),
+                Answer::Dropped(reason) => format!("{reason:?}"),
+            };
+            let count = seen.entry(reason).or_default();
+            if made.bytes.len() <= SHORT {
+                *count += 1;
+                if *count % 6 == 1 && *count < 40 {
+                    self.any(made.bytes);
+                }
+            }
+        }
+    }
+
+    /// No byte, too few, the fewest, the most; the longest reads and writes.
+    fn sizes(&mut self) {
+        let page = self.maker.rng.bytes(4096);
+        self.release();
+        self.dropped(Vec::new());
+        self.dropped(vec![0xFF]);
+        self.dropped(vec![0xFF; 34]);
+        self.dropped(Vec::new());
+        let ask = lengthened(&write(FID, 0, &page));
+        self.done(TERMINAL, &[ask]);
+        self.done(TERMINAL, &[read(FID, 0, 4096)]);
+        let twice = [write(FID, 1, &page[..9]), read(FID, 0, 4096)];
+        self.done(TERMINAL, &twice);
+        let mut message = self
+            .maker
+            .message(TERMINAL, &[write(FID, 2, &page[..4094])]);
+        message.resize(8192, 0x5A);
+        self.maker.take_for(CONNECTION, message.clone(), (0, 0));
+        self.messages.push(message);
+        self.dropped(vec![0x5A; 8192]);
+    }
+
+    /// The locks of each open are released.
+    fn release(&mut self) {
+        for (user, fid) in [(TERMINAL, FID), (OTHER, BEHIND), (TERMINAL, READ_ONLY)] {
+            let tables = self.maker.tables();
+            let locks = tables.locks.in_use().iter().filter(|lock| lock.fid == fid);
+            let held: Vec<Asked> = locks
+                .map(|lock| (lock.process as u16, lock.range.offset, lock.range.length))
+                .collect();
+            self.done(user, &[locking(fid, 0x10, &held, &[])]);
+        }
+    }
+
+    /// Every lock record in use, and none free for one more.
+    fn locks_full(&mut self) {
+        let ranges: Vec<Asked> = (0..LOCKS as u64).map(|n| (7, 600 + 2 * n, 2)).collect();
+        self.done(TERMINAL, &[locking(FID, 0, &[], &ranges)]);
+        let one = locking(BEHIND, 1, &[], &[(8, 0, 1)]);
+        let wanted = NoLockRecord.class_and_code();
+        self.with(OTHER, std::slice::from_ref(&one), wanted);
+        self.with(OTHER, &[one.clone(), read(BEHIND, 0, 9)], wanted);
+        self.done(TERMINAL, &[locking(FID, 0, &ranges, &[])]);
+        self.done(OTHER, &[one]);
+    }
+
+    /// The opens, the tree and the session go, and what is asked of them then.
+    fn leaving(&mut self) {
+        let wanted = NoOpen.class_and_code();
+        self.done(
+            TERMINAL,
+            &[write(FID, 10, b"last"), Ask::Close { fid: FID }],
+        );
+        self.with(TERMINAL, &[read(FID, 0, 4)], wanted);
+        self.done(TERMINAL, &[read(READ_ONLY, 0, 40)]);
+        self.done(TERMINAL, &[Ask::Close { fid: READ_ONLY }]);
+        self.done(OTHER, &[Ask::ProcessExit]);
+        self.with(OTHER, &[read(BEHIND, 0, 4)], wanted);
+        self.done(TERMINAL, &[Ask::TreeDisconnect]);
+        self.with(TERMINAL, &[read(FID, 0, 4)], NoTree.class_and_code());
+        self.done(TERMINAL, &[Ask::Logoff]);
+        self.with(TERMINAL, &[Ask::Logoff], NoSession.class_and_code());
+    }
+}
+
+/// Whether it closes an open or more.
+fn removes(ask: &Ask) -> bool {
+    matches!(
+        ask,
+        Ask::Close { .. } | Ask::Logoff | Ask::TreeDisconnect | Ask::ProcessExit
+    )
+}
