@@ -42,3 +42,4 @@ pub mod WordsNamed
 pub mod StreamTaken
 pub mod StreamSeen
 pub mod NoSentence
+pub mod ReplyHeader

@@ -18,6 +18,7 @@ use Rattle.demands.specs.Admitted.{Admitted}
 use Rattle.demands.specs.CommandReasons.{OnlyTwoBits}
 use Rattle.demands.specs.LoneLock.{OfFile, loneRange, sharedIn}
 use Rattle.demands.specs.LoneCall.{lockingFields, lockingArea, lone-lock-reading}
+use Rattle.demands.specs.ReplyHeader.{HeaderOf, reply-header as header-given}
 use Rattle.demands.specs.FirstReadings.{BarsReadOn, BarsWriteOn, first-read-reading, first-write-reading}
 use Rattle.demands.specs.Effects.{ReadDone, WriteDone, read-reading, write-reading, close-reading, disconnect-reading, logoff-reading, exit-reading}
 use Rattle.demands.specs.LockEffects.{LockingDone, locking-reading}
@@ -38,6 +39,10 @@ pub record StarredCases : Type 0 where
   pub case-1 : Sentence (message 61 [])
   pub case-2 : Sentence (message 60 []) → ⊥
   pub case-3 : (x : ℕ) → Sentence (message 62 (x ∷ []))
+
+-- "A reply copies Command, PIDHigh, TID, PIDLow, UID and MID; Flags is 0x80 plus the request's 0x08; Flags2 keeps only 0x0001; the rest is 0 but for Status"
+abbrev pub ReplyHeader : Type 0
+ReplyHeader = (c : Call) → Answerable c → HeaderOf (c .message) (gives c .room)
 
 -- a command alone in its message that is carried out (Status 0/0): what it leaves, and a READ's bytes and a WRITE's count in the reply (every byte of each kind of reply:
 -- literals/specs/Replies.antt)
@@ -110,6 +115,7 @@ pub record FirstTransfer : Type 0 where
 
 pub record Demand2 : Type 0 where
   pub starred-cases : StarredCases
+  pub reply-header : ReplyHeader
   pub carried-out : CarriedOut
   pub host-calls-done : HostCallsDone
   pub lone-lock : LoneLock
@@ -121,6 +127,7 @@ pub demand-2 : Demand2
 demand-2 =
     record {
       starred-cases = record { rows = cases; case-1 = message-61-sentence; case-2 = message-60-none; case-3 = message-62-sentence };
+      reply-header = λ c a. header-given (c .connection) (c .message) (c .tables) (c .memory) (c .room) (a .fit);
       carried-out = record {
         locking = λ c d. locking-reading (c .connection) (c .message) (d .1 .reading) (c .tables) (c .memory) (c .room) (d .0 .good) (d .0 .fit) (d .2) (d .1 .is);
         read = λ c d. read-reading (c .connection) (c .message) (d .1 .reading) (c .tables) (c .memory) (c .room) (d .0 .good) (d .0 .fit) (d .2) (d .1 .is);

@@ -23,7 +23,7 @@ use Rattle.locks.specs.Request.{askOf, lockOf, removeAt, afterFind, releaseAll,
 use Rattle.soundness.specs.File.{fileOf}
 use Rattle.soundness.specs.Lookup.{isTree}
 use Rattle.soundness.specs.Sound.{withinRoom, fileOk, treeOk, permits, holdsOpen, openOk, soundRecords, lockOk, agree, agreeAll, soundLocks, sound}
-use Rattle.chain.specs.Layout.{headerCommand}
+use Rattle.chain.specs.Layout.{FIRST, lockType}
 use Rattle.chain.specs.Grammar.{Span, Reading, Sentence}
 use Rattle.chain.specs.Header.{startsSmb, isReply, dropped}
 use Rattle.chain.specs.Parse.{shaped, bare, isLarge, lockingFits, readFits, mayFollow, linkFits, linkAt, answer, wideOffset, parseLocking, parseRead, parse}
@@ -40,6 +40,10 @@ use Rattle.claims.specs.Cases.{message}
 use Rattle.demands.specs.NotServed.{Known, known-locking}
 use Rattle.demands.specs.SentenceCases.{message-60-none}
 use Rattle.demands.specs.Calls.{status-call, length-call}
+use Rattle.claims.specs.HostReasons.{HasTree}
+use Rattle.demands.specs.Admitted.{SessionHere, Admitted}
+use Rattle.demands.specs.CommandReasons.{OnlyTwoBits}
+use Rattle.order.specs.Demand2.{rangeAsked, AsksOneLock, ValidOpen}
 use Rattle.order.specs.Call.{Call, gives, Answerable, BeginsKnown, Says}
 
 -- one terminal on connection 5: a session, its tree, one open of file 0 with that access by process 7; and, where `held` is 1, a shared lock of process 9 on the
@@ -148,6 +152,28 @@ second-refused = call-says (plant 1 0) (plant-good .1) 1 5 10 (answers-given .1)
 
 pub lock-refused : Says (asked (message 61 []) (plant 2 1)) 1 33 × (gives (asked (message 61 []) (plant 2 1)) .length ≡ 35)
 lock-refused = call-says (plant 2 1) (plant-good .2) 1 33 3 (answers-given .2)
+
+-- its LOCKING is a lock alone in its request, of a served type, on a valid open and within range
+pub asks-one-lock : AsksOneLock (asked (message 61 []) (plant 2 1))
+unfolding asked message le16At
+asks-one-lock = record { is-locking = refl; no-unlock = refl; one-lock = refl }
+
+pub served-type : OnlyTwoBits (lockType (message 61 []) FIRST)
+unfolding message
+served-type = refl
+
+pub valid-open : ValidOpen (asked (message 61 []) (plant 2 1)) (record { fid = 1; uid = 1; tid = 1; process = 7; file = 0; access = 2 })
+unfolding asked message plant callerOf le16At SessionHere HasTree
+valid-open =
+    record {
+      session = (_, first refl, refl, refl);
+      tree = (_, first refl, refl, refl);
+      opened = record { listed = first refl; of-fid = refl; of-uid = refl; of-tid = refl };
+    }
+
+pub within-range : rangeAsked (asked (message 61 []) (plant 2 1)) .offset + rangeAsked (asked (message 61 []) (plant 2 1)) .length ≡ 110
+unfolding asked message rangeAt rangeFrom numberAt rangeSize le16At le32At
+within-range = refl
 
 -- ---- two messages that differ in a free byte and in length
 
