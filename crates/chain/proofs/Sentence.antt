@@ -31,13 +31,13 @@ module _ (s : List ℕ) (command at : ℕ) where
   sentence-refused e = ap readable (chain-refused s command at (judged-malformed (parse s command at) e))
 
   -- a block that nothing follows
-  pub sentence-end : judged (parse s command at) ≡ judge.Stands End → readable (blocksFrom s command at) ≡ true
+  pub sentence-end : judged (parse s command at) ≡ judge.Fits End → readable (blocksFrom s command at) ≡ true
   unfolding readable
   sentence-end e =
       let b = judged-stands (parse s command at) End e in
       ap readable (chain-end s command at (b .block) (b .whole) (b .follows))
 
-  module _ (c a : ℕ) (e : judged (parse s command at) ≡ judge.Stands (Follow c a)) where
+  module _ (c a : ℕ) (e : judged (parse s command at) ≡ judge.Fits (Follow c a)) where
     stood : Stood (parse s command at) (Follow c a)
     stood = judged-stands (parse s command at) (Follow c a) e
 

@@ -14,7 +14,7 @@ use Rattle.chain.specs.declared.block.Judged.{Judged}
 use Rattle.chain.specs.declared.block.Judged.the-variants as judge
 
 unfoldable pub judged : Parsed → Judged
-judged (Whole b) = judge.Stands (b .next)
+judged (Whole b) = judge.Fits (b .next)
 judged Malformed = judge.Malformed
 
 -- a block stands there
@@ -39,7 +39,7 @@ pub record Stood (p : Parsed) (n : Next) : Type 0 where
   pub whole : p ≡ Whole block
   pub follows : block .next ≡ n
 
-pub judged-stands : (p : Parsed) (n : Next) → judged p ≡ judge.Stands n → Stood p n
+pub judged-stands : (p : Parsed) (n : Next) → judged p ≡ judge.Fits n → Stood p n
 unfolding judged
 judged-stands (Whole b) n e = record { block = b; whole = refl; follows = cc }
 judged-stands Malformed n e = let never : _≡_ {A = ℕ} 0 1 = cc in absurd (omega arith)

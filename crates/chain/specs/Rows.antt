@@ -42,7 +42,7 @@ nextAt s command at = cond (isAndx (requestNamed command)) (linkAt s at) End
 
 -- the AndX words, judged
 unfoldable pub linkJudged : List ℕ → ℕ → ℕ → Judged
-linkJudged s command at = cond (linkFits s command at) (judge.Stands (linkAt s at)) judge.Malformed
+linkJudged s command at = cond (linkFits s command at) (judge.Fits (linkAt s at)) judge.Malformed
 
 -- the fields that the reader gives the block with that command at a place, should it fit
 pub record HasBody (s : List ℕ) (command at : ℕ) (body : Body) : Type 0 where
@@ -105,14 +105,14 @@ row-inside s named.TreeDisconnect at e = bare-inside s at 0 e
 row-inside s named.ProcessExit at e = bare-inside s at 0 e
 row-inside s named.None at e = absurd (false≢true e)
 
-judged-answer : (s : List ℕ) (command at : ℕ) (t : Bool) (body : Body) (next : Next) → judged (answer s command at t body next) ≡ cond t (judge.Stands next) judge.Malformed
+judged-answer : (s : List ℕ) (command at : ℕ) (t : Bool) (body : Body) (next : Next) → judged (answer s command at t body next) ≡ cond t (judge.Fits next) judge.Malformed
 unfolding judged answer
 judged-answer s command at true body next = refl
 judged-answer s command at false body next = refl
 
 module _ (s : List ℕ) (command at : ℕ) where
   -- judging needs no fields
-  pub judged-row : judged (parse s command at) ≡ cond (fits s command at) (judge.Stands (nextAt s command at)) judge.Malformed
+  pub judged-row : judged (parse s command at) ≡ cond (fits s command at) (judge.Fits (nextAt s command at)) judge.Malformed
   judged-row =
       let row = parse-row s at command in
       ap judged (row .1 .is) ∙ judged-answer s command at (fits s command at) (row .0) (nextAt s command at)
@@ -127,7 +127,7 @@ module _ (s : List ℕ) (command at : ℕ) where
     judged-misfit = rw (judged-row, row, neither (isAndx (requestNamed command)) (linkFits s command at))
 
   module _ (row : rowFits s (requestNamed command) at ≡ true) where
-    pub judged-plain : isAndx (requestNamed command) ≡ false → judged (parse s command at) ≡ judge.Stands End
+    pub judged-plain : isAndx (requestNamed command) ≡ false → judged (parse s command at) ≡ judge.Fits End
     unfolding fits nextAt
     judged-plain plain = rw (judged-row, plain, row)
 

@@ -58,6 +58,6 @@ pub enum Parsed {
 
 // The same answer where a block is judged and not taken apart: what follows a block that stands there.
 pub enum Judged {
-    Stands(Next),
+    Fits(Next),
     Malformed,
 }

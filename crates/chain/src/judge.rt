@@ -97,7 +97,7 @@ fn judge_link(s: &[u8], command: u8, at: usize) -> Judged
 {
     let next = wire::byte_at(s, at + 1);
     if next == NO_COMMAND {
-        return Judged::Stands(Next::End);
+        return Judged::Fits(Next::End);
     }
     if !may_follow(command, next) {
         return Judged::Malformed;
@@ -106,7 +106,7 @@ fn judge_link(s: &[u8], command: u8, at: usize) -> Judged
     if place < block_end(s, at) {
         return Judged::Malformed;
     }
-    Judged::Stands(Next::Follow(next, place))
+    Judged::Fits(Next::Follow(next, place))
 }
 
 // Whether a block with that command stands at a place of the message, and what follows it.
@@ -118,7 +118,7 @@ pub fn judge_block(s: &[u8], command: u8, at: usize) -> Judged
         return Judged::Malformed;
     }
     if !is_andx(request) {
-        return Judged::Stands(Next::End);
+        return Judged::Fits(Next::End);
     }
     judge_link(s, command, at)
 }

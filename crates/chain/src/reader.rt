@@ -13,7 +13,7 @@ ghost use Rattle.chain.specs.Judged.{readable};
 pub fn is_sentence(s: &[u8], command: u8, at: usize) -> bool
     ensures { λ r. ⌜ r ≡ readable (blocksFrom (now (s .entry)) command at) ⌝ }
 {
-    let Judged::Stands(next) = judge_at(s, command, at) else {
+    let Judged::Fits(next) = judge_at(s, command, at) else {
         return false;
     };
     let Next::Follow(then, place) = next else {

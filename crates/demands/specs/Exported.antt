@@ -33,7 +33,7 @@ readOff r id out = record { number = r; id = id; tables = tablesOf out }
 
 -- a call on the words w, the out-parameter id before it, where the core answers a: it returns r, and leaves the words out and the
 -- out-parameter `after`
-pub record Seen (Left : Returned → Type 0) (w : List ℕ) (id : ℕ) (a : Returned) (r : ℕ) (out : List ℕ) (after : ℕ) : Type 0 where
+pub record CallSeen (Left : Returned → Type 0) (w : List ℕ) (id : ℕ) (a : Returned) (r : ℕ) (out : List ℕ) (after : ℕ) : Type 0 where
   -- the core's number; a word in use that its field cannot hold is "tables not sound"
   pub number : inUseFit w ≡ true → r ≡ a .number
   pub unfit : inUseFit w ≡ false → r ≡ 4
@@ -100,7 +100,7 @@ module _ (w : List ℕ) (id : ℕ) (a : Returned) (r : ℕ) (out : List ℕ) (af
       (λ b. let both = both-hold (inUseFit w) (eqb (a .number) 0) b in absurd (n (number-fit (both .0) ∙ eqb-true (a .number) 0 (both .1))))
       (λ _. refl)
 
-  pub seen : (Left : Returned → Type 0) → (a .number ≡ 0 → Left a) → Seen Left w id a r out after
+  pub seen : (Left : Returned → Type 0) → (a .number ≡ 0 → Left a) → CallSeen Left w id a r out after
   seen Left frame =
       record {
         number = number-fit;
@@ -115,7 +115,7 @@ module _ (w : List ℕ) (r : ℕ) (out : List ℕ) where
   -- `gateway_add_session`
   pub session-seen : (connection id after : ℕ) → r ≡ numberOf w (sessionAdded w connection) → after ≡ idAfter id w (sessionAdded w connection)
       → ForNext w out r (sessionAdded w connection .tables)
-      → Seen (SessionAdded (tablesOf w) connection) w id (addSession (tablesOf w) connection) r out after
+      → CallSeen (SessionAdded (tablesOf w) connection) w id (addSession (tablesOf w) connection) r out after
   unfolding sessionAdded
   session-seen connection id after number given next =
       seen w id _ r out after number given next (SessionAdded (tablesOf w) connection) (addSession-frame (tablesOf w) connection)
@@ -123,7 +123,7 @@ module _ (w : List ℕ) (r : ℕ) (out : List ℕ) where
   -- `gateway_add_tree`
   pub tree-seen : (uid right id after : ℕ) → r ≡ numberOf w (treeAdded w uid right) → after ≡ idAfter id w (treeAdded w uid right)
       → ForNext w out r (treeAdded w uid right .tables)
-      → Seen (TreeAdded (tablesOf w) uid right) w id (addTree (tablesOf w) uid right) r out after
+      → CallSeen (TreeAdded (tablesOf w) uid right) w id (addTree (tablesOf w) uid right) r out after
   unfolding treeAdded
   tree-seen uid right id after number given next =
       seen w id _ r out after number given next (TreeAdded (tablesOf w) uid right) (addTree-frame (tablesOf w) uid right)
@@ -132,7 +132,7 @@ module _ (w : List ℕ) (r : ℕ) (out : List ℕ) where
   pub open-seen : (uid tid process file access id after : ℕ) → r ≡ numberOf w (openAdded w uid tid process file access)
       → after ≡ idAfter id w (openAdded w uid tid process file access)
       → ForNext w out r (openAdded w uid tid process file access .tables)
-      → Seen (OpenAdded (tablesOf w) uid tid process file access) w id (addOpen (tablesOf w) uid tid process file access) r out after
+      → CallSeen (OpenAdded (tablesOf w) uid tid process file access) w id (addOpen (tablesOf w) uid tid process file access) r out after
   unfolding openAdded
   open-seen uid tid process file access id after number given next =
       seen w id _ r out after number given next (OpenAdded (tablesOf w) uid tid process file access)
@@ -147,7 +147,7 @@ module _ (w : List ℕ) (r : ℕ) (out : List ℕ) where
 
   -- `gateway_drop_connection`
   pub drop-seen : (connection : ℕ) → r ≡ numberOf w (connectionDropped w connection) → ForNext w out r (connectionDropped w connection .tables)
-      → Seen (ConnectionDropped (tablesOf w) connection) w 0 (dropConnection (tablesOf w) connection) r out 0
+      → CallSeen (ConnectionDropped (tablesOf w) connection) w 0 (dropConnection (tablesOf w) connection) r out 0
   unfolding connectionDropped
   drop-seen connection number next =
       seen w 0 _ r out 0 number (drop-no-number connection) next (ConnectionDropped (tablesOf w) connection) (dropConnection-frame (tablesOf w) connection)
@@ -175,7 +175,7 @@ module _ (w : List ℕ) (r : ℕ) (out : List ℕ) where
         cond-case (λ k. 0 ≡ k) (isDone w (loadFile (tablesOf w) file contents memory)) _ 0
         (λ _. loadFile-either (tablesOf w) (λ a. 0 ≡ a .id) (λ n some. refl) file contents memory (λ passed. refl)) (λ _. refl)
 
-    of-any : length memory ≡ 65536 → Seen (λ a. FileLoaded (tablesOf w) file contents memory a (loadMemory (tablesOf w) file contents memory)) w 0 (loadFile (tablesOf w) file contents memory) r out 0
+    of-any : length memory ≡ 65536 → CallSeen (λ a. FileLoaded (tablesOf w) file contents memory a (loadMemory (tablesOf w) file contents memory)) w 0 (loadFile (tablesOf w) file contents memory) r out 0
     unfolding fileLoaded
     of-any e =
         seen w 0 _ r out 0 (load-number e) load-no-number next

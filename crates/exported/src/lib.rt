@@ -17,7 +17,7 @@ ghost use Rattle.tables.specs.Words.{tablesOf};
 ghost use Rattle.host.specs.HostCall.{addSession, addTree, addOpen, dropConnection};
 ghost use Rattle.claims.specs.HostFrames.{SessionAdded, TreeAdded, OpenAdded, ConnectionDropped};
 ghost use Rattle.stream.specs.State.{noneBegun};
-ghost use Rattle.demands.specs.Exported.{Seen, LoadSeen, MessageSeen};
+ghost use Rattle.demands.specs.Exported.{CallSeen, LoadSeen, MessageSeen};
 ghost use Rattle.demands.specs.StreamSeen.{stateRead, PieceSeen, WrittenSeen};
 
 // Every word is 0: no record in use, every file empty.
@@ -29,14 +29,14 @@ pub fn seen_empty(tables: &mut [u64; 1172])
 
 // A session on that connection.
 pub fn seen_session(tables: &mut [u64; 1172], connection: u32, uid: &mut u16) -> u8
-    ensures { λ r. ⌜ Seen (SessionAdded (tablesOf (now (tables .entry))) connection) (now (tables .entry)) (now (uid .entry)) (addSession (tablesOf (now (tables .entry))) connection) r (now (tables .exit)) (now (uid .exit)) ⌝ }
+    ensures { λ r. ⌜ CallSeen (SessionAdded (tablesOf (now (tables .entry))) connection) (now (tables .entry)) (now (uid .entry)) (addSession (tablesOf (now (tables .entry))) connection) r (now (tables .exit)) (now (uid .exit)) ⌝ }
 {
     gateway_add_session(tables, connection, uid)
 }
 
 // A tree of that session, with that right.
 pub fn seen_tree(tables: &mut [u64; 1172], uid: u32, right: u32, tid: &mut u16) -> u8
-    ensures { λ r. ⌜ Seen (TreeAdded (tablesOf (now (tables .entry))) uid right) (now (tables .entry)) (now (tid .entry)) (addTree (tablesOf (now (tables .entry))) uid right) r (now (tables .exit)) (now (tid .exit)) ⌝ }
+    ensures { λ r. ⌜ CallSeen (TreeAdded (tablesOf (now (tables .entry))) uid right) (now (tables .entry)) (now (tid .entry)) (addTree (tablesOf (now (tables .entry))) uid right) r (now (tables .exit)) (now (tid .exit)) ⌝ }
 {
     gateway_add_tree(tables, uid, right, tid)
 }
@@ -51,7 +51,7 @@ pub fn seen_open(
     access: u32,
     fid: &mut u16,
 ) -> u8
-    ensures { λ r. ⌜ Seen (OpenAdded (tablesOf (now (tables .entry))) uid tid process file access) (now (tables .entry)) (now (fid .entry)) (addOpen (tablesOf (now (tables .entry))) uid tid process file access) r (now (tables .exit)) (now (fid .exit)) ⌝ }
+    ensures { λ r. ⌜ CallSeen (OpenAdded (tablesOf (now (tables .entry))) uid tid process file access) (now (tables .entry)) (now (fid .entry)) (addOpen (tablesOf (now (tables .entry))) uid tid process file access) r (now (tables .exit)) (now (fid .exit)) ⌝ }
 {
     gateway_add_open(tables, uid, tid, process, file, access, fid)
 }
@@ -65,7 +65,7 @@ pub fn seen_load(tables: &mut [u64; 1172], file: u32, contents: &[u8], memory: &
 
 // That connection dropped. No number is given out: the 0 before and after.
 pub fn seen_drop(tables: &mut [u64; 1172], connection: u32) -> u8
-    ensures { λ r. ⌜ Seen (ConnectionDropped (tablesOf (now (tables .entry))) connection) (now (tables .entry)) 0 (dropConnection (tablesOf (now (tables .entry))) connection) r (now (tables .exit)) 0 ⌝ }
+    ensures { λ r. ⌜ CallSeen (ConnectionDropped (tablesOf (now (tables .entry))) connection) (now (tables .entry)) 0 (dropConnection (tablesOf (now (tables .entry))) connection) r (now (tables .exit)) 0 ⌝ }
 {
     gateway_drop_connection(tables, connection)
 }

@@ -20,7 +20,7 @@ use Rattle.message.specs.Message.{served, notTaken, take-message}
 use Rattle.message.specs.declared.refusal.Refusal.the-variants.{NotServed, NotSentence, NoSession, NoTree, NoOpen, NoAccess, LockType, NoSuchLock, PassesEnd, Conflict, NoRecord, NoSpace}
 use Rattle.message.specs.declared.refusal.Status.{Status}
 use Rattle.literals.specs.Counting.{countFrom}
-use Rattle.literals.specs.State.{session, tree, open-of, sizes, tablesWith, small, memory}
+use Rattle.literals.specs.State.{session, tree, open-of, sizes, tablesWith, fewRecords, memory}
 
 -- "2/22 header command not served; 2/1 not a sentence; 2/91 no session of that UID on this connection; 2/5 no tree of that TID and UID; 1/6 no open of
 -- that FID, UID and TID; 1/5 access; 2/65535 lock type bit other than 0x01 and 0x10; 1/158 no such lock to release; 1/87 lock range passes 2^64;
@@ -82,20 +82,20 @@ short = 0xFF ∷ 0x53 ∷ 0x4D ∷ 0x42 ∷ replicate 30 0
 
 -- "0: done; .. for an add, the new number", the smallest from 1 not in use. "Dropping an unknown connection is 0". File 15, access 2, right 1 and
 -- 4,096 bytes are in range.
-pub done-0 : (addSession small 6 .number ≡ 0)
-    × (addSession small 6 .id ≡ 1)
-    × (addTree small 3 1 .number ≡ 0)
-    × (addTree small 3 1 .id ≡ 1)
-    × (addOpen small 3 2 7 15 2 .number ≡ 0)
-    × (addOpen small 3 2 7 15 2 .id ≡ 1)
-    × (loadFile small 15 (replicate 4096 0xAA) memory .number ≡ 0)
-    × (dropConnection small 6 .number ≡ 0)
-unfolding small tablesWith session tree open-of sizes memory refused done newSession addSession newTree addTree newOpen addOpen isOf loadNumber loadFile dropConnection sound withinRoom fileOk treeOk permits holdsOpen openOk soundRecords lockOk agree agreeAll soundLocks fileOf isTree contains numberOk numbered freeFrom smallestFree any all allTails overlaps passesEnd
+pub done-0 : (addSession fewRecords 6 .number ≡ 0)
+    × (addSession fewRecords 6 .id ≡ 1)
+    × (addTree fewRecords 3 1 .number ≡ 0)
+    × (addTree fewRecords 3 1 .id ≡ 1)
+    × (addOpen fewRecords 3 2 7 15 2 .number ≡ 0)
+    × (addOpen fewRecords 3 2 7 15 2 .id ≡ 1)
+    × (loadFile fewRecords 15 (replicate 4096 0xAA) memory .number ≡ 0)
+    × (dropConnection fewRecords 6 .number ≡ 0)
+unfolding fewRecords tablesWith session tree open-of sizes memory refused done newSession addSession newTree addTree newOpen addOpen isOf loadNumber loadFile dropConnection sound withinRoom fileOk treeOk permits holdsOpen openOk soundRecords lockOk agree agreeAll soundLocks fileOf isTree contains numberOk numbered freeFrom smallestFree any all allTails overlaps passesEnd
 done-0 = (refl, refl, refl, refl, refl, refl, refl, refl)
 
 -- "1: message dropped"
-pub dropped-1 : (take-message 5 short small memory (replicate 12292 0) .number ≡ 1)
-unfolding small tablesWith session tree open-of sizes memory short take-message notTaken dropped startsSmb isReply sound withinRoom fileOk treeOk permits holdsOpen openOk soundRecords lockOk agree agreeAll soundLocks fileOf isTree contains numberOk numbered freeFrom smallestFree any all allTails overlaps passesEnd
+pub dropped-1 : (take-message 5 short fewRecords memory (replicate 12292 0) .number ≡ 1)
+unfolding fewRecords tablesWith session tree open-of sizes memory short take-message notTaken dropped startsSmb isReply sound withinRoom fileOk treeOk permits holdsOpen openOk soundRecords lockOk agree agreeAll soundLocks fileOf isTree contains numberOk numbered freeFrom smallestFree any all allTails overlaps passesEnd
 dropped-1 = refl
 
 -- "2: reply room under 12,292 bytes, or file memory not 65,536": with 12,292 and 65,536 the next reason counts, here 4
@@ -105,7 +105,7 @@ pub room-2 : (take-message 5 short crowded memory (replicate 12291 0) .number �
     × (take-message 5 short crowded (0 ∷ memory) (replicate 12292 0) .number ≡ 2)
     × (loadFile crowded 16 [] (replicate 65535 0) .number ≡ 2)
     × (loadFile crowded 16 [] (0 ∷ memory) .number ≡ 2)
-unfolding crowded small tablesWith session tree open-of sizes countFrom memory short take-message notTaken dropped startsSmb isReply refused done newSession addSession newTree addTree newOpen addOpen isOf loadNumber loadFile dropConnection sound withinRoom fileOk treeOk permits holdsOpen openOk soundRecords lockOk agree agreeAll soundLocks fileOf isTree contains numberOk numbered freeFrom smallestFree any all allTails overlaps passesEnd
+unfolding crowded fewRecords tablesWith session tree open-of sizes countFrom memory short take-message notTaken dropped startsSmb isReply refused done newSession addSession newTree addTree newOpen addOpen isOf loadNumber loadFile dropConnection sound withinRoom fileOk treeOk permits holdsOpen openOk soundRecords lockOk agree agreeAll soundLocks fileOf isTree contains numberOk numbered freeFrom smallestFree any all allTails overlaps passesEnd
 room-2 = (refl, refl, refl, refl, refl, refl)
 
 -- "4: tables not sound"
@@ -115,7 +115,7 @@ pub sound-4 : (addSession crowded 6 .number ≡ 4)
     × (loadFile crowded 16 [] memory .number ≡ 4)
     × (dropConnection crowded 6 .number ≡ 4)
     × (take-message 5 short crowded memory (replicate 12292 0) .number ≡ 4)
-unfolding crowded small tablesWith session tree open-of sizes countFrom memory short take-message notTaken dropped startsSmb isReply refused done newSession addSession newTree addTree newOpen addOpen isOf loadNumber loadFile dropConnection sound withinRoom fileOk treeOk permits holdsOpen openOk soundRecords lockOk agree agreeAll soundLocks fileOf isTree contains numberOk numbered freeFrom smallestFree any all allTails overlaps passesEnd
+unfolding crowded fewRecords tablesWith session tree open-of sizes countFrom memory short take-message notTaken dropped startsSmb isReply refused done newSession addSession newTree addTree newOpen addOpen isOf loadNumber loadFile dropConnection sound withinRoom fileOk treeOk permits holdsOpen openOk soundRecords lockOk agree agreeAll soundLocks fileOf isTree contains numberOk numbered freeFrom smallestFree any all allTails overlaps passesEnd
 sound-4 = (refl, refl, refl, refl, refl, refl)
 
 -- one session of that UID, its tree of that TID and right, an open of that FID, file and access, those locks, and a first file of that size
@@ -173,7 +173,7 @@ sound-locks = (refl, refl, refl, refl, refl, refl)
 pub full-5 : (addSession full 6 .number ≡ 5)
     × (addTree full 1 1 .number ≡ 5)
     × (addOpen full 1 2 7 0 2 .number ≡ 5)
-unfolding full upTo small tablesWith session tree open-of sizes countFrom refused done newSession addSession newTree addTree newOpen addOpen isOf loadNumber loadFile dropConnection sound withinRoom fileOk treeOk permits holdsOpen openOk soundRecords lockOk agree agreeAll soundLocks fileOf isTree contains numberOk numbered freeFrom smallestFree any all allTails overlaps passesEnd
+unfolding full upTo fewRecords tablesWith session tree open-of sizes countFrom refused done newSession addSession newTree addTree newOpen addOpen isOf loadNumber loadFile dropConnection sound withinRoom fileOk treeOk permits holdsOpen openOk soundRecords lockOk agree agreeAll soundLocks fileOf isTree contains numberOk numbered freeFrom smallestFree any all allTails overlaps passesEnd
 full-5 = (refl, refl, refl)
 
 -- one record less, and the last number is given out
@@ -183,38 +183,38 @@ pub last-number : (addSession nearly 6 .number ≡ 0)
     × (addTree nearly 1 1 .id ≡ 32)
     × (addOpen nearly 1 2 7 0 2 .number ≡ 0)
     × (addOpen nearly 1 2 7 0 2 .id ≡ 64)
-unfolding nearly upTo small tablesWith session tree open-of sizes countFrom refused done newSession addSession newTree addTree newOpen addOpen isOf loadNumber loadFile dropConnection sound withinRoom fileOk treeOk permits holdsOpen openOk soundRecords lockOk agree agreeAll soundLocks fileOf isTree contains numberOk numbered freeFrom smallestFree any all allTails overlaps passesEnd
+unfolding nearly upTo fewRecords tablesWith session tree open-of sizes countFrom refused done newSession addSession newTree addTree newOpen addOpen isOf loadNumber loadFile dropConnection sound withinRoom fileOk treeOk permits holdsOpen openOk soundRecords lockOk agree agreeAll soundLocks fileOf isTree contains numberOk numbered freeFrom smallestFree any all allTails overlaps passesEnd
 last-number = (refl, refl, refl, refl, refl, refl)
 
 -- "6: no such session, or no such tree of that session", before 5
-pub none-6 : (addTree small 4 1 .number ≡ 6)
-    × (addOpen small 3 3 7 1 2 .number ≡ 6)
-    × (addOpen small 4 2 7 1 2 .number ≡ 6)
+pub none-6 : (addTree fewRecords 4 1 .number ≡ 6)
+    × (addOpen fewRecords 3 3 7 1 2 .number ≡ 6)
+    × (addOpen fewRecords 4 2 7 1 2 .number ≡ 6)
     × (addTree full 17 1 .number ≡ 6)
     × (addOpen full 2 2 7 0 2 .number ≡ 6)
-unfolding full upTo small tablesWith session tree open-of sizes countFrom refused done newSession addSession newTree addTree newOpen addOpen isOf loadNumber loadFile dropConnection sound withinRoom fileOk treeOk permits holdsOpen openOk soundRecords lockOk agree agreeAll soundLocks fileOf isTree contains numberOk numbered freeFrom smallestFree any all allTails overlaps passesEnd
+unfolding full upTo fewRecords tablesWith session tree open-of sizes countFrom refused done newSession addSession newTree addTree newOpen addOpen isOf loadNumber loadFile dropConnection sound withinRoom fileOk treeOk permits holdsOpen openOk soundRecords lockOk agree agreeAll soundLocks fileOf isTree contains numberOk numbered freeFrom smallestFree any all allTails overlaps passesEnd
 none-6 = (refl, refl, refl, refl, refl)
 
 -- "7: number out of range (file above 15, access above 2, right above 1, load over 4,096 bytes)", before 6 and 9
-pub range-7 : (addTree small 3 2 .number ≡ 7)
-    × (addOpen small 3 2 7 16 2 .number ≡ 7)
-    × (addOpen small 3 2 7 15 3 .number ≡ 7)
-    × (loadFile small 16 [] memory .number ≡ 7)
-    × (loadFile small 15 (replicate 4097 0xAA) memory .number ≡ 7)
-    × (addTree small 4 2 .number ≡ 7)
-    × (addOpen small 4 2 7 16 2 .number ≡ 7)
-    × (loadFile small 1 (replicate 4097 0xAA) memory .number ≡ 7)
-unfolding small tablesWith session tree open-of sizes memory refused done newSession addSession newTree addTree newOpen addOpen isOf loadNumber loadFile dropConnection sound withinRoom fileOk treeOk permits holdsOpen openOk soundRecords lockOk agree agreeAll soundLocks fileOf isTree contains numberOk numbered freeFrom smallestFree any all allTails overlaps passesEnd
+pub range-7 : (addTree fewRecords 3 2 .number ≡ 7)
+    × (addOpen fewRecords 3 2 7 16 2 .number ≡ 7)
+    × (addOpen fewRecords 3 2 7 15 3 .number ≡ 7)
+    × (loadFile fewRecords 16 [] memory .number ≡ 7)
+    × (loadFile fewRecords 15 (replicate 4097 0xAA) memory .number ≡ 7)
+    × (addTree fewRecords 4 2 .number ≡ 7)
+    × (addOpen fewRecords 4 2 7 16 2 .number ≡ 7)
+    × (loadFile fewRecords 1 (replicate 4097 0xAA) memory .number ≡ 7)
+unfolding fewRecords tablesWith session tree open-of sizes memory refused done newSession addSession newTree addTree newOpen addOpen isOf loadNumber loadFile dropConnection sound withinRoom fileOk treeOk permits holdsOpen openOk soundRecords lockOk agree agreeAll soundLocks fileOf isTree contains numberOk numbered freeFrom smallestFree any all allTails overlaps passesEnd
 range-7 = (refl, refl, refl, refl, refl, refl, refl, refl)
 
 -- "8: open would exceed its tree's right", before 5: right 0 is read, access 1 write and 2 both
 pub exceeds-8 : (addOpen full 1 1 7 0 1 .number ≡ 8)
     × (addOpen full 1 1 7 0 2 .number ≡ 8)
     × (addOpen full 1 1 7 0 0 .number ≡ 5)
-unfolding full upTo small tablesWith session tree open-of sizes countFrom refused done newSession addSession newTree addTree newOpen addOpen isOf loadNumber loadFile dropConnection sound withinRoom fileOk treeOk permits holdsOpen openOk soundRecords lockOk agree agreeAll soundLocks fileOf isTree contains numberOk numbered freeFrom smallestFree any all allTails overlaps passesEnd
+unfolding full upTo fewRecords tablesWith session tree open-of sizes countFrom refused done newSession addSession newTree addTree newOpen addOpen isOf loadNumber loadFile dropConnection sound withinRoom fileOk treeOk permits holdsOpen openOk soundRecords lockOk agree agreeAll soundLocks fileOf isTree contains numberOk numbered freeFrom smallestFree any all allTails overlaps passesEnd
 exceeds-8 = (refl, refl, refl)
 
 -- "9: load of a file that has an open"
-pub open-9 : (loadFile small 1 [] memory .number ≡ 9)
-unfolding small tablesWith session tree open-of sizes memory refused done newSession addSession newTree addTree newOpen addOpen isOf loadNumber loadFile dropConnection sound withinRoom fileOk treeOk permits holdsOpen openOk soundRecords lockOk agree agreeAll soundLocks fileOf isTree contains numberOk numbered freeFrom smallestFree any all allTails overlaps passesEnd
+pub open-9 : (loadFile fewRecords 1 [] memory .number ≡ 9)
+unfolding fewRecords tablesWith session tree open-of sizes memory refused done newSession addSession newTree addTree newOpen addOpen isOf loadNumber loadFile dropConnection sound withinRoom fileOk treeOk permits holdsOpen openOk soundRecords lockOk agree agreeAll soundLocks fileOf isTree contains numberOk numbered freeFrom smallestFree any all allTails overlaps passesEnd
 open-9 = refl

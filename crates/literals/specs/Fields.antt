@@ -10,6 +10,7 @@ use Rattle.lists.specs.Walk.{keep}
 use Rattle.wire.specs.LittleEndian.{le16At, le32At}
 use Rattle.locks.specs.Wire.{rangeSize, numberAt, rangeFrom, rangeAt, rangesAt}
 use Rattle.locks.specs.declared.types.LockRange.{LockRange}
+use Rattle.chain.specs.Judged.{isWhole}
 use Rattle.chain.specs.Parse.{shaped, bare, isLarge, lockingFits, readFits, dataInside, writeFits, mayFollow, linkFits, linkAt, answer, wideOffset, parseLocking, parseRead, parseWrite, parseClose, parseLogoff, parseEmpty, parse}
 use Rattle.chain.specs.declared.block.Block.{Block}
 use Rattle.chain.specs.declared.block.Body.{Body}
@@ -150,10 +151,6 @@ unfolding whole behindHeader parse parseEmpty answer bare shaped le16At
 empty-0 = (refl, refl)
 
 -- ---- no other number of words
-
-unfoldable pub isWhole : Parsed → Bool
-isWhole (Whole b) = true
-isWhole Malformed = false
 
 -- a block of that many words with no byte, all 0 but for its first word's first byte; and one of a WRITE with no data, its DataOffset where its
 -- byte area starts, which is 35 + 2 × words

@@ -1,4 +1,4 @@
--- One whole reply of each kind, byte for byte (document 01, "Header" and "Reply blocks"), from a whole message on small tables. Assumes nothing.
+-- One whole reply of each kind, byte for byte (document 01, "Header" and "Reply blocks"), from a whole message on fewRecords tables. Assumes nothing.
 use mathlib.Core.Path.{_≡_, refl}
 use Prim.Native.Nat.{ℕ}
 use mathlib.Core.Bool.{true, false}
@@ -29,7 +29,7 @@ use Rattle.message.specs.Contents.{sizeOf, contents, readBytes, written, resize
 use Rattle.message.specs.Command.{isSession, withSession, withTree, isOpen, openAt, withOpen, servedType, requestOf, withLockList, lockingEnd, lockingAfter, doLocking, askBy, unlessBarred, barring, doRead, endsPast, doWrite, perform}
 use Rattle.message.specs.Reply.{two, replyHeader, linkWords, replyBlock, refusedBlock, replySize}
 use Rattle.message.specs.Message.{areaOf, dataOf, after, linkTo, afterGiven, run, served, onlyStatus, runChain, answered, replyOf, Taken, notTaken, replied, take-message}
-use Rattle.literals.specs.State.{session, tree, open-of, sizes, tablesWith, small, memory}
+use Rattle.literals.specs.State.{session, tree, open-of, sizes, tablesWith, fewRecords, memory}
 
 -- ---- requests
 
@@ -110,7 +110,7 @@ pub record Row : Type 0 where
 unfoldable pub lockingReply : Row
 lockingReply =
     record {
-      tables = small;
+      tables = fewRecords;
       request = message 0x24 0x7F 0xFF (lock100 0xFF);
       said = success 39 0x24 (0x02 ∷ 0xFF ∷ 0x00 ∷ 0x00 ∷ 0x00 ∷ 0x00 ∷ 0x00 ∷ []);
     }
@@ -119,7 +119,7 @@ lockingReply =
 unfoldable pub readReply : Row
 readReply =
     record {
-      tables = small;
+      tables = fewRecords;
       request = message 0x2E 0x7F 0xFF (readBlock 4);
       said = success 62 0x2E ((0x0C ∷ 0xFF ∷ 0x00 ∷ 0x00 ∷ 0x00 ∷ 0xFF ∷ 0xFF ∷ 0x00 ∷ 0x00 ∷ 0x00 ∷ 0x00 ∷ 0x03 ∷ 0x00 ∷ 0x3B ∷ 0x00 ∷ []) ++ (0x00 ∷ 0x00 ∷ 0x00 ∷ 0x00 ∷ 0x00 ∷ 0x00 ∷ 0x00 ∷ 0x00 ∷ 0x00 ∷ 0x00 ∷ 0x03 ∷ 0x00 ∷ 0xA2 ∷ 0xA3 ∷ 0xA4 ∷ []));
     }
@@ -128,20 +128,20 @@ readReply =
 unfoldable pub writeReply : Row
 writeReply =
     record {
-      tables = small;
+      tables = fewRecords;
       request = message 0x2F 0x7F 0xFF (writeBlock 0xFF 2 0);
       said = success 47 0x2F (0x06 ∷ 0xFF ∷ 0x00 ∷ 0x00 ∷ 0x00 ∷ 0x02 ∷ 0x00 ∷ 0xFF ∷ 0xFF ∷ 0x00 ∷ 0x00 ∷ 0x00 ∷ 0x00 ∷ 0x00 ∷ 0x00 ∷ []);
     }
 
 -- "Others: 0 words."
 unfoldable pub closeReply : Row
-closeReply = record { tables = small; request = message 0x04 0x7F 0xFF (closeBlock 4); said = success 35 0x04 (0x00 ∷ 0x00 ∷ 0x00 ∷ []) }
+closeReply = record { tables = fewRecords; request = message 0x04 0x7F 0xFF (closeBlock 4); said = success 35 0x04 (0x00 ∷ 0x00 ∷ 0x00 ∷ []) }
 
 -- LOGOFF: its AndXOffset is ignored
 unfoldable pub logoffReply : Row
 logoffReply =
     record {
-      tables = small;
+      tables = fewRecords;
       request = message 0x74 0x7F 0xFF (0x02 ∷ 0xFF ∷ 0x22 ∷ 0x23 ∷ 0x24 ∷ 0x00 ∷ 0x00 ∷ []);
       said = success 39 0x74 (0x02 ∷ 0xFF ∷ 0x00 ∷ 0x00 ∷ 0x00 ∷ 0x00 ∷ 0x00 ∷ []);
     }
@@ -150,20 +150,20 @@ logoffReply =
 unfoldable pub disconnectReply : Row
 disconnectReply =
     record {
-      tables = small;
+      tables = fewRecords;
       request = message 0x71 0x7F 0xFF (0x00 ∷ 0x00 ∷ 0x00 ∷ []);
       said = success 35 0x71 (0x00 ∷ 0x00 ∷ 0x00 ∷ []);
     }
 
 -- PROCESS_EXIT
 unfoldable pub exitReply : Row
-exitReply = record { tables = small; request = message 0x11 0x7F 0xFF (0x00 ∷ 0x00 ∷ 0x00 ∷ []); said = success 35 0x11 (0x00 ∷ 0x00 ∷ 0x00 ∷ []) }
+exitReply = record { tables = fewRecords; request = message 0x11 0x7F 0xFF (0x00 ∷ 0x00 ∷ 0x00 ∷ []); said = success 35 0x11 (0x00 ∷ 0x00 ∷ 0x00 ∷ []) }
 
 -- "Flags is 0x80 plus the request's 0x08; Flags2 keeps only 0x0001": no bit is set
 unfoldable pub noFlags : Row
 noFlags =
     record {
-      tables = small;
+      tables = fewRecords;
       request = message 0x71 0x00 0x00 (0x00 ∷ 0x00 ∷ 0x00 ∷ []);
       said = reply 35 0x71 0 0 0 0x80 0x00 (0x00 ∷ 0x00 ∷ 0x00 ∷ []);
     }
@@ -172,7 +172,7 @@ noFlags =
 unfoldable pub otherFlags : Row
 otherFlags =
     record {
-      tables = small;
+      tables = fewRecords;
       request = message 0x71 0x77 0xFE (0x00 ∷ 0x00 ∷ 0x00 ∷ []);
       said = reply 35 0x71 0 0 0 0x80 0x00 (0x00 ∷ 0x00 ∷ 0x00 ∷ []);
     }
@@ -181,7 +181,7 @@ otherFlags =
 unfoldable pub justFlags : Row
 justFlags =
     record {
-      tables = small;
+      tables = fewRecords;
       request = message 0x71 0x08 0x01 (0x00 ∷ 0x00 ∷ 0x00 ∷ []);
       said = reply 35 0x71 0 0 0 0x88 0x01 (0x00 ∷ 0x00 ∷ 0x00 ∷ []);
     }
@@ -192,7 +192,7 @@ justFlags =
 unfoldable pub lockReadReply : Row
 lockReadReply =
     record {
-      tables = small;
+      tables = fewRecords;
       request = message 0x24 0x7F 0xFF (lock100 0x2E ++ readBlock 4);
       said = success 69 0x24 ((0x02 ∷ 0x2E ∷ 0x00 ∷ 0x27 ∷ 0x00 ∷ 0x00 ∷ 0x00 ∷ []) ++ ((0x0C ∷ 0xFF ∷ 0x00 ∷ 0x00 ∷ 0x00 ∷ 0xFF ∷ 0xFF ∷ 0x00 ∷ 0x00 ∷ 0x00 ∷ 0x00 ∷ 0x03 ∷ 0x00 ∷ 0x42 ∷ 0x00 ∷ []) ++ (0x00 ∷ 0x00 ∷ 0x00 ∷ 0x00 ∷ 0x00 ∷ 0x00 ∷ 0x00 ∷ 0x00 ∷ 0x00 ∷ 0x00 ∷ 0x03 ∷ 0x00 ∷ 0xA2 ∷ 0xA3 ∷ 0xA4 ∷ [])));
     }
@@ -201,7 +201,7 @@ lockReadReply =
 unfoldable pub writeCloseReply : Row
 writeCloseReply =
     record {
-      tables = small;
+      tables = fewRecords;
       request = message 0x2F 0x7F 0xFF (writeBlock 0x04 2 0 ++ closeBlock 4);
       said = success 50 0x2F ((0x06 ∷ 0x04 ∷ 0x00 ∷ 0x2F ∷ 0x00 ∷ 0x02 ∷ 0x00 ∷ 0xFF ∷ 0xFF ∷ 0x00 ∷ 0x00 ∷ 0x00 ∷ 0x00 ∷ 0x00 ∷ 0x00 ∷ []) ++ (0x00 ∷ 0x00 ∷ 0x00 ∷ []));
     }
@@ -210,7 +210,7 @@ writeCloseReply =
 unfoldable pub lockRefusedReply : Row
 lockRefusedReply =
     record {
-      tables = small;
+      tables = fewRecords;
       request = message 0x24 0x7F 0xFF (lock100 0x2E ++ readBlock 5);
       said = reply 42 0x24 1 6 0 0x88 0x01 ((0x02 ∷ 0x2E ∷ 0x00 ∷ 0x27 ∷ 0x00 ∷ 0x00 ∷ 0x00 ∷ []) ++ (0x00 ∷ 0x00 ∷ 0x00 ∷ []));
     }
@@ -221,7 +221,7 @@ lockRefusedReply =
 unfoldable pub refusal : ℕ → ℕ → ℕ → ℕ → Given
 refusal command class low high = reply 35 command class low high 0x88 0x01 (0x00 ∷ 0x00 ∷ 0x00 ∷ [])
 
--- the small tables, but with an open of that access and with those locks
+-- the fewRecords tables, but with an open of that access and with those locks
 unfoldable pub opened : ℕ → List Lock → Tables
 opened access locks = tablesWith (session 3 5 ∷ []) (tree 2 3 1 ∷ []) (open-of 4 3 2 0x1B1A 1 access ∷ []) locks
 
@@ -231,13 +231,13 @@ lock process offset size = record { fid = 4; process = process; offset = offset;
 
 -- "2/22 header command not served"
 unfoldable pub unserved : Row
-unserved = record { tables = small; request = message 0x72 0x7F 0xFF (0x00 ∷ 0x00 ∷ 0x00 ∷ []); said = refusal 0x72 2 0x16 0x00 }
+unserved = record { tables = fewRecords; request = message 0x72 0x7F 0xFF (0x00 ∷ 0x00 ∷ 0x00 ∷ []); said = refusal 0x72 2 0x16 0x00 }
 
 -- "2/1 not a sentence": a CLOSE of 2 words
 unfoldable pub malformed : Row
 malformed =
     record {
-      tables = small;
+      tables = fewRecords;
       request = message 0x04 0x7F 0xFF (0x02 ∷ 0x04 ∷ 0x00 ∷ 0x00 ∷ 0x00 ∷ 0x00 ∷ 0x00 ∷ []);
       said = refusal 0x04 2 0x01 0x00;
     }
@@ -262,7 +262,7 @@ noTree =
 
 -- "1/6 no open of that FID, UID and TID"
 unfoldable pub noOpen : Row
-noOpen = record { tables = small; request = message 0x04 0x7F 0xFF (closeBlock 5); said = refusal 0x04 1 0x06 0x00 }
+noOpen = record { tables = fewRecords; request = message 0x04 0x7F 0xFF (closeBlock 5); said = refusal 0x04 1 0x06 0x00 }
 
 -- "1/5 access": a read on access 1, a write on access 0
 unfoldable pub noRead : Row
@@ -274,17 +274,17 @@ noWrite = record { tables = opened 0 []; request = message 0x2F 0x7F 0xFF (write
 
 -- "2/65535 lock type bit other than 0x01 and 0x10"
 unfoldable pub lockType : Row
-lockType = record { tables = small; request = message 0x24 0x7F 0xFF (lockBlock 0xFF 0x02 0 1 10 range100); said = refusal 0x24 2 0xFF 0xFF }
+lockType = record { tables = fewRecords; request = message 0x24 0x7F 0xFF (lockBlock 0xFF 0x02 0 1 10 range100); said = refusal 0x24 2 0xFF 0xFF }
 
 -- "1/158 no such lock to release"
 unfoldable pub noSuchLock : Row
-noSuchLock = record { tables = small; request = message 0x24 0x7F 0xFF (lockBlock 0xFF 0 1 0 10 range100); said = refusal 0x24 1 0x9E 0x00 }
+noSuchLock = record { tables = fewRecords; request = message 0x24 0x7F 0xFF (lockBlock 0xFF 0 1 0 10 range100); said = refusal 0x24 1 0x9E 0x00 }
 
 -- "1/87 lock range passes 2^64": offset 2^64 - 1, length 2
 unfoldable pub passesTop : Row
 passesTop =
     record {
-      tables = small;
+      tables = fewRecords;
       request = message 0x24 0x7F 0xFF (lockBlock 0xFF 0x10 0 1 20 (0x1A ∷ 0x1B ∷ 0 ∷ 0 ∷ (replicate 8 0xFF ++ (0 ∷ 0 ∷ 0 ∷ 0 ∷ 2 ∷ 0 ∷ 0 ∷ 0 ∷ []))));
       said = refusal 0x24 1 0x57 0x00;
     }
@@ -308,13 +308,13 @@ lastRecord =
 
 -- "class 3, code 39, write would end past 4,096": 2 bytes at 4,095, which is 0x0FFF
 unfoldable pub noSpace : Row
-noSpace = record { tables = small; request = message 0x2F 0x7F 0xFF (writeBlock 0xFF 0xFF 0x0F); said = refusal 0x2F 3 0x27 0x00 }
+noSpace = record { tables = fewRecords; request = message 0x2F 0x7F 0xFF (writeBlock 0xFF 0xFF 0x0F); said = refusal 0x2F 3 0x27 0x00 }
 
 -- 2 bytes at 4,094 end at 4,096
 unfoldable pub lastBytes : Row
 lastBytes =
     record {
-      tables = small;
+      tables = fewRecords;
       request = message 0x2F 0x7F 0xFF (writeBlock 0xFF 0xFE 0x0F);
       said = success 47 0x2F (0x06 ∷ 0xFF ∷ 0x00 ∷ 0x00 ∷ 0x00 ∷ 0x02 ∷ 0x00 ∷ 0xFF ∷ 0xFF ∷ 0x00 ∷ 0x00 ∷ 0x00 ∷ 0x00 ∷ 0x00 ∷ 0x00 ∷ []);
     }
@@ -355,7 +355,7 @@ table =
 
 -- what the definitions give is what the document says, in every row
 pub replies : map (λ r. given (r .tables) (r .request)) table ≡ map (λ r. r .said) table
-unfolding table lockingReply readReply writeReply closeReply logoffReply disconnectReply exitReply noFlags otherFlags justFlags lockReadReply writeCloseReply lockRefusedReply unserved malformed noSession noTree noOpen noRead noWrite lockType noSuchLock passesTop conflict noRecord lastRecord noSpace lastBytes message small tablesWith session tree open-of sizes memory given taken take-message dropped startsSmb isReply answered served replied replyOf replyHeader put runChain onlyStatus blocks blocksFrom blocksWithin afterParse afterBlock before parse answer linkFits linkAt mayFollow shaped bare le16At le32At callerOf run afterGiven after linkTo perform areaOf dataOf status statusOf replyBlock refusedBlock replySize linkWords two withSession isSession withTree withOpen isOpen openAt found foundFrom sound withinRoom fileOk treeOk permits holdsOpen openOk soundRecords lockOk agree agreeAll soundLocks fileOf isTree contains numberOk numbered any all allTails overlaps passesEnd reply success closeBlock lock100 lockBlock range100 parseLocking lockingFits isLarge rangeSize doLocking servedType requestOf locking request releaseAll afterFind removeAt named afterReleases grantAll afterWalk afterGrants settle rangesAt rangeAt rangeFrom numberAt rangePasses askOf lockOf answers answersFor inWay bars owns lockingAfter lockingEnd withLockList stored readBlock parseRead readFits wideOffset doRead unlessBarred barring askBy readBytes contents sizeOf writeBlock parseWrite writeFits dataInside doWrite endsPast resized written withFiles parseClose parseLogoff parseEmpty remove sweepSessions sweepTrees sweepOpens sweepLocks sessionNamed treeNamed openNamed sessionStays treeStays openStays lockStays keep withSessions withTrees withOpens withLocks refusal opened lock
+unfolding table lockingReply readReply writeReply closeReply logoffReply disconnectReply exitReply noFlags otherFlags justFlags lockReadReply writeCloseReply lockRefusedReply unserved malformed noSession noTree noOpen noRead noWrite lockType noSuchLock passesTop conflict noRecord lastRecord noSpace lastBytes message fewRecords tablesWith session tree open-of sizes memory given taken take-message dropped startsSmb isReply answered served replied replyOf replyHeader put runChain onlyStatus blocks blocksFrom blocksWithin afterParse afterBlock before parse answer linkFits linkAt mayFollow shaped bare le16At le32At callerOf run afterGiven after linkTo perform areaOf dataOf status statusOf replyBlock refusedBlock replySize linkWords two withSession isSession withTree withOpen isOpen openAt found foundFrom sound withinRoom fileOk treeOk permits holdsOpen openOk soundRecords lockOk agree agreeAll soundLocks fileOf isTree contains numberOk numbered any all allTails overlaps passesEnd reply success closeBlock lock100 lockBlock range100 parseLocking lockingFits isLarge rangeSize doLocking servedType requestOf locking request releaseAll afterFind removeAt named afterReleases grantAll afterWalk afterGrants settle rangesAt rangeAt rangeFrom numberAt rangePasses askOf lockOf answers answersFor inWay bars owns lockingAfter lockingEnd withLockList stored readBlock parseRead readFits wideOffset doRead unlessBarred barring askBy readBytes contents sizeOf writeBlock parseWrite writeFits dataInside doWrite endsPast resized written withFiles parseClose parseLogoff parseEmpty remove sweepSessions sweepTrees sweepOpens sweepLocks sessionNamed treeNamed openNamed sessionStays treeStays openStays lockStays keep withSessions withTrees withOpens withLocks refusal opened lock
 replies = refl
 
 -- ---- what else the call leaves
@@ -374,13 +374,13 @@ unlockAndLock = message 0x24 0x7F 0xFF (lockBlock 0xFF 0 1 1 20 (range100 ++ (0x
 
 -- "Type bit 0x01 means shared"; "Locks: process from the range". "Unlocks go first", and stand first in the area. "After 0, bytes of the reply room past
 -- the reply's length are as they were." "Files: 16, numbered from 0, 4,096 bytes each": the bytes written are file 1's third and fourth.
-pub left : (taken small sharedLocks .tables .locks
+pub left : (taken fewRecords sharedLocks .tables .locks
     ≡ record { fid = 4; process = 0x5251; offset = 0x0000000100000002; length = 0x0000000300000004; shared = true }
     ∷ record { fid = 4; process = 0x6261; offset = 5; length = 6; shared = true }
     ∷ [])
     × (taken (opened 2 (lock 0x1B1A 100 10 ∷ [])) unlockAndLock .tables .locks ≡ lock 0x1B1A 105 1 ∷ [])
-    × (drop 39 (taken small (message 0x24 0x7F 0xFF (lock100 0xFF)) .room) ≡ replicate 12253 0xEE)
-    × (taken small (message 0x2F 0x7F 0xFF (writeBlock 0xFF 2 0)) .memory
+    × (drop 39 (taken fewRecords (message 0x24 0x7F 0xFF (lock100 0xFF)) .room) ≡ replicate 12253 0xEE)
+    × (taken fewRecords (message 0x2F 0x7F 0xFF (writeBlock 0xFF 2 0)) .memory
     ≡ replicate 4096 0 ++ (0xA0 ∷ 0xA1 ∷ 0xBB ∷ 0xCC ∷ 0xA4 ∷ 0xA5 ∷ replicate 61434 0))
-unfolding sharedLocks unlockAndLock opened lock message small tablesWith session tree open-of sizes memory given taken take-message dropped startsSmb isReply answered served replied replyOf replyHeader put runChain onlyStatus blocks blocksFrom blocksWithin afterParse afterBlock before parse answer linkFits linkAt mayFollow shaped bare le16At le32At callerOf run afterGiven after linkTo perform areaOf dataOf status statusOf replyBlock refusedBlock replySize linkWords two withSession isSession withTree withOpen isOpen openAt found foundFrom sound withinRoom fileOk treeOk permits holdsOpen openOk soundRecords lockOk agree agreeAll soundLocks fileOf isTree contains numberOk numbered any all allTails overlaps passesEnd lock100 lockBlock range100 parseLocking lockingFits isLarge rangeSize doLocking servedType requestOf locking request releaseAll afterFind removeAt named afterReleases grantAll afterWalk afterGrants settle rangesAt rangeAt rangeFrom numberAt rangePasses askOf lockOf answers answersFor inWay bars owns lockingAfter lockingEnd withLockList stored writeBlock parseWrite writeFits dataInside wideOffset doWrite unlessBarred barring askBy endsPast resized written sizeOf withFiles
+unfolding sharedLocks unlockAndLock opened lock message fewRecords tablesWith session tree open-of sizes memory given taken take-message dropped startsSmb isReply answered served replied replyOf replyHeader put runChain onlyStatus blocks blocksFrom blocksWithin afterParse afterBlock before parse answer linkFits linkAt mayFollow shaped bare le16At le32At callerOf run afterGiven after linkTo perform areaOf dataOf status statusOf replyBlock refusedBlock replySize linkWords two withSession isSession withTree withOpen isOpen openAt found foundFrom sound withinRoom fileOk treeOk permits holdsOpen openOk soundRecords lockOk agree agreeAll soundLocks fileOf isTree contains numberOk numbered any all allTails overlaps passesEnd lock100 lockBlock range100 parseLocking lockingFits isLarge rangeSize doLocking servedType requestOf locking request releaseAll afterFind removeAt named afterReleases grantAll afterWalk afterGrants settle rangesAt rangeAt rangeFrom numberAt rangePasses askOf lockOf answers answersFor inWay bars owns lockingAfter lockingEnd withLockList stored writeBlock parseWrite writeFits dataInside wideOffset doWrite unlessBarred barring askBy endsPast resized written sizeOf withFiles
 left = (refl, refl, refl, refl)

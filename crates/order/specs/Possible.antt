@@ -1,5 +1,6 @@
--- Every premise of the page is possible: a plant's tables, a message fit to be answered, a chain whose second command is refused, a lock that is refused and one
--- that is not, two messages that differ in a free byte and in length. Each is an instance that the checker computes. Assumes nothing.
+-- The premises of the page are possible: a plant's tables, a message fit to be answered, a chain whose second command is refused, a lock that is refused and one
+-- that is not, two messages that differ in a free byte and in length. Each is an instance that the checker computes. (Each command alone in its message, carried out and
+-- refused: literals/specs/Replies.antt; host calls that are done: literals/specs/Codes.antt.) Assumes nothing.
 use mathlib.Core.Path.{_≡_, refl, sym, ap, _∙_}
 use Prim.Native.Nat.{ℕ, _+_, _-_, _≤_, _<_}
 use native.Mathlib.Omega.{arith}

@@ -21,25 +21,25 @@ use Rattle.message.specs.declared.refusal.Refusal.the-variants.{NoSession, NoTr
 use Rattle.message.specs.Command.{Given, refused, isSession, withSession, withTree, isOpen, openAt, withOpen}
 use Rattle.message.specs.Given.{Gives}
 use Rattle.invariants.specs.Sound.{Good, open-file}
-use Rattle.requests.specs.declared.who.Reached.{Reached}
-use Rattle.requests.specs.declared.who.Reached.the-variants.{Open as Named, Refused}
+use Rattle.requests.specs.declared.who.NamedOpen.{NamedOpen}
+use Rattle.requests.specs.declared.who.NamedOpen.the-variants.{Open as Named, Refused}
 use Rattle.requests.specs.Leaves.{refusal, gives-refused}
 
-unfoldable pub reachedAt : Found → List Open → Reached
+unfoldable pub reachedAt : Found → List Open → NamedOpen
 reachedAt (At k) opens = Named (getD opens k noOpen)
 reachedAt Nothing opens = Refused NoOpen
 
-unfoldable pub reached : Caller → Tables → ℕ → Reached
+unfoldable pub reached : Caller → Tables → ℕ → NamedOpen
 reached c t fid =
     cond (any (isSession c) (sessionsOf t))
     (cond (any (isTree (c .tid) (c .uid)) (treesOf t)) (reachedAt (found (isOpen c fid) (opensOf t)) (opensOf t)) (Refused NoTree))
     (Refused NoSession)
 
-unfoldable pub onReached : Reached → (Open → Given) → Given
+unfoldable pub onReached : NamedOpen → (Open → Given) → Given
 onReached (Named o) next = next o
 onReached (Refused why) next = refused why
 
-who-case : (b d : Bool) (x : Given) (y : Reached) (next : Open → Given) → x ≡ onReached y next
+who-case : (b d : Bool) (x : Given) (y : NamedOpen) (next : Open → Given) → x ≡ onReached y next
     → cond b (cond d x (refused NoTree)) (refused NoSession) ≡ onReached (cond b (cond d y (Refused NoTree)) (Refused NoSession)) next
 unfolding onReached
 who-case true true x y next e = e
@@ -63,7 +63,7 @@ unfolding reachedAt
 at-file (At k) opens o h e = let same : getD opens k noOpen ≡ o = cc in rw same at (h k refl)
 at-file Nothing opens o h e = let never : _≡_ {A = ℕ} 0 1 = cc in absurd (omega arith)
 
-who-file : (b d : Bool) (y : Reached) (o : Open) → (y ≡ Named o → o .file ≤ 15) → cond b (cond d y (Refused NoTree)) (Refused NoSession) ≡ Named o → o .file ≤ 15
+who-file : (b d : Bool) (y : NamedOpen) (o : Open) → (y ≡ Named o → o .file ≤ 15) → cond b (cond d y (Refused NoTree)) (Refused NoSession) ≡ Named o → o .file ≤ 15
 who-file true true y o h e = h e
 who-file true false y o h e = let never : _≡_ {A = ℕ} 0 1 = cc in absurd (omega arith)
 who-file false d y o h e = let never : _≡_ {A = ℕ} 0 1 = cc in absurd (omega arith)

@@ -1,7 +1,7 @@
 // CLOSE, LOGOFF, TREE_DISCONNECT and PROCESS_EXIT: what is named goes, "each with what hangs on them". "LOGOFF and
 // PROCESS_EXIT stop after 2/91, TREE_DISCONNECT after 2/5, CLOSE after 1/6." Their blocks have no bytes.
 
-use crate::who::Reached;
+use crate::who::NamedOpen;
 use crate::who::reach_open;
 use crate::who::session_named;
 use crate::who::tree_named;
@@ -29,11 +29,11 @@ pub(crate) fn do_close(c: Caller, words: &mut [u64], fid: u16) -> Answer
 {
     let at = reach_open(c, words, fid);
     match at {
-        Reached::Open(_) => {
+        NamedOpen::Open(_) => {
             remove_named(words, Gone::Open(fid));
             Answer::Plain
         }
-        Reached::Refused(why) => Answer::Refused(why),
+        NamedOpen::Refused(why) => Answer::Refused(why),
     }
 }
 

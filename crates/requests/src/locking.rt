@@ -1,6 +1,6 @@
 // LOCKING: 2/65535, then the request as a whole, which is `locks::locking`'s.
 
-use crate::who::Reached;
+use crate::who::NamedOpen;
 use crate::who::reach_open;
 use chain::block::LockingFields;
 use locks::locking::lock_request;
@@ -88,7 +88,7 @@ pub(crate) fn do_locking(c: Caller, words: &mut [u64], f: LockingFields, area: &
 {
     let at = reach_open(c, words, f.fid);
     match at {
-        Reached::Open(_) => lock_open(words, f, area),
-        Reached::Refused(why) => Answer::Refused(why),
+        NamedOpen::Open(_) => lock_open(words, f, area),
+        NamedOpen::Refused(why) => Answer::Refused(why),
     }
 }

@@ -3,7 +3,7 @@
 use crate::barred::ask_of;
 use crate::barred::file_size;
 use crate::barred::first_bar;
-use crate::who::Reached;
+use crate::who::NamedOpen;
 use crate::who::reach_open;
 use chain::block::ReadFields;
 use lists::Found;
@@ -67,7 +67,7 @@ pub(crate) fn do_read(c: Caller, words: &[u64], f: ReadFields) -> Answer
 {
     let at = reach_open(c, words, f.fid);
     match at {
-        Reached::Open(o) => read_open(c, words, f, o),
-        Reached::Refused(why) => Answer::Refused(why),
+        NamedOpen::Open(o) => read_open(c, words, f, o),
+        NamedOpen::Refused(why) => Answer::Refused(why),
     }
 }

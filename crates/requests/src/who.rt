@@ -19,7 +19,7 @@ ghost use Rattle.tables.specs.Words.{tablesOf};
 ghost use Rattle.requests.specs.Reach.{reached, reachedAt};
 
 // The open that a command names, or why it names none.
-pub(crate) enum Reached {
+pub(crate) enum NamedOpen {
     Open(Open),
     Refused(Refusal),
 }
@@ -90,7 +90,7 @@ fn open_is(c: Caller, fid: u16, o: Open) -> bool
 }
 
 // The first such open, or 1/6.
-fn find_open(c: Caller, fid: u16, words: &[u64]) -> Reached
+fn find_open(c: Caller, fid: u16, words: &[u64]) -> NamedOpen
     requires { ⌜ length (now words) ≡ 385 ⌝ }
     ensures { λ r. ⌜ r ≡ reachedAt (found (isOpen c fid) (opensIn (now (words .entry)))) (opensIn (now (words .entry))) ⌝ }
 {
@@ -99,23 +99,23 @@ fn find_open(c: Caller, fid: u16, words: &[u64]) -> Reached
     while i < count {
         let o = open_at(words, i);
         if open_is(c, fid, o) {
-            return Reached::Open(o);
+            return NamedOpen::Open(o);
         }
         i += 1;
     }
-    Reached::Refused(Refusal::NoOpen)
+    NamedOpen::Refused(Refusal::NoOpen)
 }
 
 // "2/91 no session of that UID on this connection; 2/5 no tree of that TID and UID; 1/6 no open of that FID, UID and TID".
-pub(crate) fn reach_open(c: Caller, words: &[u64], fid: u16) -> Reached
+pub(crate) fn reach_open(c: Caller, words: &[u64], fid: u16) -> NamedOpen
     requires { ⌜ length (now words) ≡ 1172 ⌝ }
     ensures { λ r. ⌜ r ≡ reached c (tablesOf (now (words .entry))) fid ⌝ }
 {
     if !session_named(c, &words[0..33]) {
-        return Reached::Refused(Refusal::NoSession);
+        return NamedOpen::Refused(Refusal::NoSession);
     }
     if !tree_named(c, &words[33..130]) {
-        return Reached::Refused(Refusal::NoTree);
+        return NamedOpen::Refused(Refusal::NoTree);
     }
     find_open(c, fid, &words[130..515])
 }

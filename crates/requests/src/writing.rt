@@ -3,7 +3,7 @@
 use crate::barred::ask_of;
 use crate::barred::file_size;
 use crate::barred::first_bar;
-use crate::who::Reached;
+use crate::who::NamedOpen;
 use crate::who::reach_open;
 use chain::block::WriteFields;
 use lists::Found;
@@ -162,7 +162,7 @@ pub(crate) fn do_write(
 {
     let at = reach_open(c, words, f.fid);
     match at {
-        Reached::Open(o) => write_open(c, words, f, o, source, memory),
-        Reached::Refused(why) => Answer::Refused(why),
+        NamedOpen::Open(o) => write_open(c, words, f, o, source, memory),
+        NamedOpen::Refused(why) => Answer::Refused(why),
     }
 }

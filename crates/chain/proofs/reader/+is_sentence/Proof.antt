@@ -89,7 +89,7 @@ is-sentence-returns-2 : (t : ℕ) → is-sentence-lts.Need-returns-2 (
 ) (is-sentence-at t) is-sentence.Post
 is-sentence-returns-2 t c =
     let args = c .before .before .before .before .before .before .before .args in
-    sym (sentence-end (args .s .now) (args .command) (args .at) (sym (c .before .before .before .before .before .judge-at .ensures) ∙ c .before .before .before .next .given .1 ∙ ap (λ (n : Next). judge.Stands n) (c .enum-told2 .given .1)))
+    sym (sentence-end (args .s .now) (args .command) (args .at) (sym (c .before .before .before .before .before .judge-at .ensures) ∙ c .before .before .before .next .given .1 ∙ ap (λ (n : Next). judge.Fits n) (c .enum-told2 .given .1)))
 
 abbrev At-follower : ℕ → Type 0
 At-follower t = is-sentence-lts.After-known-told2 (
@@ -101,8 +101,8 @@ At-follower t = is-sentence-lts.After-known-told2 (
 
 -- what the block that was judged is followed by
 followed : (t : ℕ) (c : At-follower t)
-    → judged (parse (c .before .before .before .before .before .before .before .before .args .s .now) (c .before .before .before .before .before .before .before .before .args .command) (c .before .before .before .before .before .before .before .before .args .at)) ≡ judge.Stands (Follow (c .before .next2 .given .0 .0) (c .before .next2 .given .0 .1 .0))
-followed t c = sym (c .before .before .before .before .before .before .judge-at .ensures) ∙ c .before .before .before .before .next .given .1 ∙ ap (λ (n : Next). judge.Stands n) (c .before .next2 .given .1)
+    → judged (parse (c .before .before .before .before .before .before .before .before .args .s .now) (c .before .before .before .before .before .before .before .before .args .command) (c .before .before .before .before .before .before .before .before .args .at)) ≡ judge.Fits (Follow (c .before .next2 .given .0 .0) (c .before .next2 .given .0 .1 .0))
+followed t c = sym (c .before .before .before .before .before .before .judge-at .ensures) ∙ c .before .before .before .before .next .given .1 ∙ ap (λ (n : Next). judge.Fits n) (c .before .next2 .given .1)
 
 is-sentence-is-sentence-requires : (t : ℕ) → is-sentence-lts.Need-is-sentence-requires (
   judge-at-reads.Asked,

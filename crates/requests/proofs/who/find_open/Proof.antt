@@ -16,7 +16,7 @@ use Rattle.tables.specs.Words.{word, openOf, openArray}
 use Rattle.tables.specs.Written.{opensIn}
 use Rattle.tables.specs.ArrayLaws.{length-array}
 use Rattle.message.specs.Command.{isOpen}
-use Rattle.requests.specs.declared.who.Reached.the-variants.{Open as Named}
+use Rattle.requests.specs.declared.who.NamedOpen.the-variants.{Open as Named}
 use Rattle.requests.specs.Reach.{reachedAt}
 use Rattle.requests.proofs.who.find_open.Statement.{statement}
 use Rattle.requests.proofs.who.find_open.Tie as tie
