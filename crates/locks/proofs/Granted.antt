@@ -16,7 +16,7 @@ use Rattle.records.specs.declared.Lock.{Lock}
 use Rattle.locks.specs.Range.{overlaps, passesEnd}
 use Rattle.locks.specs.Answer.{bars, inWay, answersFor, answers}
 use Rattle.locks.specs.Wire.{rangeAt, rangesAt, length-ranges, ranges-more}
-use Rattle.locks.specs.Request.{rangePasses, askOf, lockOf, Grants, granted, blocked, afterWalk, grantAll}
+use Rattle.locks.specs.Request.{rangePasses, askOf, lockOf, holderAt, Grants, granted, blocked, afterWalk, grantAll}
 use Rattle.locks.specs.Blocked.{rangeMeets, blockedAt, conflictOf}
 use Rattle.locks.specs.declared.types.Ask.{Ask}
 use Rattle.locks.specs.declared.types.LockRange.{LockRange}
@@ -27,18 +27,12 @@ pub range-passes : {r w : LockRange} {t u : Bool} → r ≡ w → t ≡ passesEn
 unfolding rangePasses
 range-passes e f g = rw (← e, ← f) g
 
--- a place in the way says which
-pub blocked-at : (g : Grants) (k : ℕ) → At k ≡ blockedAt g → g ≡ blocked k
-unfolding blockedAt
-blocked-at (granted l) k e = let no : _≡_ {A = ℕ} 0 1 = cc in absurd (omega arith)
-blocked-at (blocked j) k e = cc
-
 -- a walk that finds nothing leaves it to the other ranges
-after-granted : (f : Found) (g : Grants) (l : List Lock) → (Nothing ≡ blockedAt g → g ≡ granted l) → Nothing ≡ blockedAt (afterWalk f g)
-    → afterWalk f g ≡ granted l
+after-granted : (f : Found) (list : List Lock) (g : Grants) (l : List Lock) → (Nothing ≡ blockedAt g → g ≡ granted l) → Nothing ≡ blockedAt (afterWalk f list g)
+    → afterWalk f list g ≡ granted l
 unfolding blockedAt afterWalk
-after-granted (At k) g l h e = let no : _≡_ {A = ℕ} 0 1 = cc in absurd (omega arith)
-after-granted Nothing g l h e = h e
+after-granted (At k) list g l h e = let no : _≡_ {A = ℕ} 0 1 = cc in absurd (omega arith)
+after-granted Nothing list g l h e = h e
 
 -- the lock of one range more
 pub map-snoc : (f : LockRange → Lock) (rs : List LockRange) (r : LockRange) → map f (rs ++ (r ∷ [])) ≡ map f rs ++ (f r ∷ [])
@@ -128,7 +122,7 @@ module _ (file : ℕ → ℕ) (fid : ℕ) (shared : Bool) where
   unfolding grantAll
   granted-all [] list e = ap granted (sym (append-nil list))
   granted-all (r ∷ rs) list e =
-      after-granted (found (answers file (askOf fid (Grant shared) r)) list) (grantAll file fid shared rs (list ++ (lockOf fid shared r ∷ [])))
+      after-granted (found (answers file (askOf fid (Grant shared) r)) list) list (grantAll file fid shared rs (list ++ (lockOf fid shared r ∷ [])))
       (list ++ (lockOf fid shared r ∷ map (lockOf fid shared) rs))
       (λ h. granted-all rs (list ++ (lockOf fid shared r ∷ [])) h ∙ ap granted (append-assoc list (lockOf fid shared r ∷ []) (map (lockOf fid shared) rs)))
       e
@@ -141,7 +135,7 @@ module _ (file : ℕ → ℕ) (fid : ℕ) (shared : Bool) where
     module _ (k : ℕ) where
       -- a lock in the way of range k blocks the request
       pub grant-stop : (rs : List LockRange) (place : ℕ) → At place ≡ conflictOf file fid shared large s from k list
-          → grantAll file fid shared (rangeAt large s k ∷ rs) (along fid shared large s from list k) ≡ blocked place
+          → grantAll file fid shared (rangeAt large s k ∷ rs) (along fid shared large s from list k) ≡ blocked (holderAt (along fid shared large s from list k) place)
       unfolding grantAll afterWalk conflictOf
       grant-stop rs place e = rw (← e)
 

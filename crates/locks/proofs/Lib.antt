@@ -4,6 +4,7 @@ pub mod Purposes
 pub mod Removed
 pub mod Unlocked
 pub mod Granted
+pub mod Holding
 pub mod Appended
 pub mod Copied
 pub mod Settling

@@ -20,16 +20,18 @@ use Rattle.tables.specs.Words.{word, lockArray}
 use Rattle.tables.specs.Written.{locksIn}
 use Rattle.tables.specs.ChangeLaws.{lockArray-count, count-set}
 use Rattle.locks.specs.Wire.{rangeSize, rangesAt}
-use Rattle.locks.specs.Request.{lockOf, releaseAll, Grants, grantAll, granted, blocked, afterGrants, rangePasses, afterReleases, Result, done, refused, request, settle, locking}
+use Rattle.locks.specs.Request.{lockOf, releaseAll, holderAt, Grants, grantAll, granted, blocked, afterGrants, rangePasses, afterReleases, Result, done, refused, request, settle, locking}
 use Rattle.locks.specs.Blocked.{blockedAt}
 use Rattle.locks.specs.Changed.{Unlocks, isDone, Tried, Settles}
 use Rattle.locks.specs.declared.types.LockRange.{LockRange}
 use Rattle.locks.specs.declared.types.Request.{Request}
+use Rattle.locks.specs.declared.types.Holder.{Holder}
 use Rattle.locks.specs.declared.types.Outcome.{Outcome}
 use Rattle.locks.specs.declared.types.Outcome.the-variants.{Done, Malformed, NoSuchLock, PassesEnd, Conflict, NoRecord}
 use Rattle.locks.specs.declared.types.Locking.{Locking}
 use Rattle.locks.proofs.Lent.{held-front}
-use Rattle.locks.proofs.Granted.{blocked-at, granted-all}
+use Rattle.locks.proofs.Granted.{granted-all}
+use Rattle.locks.proofs.Holding.{blocked-at}
 
 -- ---- what comes of the locks, after the unlocks
 
@@ -41,10 +43,10 @@ module _ (file : ℕ → ℕ) (fid : ℕ) (shared : Bool) (rs : List LockRange) 
 
   module _ (within : false ≡ any rangePasses rs) where
     -- a lock in the way
-    pub locks-conflict : {place : ℕ} → At place ≡ blockedAt (grantAll file fid shared rs list)
-        → afterReleases file fid shared rs (some list) ≡ refused (Conflict place)
+    pub locks-conflict : {place : ℕ} {h : Holder} → At place ≡ blockedAt (grantAll file fid shared rs list)
+        → h ≡ holderAt (list ++ map (lockOf fid shared) rs) place → afterReleases file fid shared rs (some list) ≡ refused (Conflict h)
     unfolding afterReleases afterGrants
-    locks-conflict {place} g = rw (← within, blocked-at (grantAll file fid shared rs list) place g)
+    locks-conflict {place} {h} g e = rw (← within, blocked-at file fid shared rs list place g, ← e)
 
     module _ (free : Nothing ≡ blockedAt (grantAll file fid shared rs list)) (held wanted : ℕ) (h : held ≡ length list) (k : length rs ≡ wanted) where
       -- the list with all locks granted

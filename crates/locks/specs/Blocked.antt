@@ -26,5 +26,5 @@ rangeMeets offset length r = overlaps (r .offset) (r .length) offset length
 
 -- the place of the lock in the way, if there is one
 unfoldable pub blockedAt : Grants → Found
-blockedAt (blocked k) = At k
+blockedAt (blocked h) = At (h .place)
 blockedAt (granted list) = Nothing

@@ -28,7 +28,7 @@ isDone Done = true
 isDone Malformed = false
 isDone NoSuchLock = false
 isDone PassesEnd = false
-isDone (Conflict place) = false
+isDone (Conflict h) = false
 isDone NoRecord = false
 
 -- A request on words that are thrown away if it is refused: if it is done they are as the definition has them.

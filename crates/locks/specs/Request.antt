@@ -4,7 +4,7 @@ use Prim.Native.Nat.{ℕ, suc, _+_, _*_}
 use mathlib.Core.Bool.{Bool, cond, not}
 use mathlib.Core.List.{List, [], _∷_, _++_}
 use mathlib.Core.Option.{Option, none, some}
-use lib.ListN.{length, take, drop}
+use lib.ListN.{length, take, drop, getD}
 use lib.Dec.{leb, eqb}
 use Rattle.lists.specs.Walk.{any, found}
 use Rattle.lists.specs.Stored.{stored}
@@ -20,6 +20,7 @@ use Rattle.locks.specs.declared.types.Ask.{Ask}
 use Rattle.locks.specs.declared.types.Purpose.{Purpose}
 use Rattle.locks.specs.declared.types.Purpose.the-variants.{Grant, Release}
 use Rattle.locks.specs.declared.types.Request.{Request}
+use Rattle.locks.specs.declared.types.Holder.{Holder}
 use Rattle.locks.specs.declared.types.Outcome.{Outcome}
 use Rattle.locks.specs.declared.types.Outcome.the-variants.{Done, Malformed, NoSuchLock, PassesEnd, Conflict, NoRecord}
 use Rattle.locks.specs.declared.types.Locking.{Locking}
@@ -45,20 +46,25 @@ unfoldable pub releaseAll : (ℕ → ℕ) → ℕ → List LockRange → List Lo
 releaseAll file fid [] list = some list
 releaseAll file fid (r ∷ rs) list = afterFind (found (answers file (askOf fid Release r)) list) list (λ left. releaseAll file fid rs left)
 
--- the list after all grants, or the place of the lock that stands in the way of one
+-- document 02, CR 2: "the place of the first conflicting lock in the list as it then stands", with its record
+unfoldable pub holderAt : List Lock → ℕ → Holder
+holderAt list k = record { lock = getD list k noLock; place = k }
+
+-- the list after all grants, or who holds the lock that stands in the way of one
 pub data Grants : Type 0 where
   granted : List Lock → Grants
-  blocked : ℕ → Grants
+  blocked : Holder → Grants
 
-unfoldable pub afterWalk : Found → Grants → Grants
-afterWalk (At k) next = blocked k
-afterWalk Nothing next = next
+unfoldable pub afterWalk : Found → List Lock → Grants → Grants
+afterWalk (At k) list next = blocked (holderAt list k)
+afterWalk Nothing list next = next
 
--- "Then locks in order, each against the list as it stands, the asker's own locks included, however long it gets"
+-- "Then locks in order, each against the list as it stands, the asker's own locks included, however long it gets": "A lock granted
+-- earlier in the same request may be the answer, though it is undone."
 unfoldable pub grantAll : (ℕ → ℕ) → ℕ → Bool → List LockRange → List Lock → Grants
 grantAll file fid shared [] list = granted list
 grantAll file fid shared (r ∷ rs) list =
-    afterWalk (found (answers file (askOf fid (Grant shared) r)) list)
+    afterWalk (found (answers file (askOf fid (Grant shared) r)) list) list
     (grantAll file fid shared rs (list ++ (lockOf fid shared r ∷ [])))
 
 -- a request done, with the list it leaves, or refused
@@ -69,7 +75,7 @@ pub data Result : Type 0 where
 -- "1/8 exactly if over 128 would then be held"
 unfoldable pub afterGrants : Grants → Result
 afterGrants (granted list) = cond (leb (length list) 128) (done list) (refused NoRecord)
-afterGrants (blocked k) = refused (Conflict k)
+afterGrants (blocked h) = refused (Conflict h)
 
 unfoldable pub rangePasses : LockRange → Bool
 rangePasses r = passesEnd (r .offset) (r .length)

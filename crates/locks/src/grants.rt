@@ -6,11 +6,13 @@ use crate::grant::ask_of;
 use crate::grant::lock_of;
 use crate::range::overlap;
 use crate::types::Ask;
+use crate::types::Holder;
 use crate::types::Purpose;
 use crate::types::Request;
 use crate::walk::first_answer;
 use crate::wire_form::range_at;
 use lists::Found;
+use tables::lock::lock_at;
 use tables::lock::put_lock;
 ghost use mathlib.Core.Path.{_≡_};
 ghost use mathlib.Core.Bool.{true};
@@ -24,7 +26,7 @@ ghost use Rattle.tables.specs.Words.{word, lockArray, lockLimits, recordsFit, t
 ghost use Rattle.tables.specs.Written.{locksIn};
 ghost use Rattle.locks.specs.Answer.{fileIn};
 ghost use Rattle.locks.specs.Wire.{rangesAt};
-ghost use Rattle.locks.specs.Request.{lockOf, grantAll};
+ghost use Rattle.locks.specs.Request.{lockOf, holderAt, grantAll};
 ghost use Rattle.locks.specs.Blocked.{rangeMeets, blockedAt, conflictOf};
 
 // The first of the ranges from..to that overlaps what is asked.
@@ -96,6 +98,26 @@ pub(crate) fn first_conflict(
         k += 1;
     }
     Found::Nothing
+}
+
+// Who holds the lock at a place: a listed one, or, behind those, the lock of one of the request's own
+// ranges.
+pub(crate) fn holder_at(words: &[u64], held: usize, q: Request, area: &[u8], place: usize) -> Holder
+    requires { ⌜ (length (now words) ≡ 641) × (held ≡ length (locksIn (now words))) ⌝ }
+    requires { ⌜ place < held + q .locks ⌝ }
+    ensures { λ r. ⌜ r ≡ holderAt (locksIn (now (words .entry)) ++ map (lockOf (q .fid) (q .shared)) (rangesAt (q .large) (now (area .entry)) (q .unlocks) (q .locks))) place ⌝ }
+{
+    if place < held {
+        return Holder {
+            lock: lock_at(words, place),
+            place,
+        };
+    }
+    let k = q.unlocks as usize + (place - held);
+    Holder {
+        lock: lock_of(q.fid, q.shared, range_at(area, q.large, k)),
+        place,
+    }
 }
 
 // The request's locks, written behind the first `held` records, and the count.

@@ -5,6 +5,7 @@ use crate::copy::copy_words;
 use crate::grant::some_passes;
 use crate::grants::append_locks;
 use crate::grants::first_conflict;
+use crate::grants::holder_at;
 use crate::types::Outcome;
 use crate::types::Request;
 use crate::unlock::release_all;
@@ -60,7 +61,7 @@ fn grant_all(files: &[u8; 65], words: &mut [u64], q: Request, area: &[u8]) -> Ou
     let held = held_in(words);
     let first = first_conflict(files, words, held, q, area);
     if let Found::At(place) = first {
-        return Outcome::Conflict(place);
+        return Outcome::Conflict(holder_at(words, held, q, area, place));
     }
     if LOCKS - held < wanted {
         return Outcome::NoRecord;

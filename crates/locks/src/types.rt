@@ -37,14 +37,20 @@ pub struct Request {
     pub locks: u16,
 }
 
-// How a LOCKING request ends. A conflict names the place of the first lock in its way, in the list as
-// it then stands.
+// The first lock in the way of what is asked, and its place, from 0, in the list as it then stands (document 02,
+// CR 2).
+pub struct Holder {
+    pub lock: Lock,
+    pub place: usize,
+}
+
+// How a LOCKING request ends. A conflict names the holder.
 pub enum Outcome {
     Done,
     Malformed,
     NoSuchLock,
     PassesEnd,
-    Conflict(usize),
+    Conflict(Holder),
     NoRecord,
 }
 

@@ -16,7 +16,7 @@ use Rattle.records.specs.declared.Tables.{Tables}
 use Rattle.records.specs.Empty.{noOpen}
 use Rattle.records.specs.Held.{sessionsOf, treesOf, opensOf, locksOf}
 use Rattle.locks.specs.Answer.{answers}
-use Rattle.locks.specs.Request.{locking}
+use Rattle.locks.specs.Request.{holderAt, locking}
 use Rattle.locks.specs.declared.types.Ask.{Ask}
 use Rattle.locks.specs.declared.types.Request.{Request}
 use Rattle.locks.specs.declared.types.Locking.{Locking}
@@ -111,7 +111,7 @@ lockingEnd Done t memory l = done (withLockList t (l .locks) (l .count)) memory 
 lockingEnd BadRanges t memory l = refused NotSentence
 lockingEnd NoLock t memory l = refused NoSuchLock
 lockingEnd PastEnd t memory l = refused PassesEnd
-lockingEnd (InWay place) t memory l = refused (Conflict place)
+lockingEnd (InWay h) t memory l = refused (Conflict h)
 lockingEnd NoRoom t memory l = refused NoRecord
 
 unfoldable pub lockingAfter : Tables → List ℕ → Locking → Given
@@ -131,9 +131,10 @@ doLocking c t memory f area =
 unfoldable pub askBy : Caller → ℕ → ℕ → ℕ → Purpose → Ask
 askBy c fid offset count purpose = record { fid = fid; process = c .process; offset = offset; length = count; purpose = purpose }
 
-unfoldable pub unlessBarred : Found → Given → Given
-unlessBarred (At place) next = refused (Conflict place)
-unlessBarred Nothing next = next
+-- document 02, CR 2: "Locks, reads and writes pass it up"
+unfoldable pub unlessBarred : Tables → Found → Given → Given
+unlessBarred t (At place) next = refused (Conflict (holderAt (locksOf t) place))
+unlessBarred t Nothing next = next
 
 unfoldable pub barring : Tables → Ask → Found
 barring t q = found (answers (fileOf (opensOf t)) q) (locksOf t)
@@ -144,7 +145,7 @@ doRead c t memory f =
     withOpen c t (f .fid)
     (λ o.
     cond (eqb (o .access) 1) (refused NoAccess)
-    (unlessBarred (barring t (askBy c (f .fid) (f .offset) (f .max) Reading))
+    (unlessBarred t (barring t (askBy c (f .fid) (f .offset) (f .max) Reading))
     (done t memory (read (readBytes t memory (o .file) (f .offset) (f .max))))))
 
 -- "or a write on access 0"; "write would end past 4,096"; "Length 0 writes nothing, changes no size and is done at any offset"
@@ -156,7 +157,7 @@ doWrite c t memory f bytes =
     withOpen c t (f .fid)
     (λ o.
     cond (eqb (o .access) 0) (refused NoAccess)
-    (unlessBarred (barring t (askBy c (f .fid) (f .offset) (f .count) Writing))
+    (unlessBarred t (barring t (askBy c (f .fid) (f .offset) (f .count) Writing))
     (cond (endsPast (f .offset) (f .count)) (refused NoSpace)
     (done (resized t (o .file) (f .offset) (f .count)) (written t memory (o .file) (f .offset) bytes) (wrote (f .count))))))
 

@@ -14,8 +14,10 @@ use Rattle.chain.specs.Chain.{blocks}
 use Rattle.chain.specs.declared.block.Block.{Block}
 use Rattle.message.specs.Caller.{callerOf}
 use Rattle.message.specs.declared.caller.Caller.{Caller}
-use Rattle.message.specs.Refusal.{status, statusOf}
+use Rattle.message.specs.Refusal.{status, statusOf, holderOf}
 use Rattle.message.specs.declared.refusal.Status.{Status}
+use Rattle.message.specs.declared.refusal.HeldBy.{HeldBy}
+use Rattle.message.specs.declared.refusal.HeldBy.the-variants.{Nobody}
 use Rattle.message.specs.Command.{Given, refused, done, perform}
 use Rattle.message.specs.Reply.{replyHeader, replyBlock, refusedBlock, replySize}
 use Rattle.message.specs.declared.link.Link.{Link}
@@ -29,16 +31,17 @@ areaOf s b = take (byteCount s (b .at)) (drop (byteArea s (b .at)) s)
 unfoldable pub dataOf : List ℕ → Block → List ℕ
 dataOf s b = take (dataLength s (b .at)) (drop (dataOffset s (b .at)) s)
 
--- what a chain leaves: its status, the tables, the file memory, and the reply blocks
+-- what a chain leaves: its status, the holder of the lock that its refused command met, the tables, the file memory, and the reply blocks
 pub record Ran : Type 0 where
   pub status : Status
+  pub holder : HeldBy
   pub tables : Tables
   pub memory : List ℕ
   pub blocks : List ℕ
 
 -- a block's bytes before those of the blocks after it
 unfoldable pub after : List ℕ → Ran → Ran
-after bytes r = record { status = r .status; tables = r .tables; memory = r .memory; blocks = bytes ++ r .blocks }
+after bytes r = record { status = r .status; holder = r .holder; tables = r .tables; memory = r .memory; blocks = bytes ++ r .blocks }
 
 -- "AndX names the next block written": the block after this one, where there is one
 unfoldable pub linkTo : List Block → ℕ → Link
@@ -48,12 +51,12 @@ linkTo (b ∷ bs) place = next (b .command) place
 -- "command by command": "Commands before it in the chain stand; those after it aren't begun." Blocks stand end to end, the
 -- first of these at `place`.
 unfoldable pub afterGiven : Given → List Block → ℕ → Tables → List ℕ → (ℕ → Tables → List ℕ → Ran) → Ran
-afterGiven (refused why) bs place t memory rest = record { status = statusOf why; tables = t; memory = memory; blocks = refusedBlock }
+afterGiven (refused why) bs place t memory rest = record { status = statusOf why; holder = holderOf why; tables = t; memory = memory; blocks = refusedBlock }
 afterGiven (done t′ memory′ said) bs place t memory rest =
     after (replyBlock said place (linkTo bs (place + replySize said))) (rest (place + replySize said) t′ memory′)
 
 unfoldable pub run : Caller → List ℕ → List Block → ℕ → Tables → List ℕ → Ran
-run c s [] place t memory = record { status = status 0 0; tables = t; memory = memory; blocks = [] }
+run c s [] place t memory = record { status = status 0 0; holder = Nobody; tables = t; memory = memory; blocks = [] }
 run c s (b ∷ bs) place t memory =
     afterGiven (perform c t memory (b .body) (areaOf s b) (dataOf s b)) bs place t memory (λ p t′ m. run c s bs p t′ m)
 
@@ -63,7 +66,7 @@ served command =
     eqb command LOCKING || (eqb command READ || (eqb command WRITE || (eqb command CLOSE || (eqb command LOGOFF || (eqb command TREE_DISCONNECT || eqb command PROCESS_EXIT)))))
 
 unfoldable pub onlyStatus : Status → Tables → List ℕ → Ran
-onlyStatus why t memory = record { status = why; tables = t; memory = memory; blocks = refusedBlock }
+onlyStatus why t memory = record { status = why; holder = Nobody; tables = t; memory = memory; blocks = refusedBlock }
 
 unfoldable pub runChain : Caller → List ℕ → Option (List Block) → Tables → List ℕ → Ran
 runChain c s none t memory = onlyStatus (statusOf NotSentence) t memory
@@ -77,22 +80,25 @@ answered connection s t memory =
 unfoldable pub replyOf : List ℕ → Ran → List ℕ
 replyOf s r = replyHeader s (r .status) ++ r .blocks
 
--- what the call gives back: the number of document 01's table, the reply's length, tables, file memory and reply room
+-- what the call gives back: the number of document 01's table, the reply's length, beside it the holder (document 02, CR 2), tables, file
+-- memory and reply room
 pub record Taken : Type 0 where
   pub number : ℕ
   pub length : ℕ
+  pub holder : HeldBy
   pub tables : Tables
   pub memory : List ℕ
   pub room : List ℕ
 
 unfoldable pub notTaken : ℕ → Tables → List ℕ → List ℕ → Taken
-notTaken number t memory room = record { number = number; length = 0; tables = t; memory = memory; room = room }
+notTaken number t memory room = record { number = number; length = 0; holder = Nobody; tables = t; memory = memory; room = room }
 
 unfoldable pub replied : List ℕ → List ℕ → Ran → Taken
 replied s room r =
     record {
       number = 0;
       length = length (replyOf s r);
+      holder = r .holder;
       tables = r .tables;
       memory = r .memory;
       room = put room 0 (replyOf s r);

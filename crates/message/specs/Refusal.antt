@@ -1,9 +1,12 @@
--- The class and code of each refusal (document 01, "Refusals on the wire (class/code, decimal)").
+-- The class and code of each refusal (document 01, "Refusals on the wire (class/code, decimal)"), and the holder that a conflict names
+-- (document 02, CR 2).
 -- Assumes nothing.
 use Prim.Native.Nat.{ℕ}
 use Rattle.message.specs.declared.refusal.Refusal.{Refusal}
 use Rattle.message.specs.declared.refusal.Refusal.the-variants.{NotServed, NotSentence, NoSession, NoTree, NoOpen, NoAccess, LockType, NoSuchLock, PassesEnd, Conflict, NoRecord, NoSpace}
 use Rattle.message.specs.declared.refusal.Status.{Status}
+use Rattle.message.specs.declared.refusal.HeldBy.{HeldBy}
+use Rattle.message.specs.declared.refusal.HeldBy.the-variants.{Nobody, Holder as held-by}
 
 -- an SMBSTATUS: class and code, 0/0 where everything was done
 unfoldable pub status : ℕ → ℕ → Status
@@ -20,6 +23,21 @@ statusOf NoAccess = status 1 5
 statusOf LockType = status 2 65535
 statusOf NoSuchLock = status 1 158
 statusOf PassesEnd = status 1 87
-statusOf (Conflict place) = status 1 33
+statusOf (Conflict h) = status 1 33
 statusOf NoRecord = status 1 8
 statusOf NoSpace = status 3 39
+
+-- "the host gets the holder's FID and process beside the reply": of a conflict, and of nothing else
+unfoldable pub holderOf : Refusal → HeldBy
+holderOf NotServed = Nobody
+holderOf NotSentence = Nobody
+holderOf NoSession = Nobody
+holderOf NoTree = Nobody
+holderOf NoOpen = Nobody
+holderOf NoAccess = Nobody
+holderOf LockType = Nobody
+holderOf NoSuchLock = Nobody
+holderOf PassesEnd = Nobody
+holderOf (Conflict h) = held-by h
+holderOf NoRecord = Nobody
+holderOf NoSpace = Nobody

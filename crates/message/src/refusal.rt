@@ -1,9 +1,10 @@
 // Why a command or a message is refused, in document 01's order ("Refusals on the wire").
 
+use locks::types::Holder;
 ghost use mathlib.Core.Path.{_≡_};
-ghost use Rattle.message.specs.Refusal.{statusOf};
+ghost use Rattle.message.specs.Refusal.{statusOf, holderOf};
 
-// A conflict names the place of the first lock in the way, in the list as it then stands.
+// A conflict names the holder: the first lock in the way, in the list as it then stands.
 pub enum Refusal {
     NotServed,
     NotSentence,
@@ -14,7 +15,7 @@ pub enum Refusal {
     LockType,
     NoSuchLock,
     PassesEnd,
-    Conflict(usize),
+    Conflict(Holder),
     NoRecord,
     NoSpace,
 }
@@ -23,6 +24,13 @@ pub enum Refusal {
 pub struct Status {
     pub class: u8,
     pub code: u16,
+}
+
+// Who holds the lock in the way, for the host (document 02, CR 2): nobody, unless a command was refused for
+// conflict.
+pub enum HeldBy {
+    Nobody,
+    Holder(Holder),
 }
 
 // The class and code of a refusal.
@@ -48,5 +56,15 @@ pub fn status_of(why: Refusal) -> Status
         Refusal::Conflict(_) => Status { class: 1, code: 33 },
         Refusal::NoRecord => Status { class: 1, code: 8 },
         Refusal::NoSpace => Status { class: 3, code: 39 },
+    }
+}
+
+// The holder that a refusal names.
+pub fn holder_of(why: Refusal) -> HeldBy
+    ensures { λ r. ⌜ r ≡ holderOf why ⌝ }
+{
+    match why {
+        Refusal::Conflict(h) => HeldBy::Holder(h),
+        _ => HeldBy::Nobody,
     }
 }

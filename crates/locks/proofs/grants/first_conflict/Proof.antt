@@ -5,7 +5,7 @@ use Prim.Native.Nat.{_+_, _-_}
 use Rattle.tables.specs.Written.{locksIn}
 use Rattle.locks.specs.Wire.{rangesAt}
 use Rattle.locks.specs.Answer.{fileIn}
-use Rattle.locks.specs.Request.{grantAll}
+use Rattle.locks.specs.Request.{holderAt, grantAll}
 use Rattle.locks.specs.Blocked.{blockedAt}
 use Rattle.locks.proofs.Ahead.{Ahead, ahead-start, ahead-here, ahead-more, ahead-none}
 use Rattle.locks.proofs.Granted.{along, grant-start, grant-stop, grant-more}
@@ -44,7 +44,7 @@ enum-known-first : tie.Need-enum-known-first Inv-loop μ-loop
 enum-known-first c = search needs
 
 returns : tie.Need-returns Inv-loop μ-loop
-unfolding blockedAt
+unfolding blockedAt holderAt
 returns c =
     rw (ahead-here (c .before .before .before .before .before .loop .inv) (omega arith) (λ rs. grant-stop _ _ _ _ _ _ _ _ rs (c .before .first .given .0 .0) (sym (c .before .first .given .1) ∙ c .before .before .before .conflict-of .ensures)))
 

@@ -8,6 +8,7 @@ use Rattle.lists.specs.Walk.{any}
 use Rattle.locks.specs.Wire.{rangesAt, length-ranges}
 use Rattle.locks.specs.Request.{rangePasses}
 use Rattle.locks.proofs.Lent.{held-most, held-front, fit-held}
+use Rattle.locks.proofs.Holding.{blocked-below}
 use Rattle.locks.proofs.Settling.{locks-pass, locks-conflict, locks-full, locks-granted, length-whole, settles-refused, settles-done}
 use borrow.Author.Needs.{needs}
 use Rattle.locks.proofs.locking.grant_all.Statement.{statement}
@@ -40,17 +41,25 @@ first-conflict-requires c κs = search needs
 enum-known-first : tie.Need-enum-known-first
 enum-known-first c = search needs
 
+holder-at-requires : tie.Need-holder-at-requires
+holder-at-requires c κs =
+    let args = c .before .before .before .before .before .before .before .before .before .before .before .before .before .before .args in
+    let held = c .before .before .before .before .before .before .held-in .ensures in
+    let many = length-ranges (args .q .large) (args .area .now) (args .q .unlocks) (args .q .locks) in
+    let below = blocked-below _ _ _ _ _ _ (sym (c .before .before .first .given .1) ∙ c .before .before .before .before .first-conflict .ensures) in
+    ((c .before .before .before .before .before .before .before .before .before .before .before .before .before .before .pre, held), omega arith)
+
 same-length : tie.Need-same-length
 same-length c = search needs
 
 returns-2 : tie.Need-returns-2
 returns-2 c =
-    let args = c .before .before .before .before .before .before .before .before .before .before .before .before .before .args in
+    let args = c .before .before .before .before .before .before .before .before .before .before .before .before .before .before .before .args in
     let asked : args .q .unlocks + args .q .locks - args .q .unlocks ≡ args .q .locks = omega arith in
     let within : false ≡ any rangePasses (rangesAt (args .q .large) (args .area .now) (args .q .unlocks) (args .q .locks)) =
-    sym (c .before .before .before .before .before .before .before .if1 .left) ∙ rw asked at (c .before .before .before .before .before .before .before .before .some-passes .ensures)
+    sym (c .before .before .before .before .before .before .before .before .before .if1 .left) ∙ rw asked at (c .before .before .before .before .before .before .before .before .before .before .some-passes .ensures)
     in
-    (settles-refused (args .words .now) _ _ (locks-conflict _ _ _ _ _ within (sym (c .before .first .given .1) ∙ c .before .before .before .first-conflict .ensures)), λ f. f)
+    (settles-refused (args .words .now) _ _ (locks-conflict _ _ _ _ _ within (sym (c .before .before .before .first .given .1) ∙ c .before .before .before .before .before .first-conflict .ensures) (c .holder-at .ensures)), λ f. f)
 
 enum-told : tie.Need-enum-told
 enum-told c = search needs
@@ -110,6 +119,7 @@ grant-all-spec =
     held-in-requires
     first-conflict-requires
     enum-known-first
+    holder-at-requires
     same-length
     returns-2
     enum-told

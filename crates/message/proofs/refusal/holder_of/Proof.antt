@@ -1,0 +1,43 @@
+-- `message::refusal::holder_of` meets its contract: a conflict has a holder, and no other refusal.
+-- Assumes nothing.
+use mathlib.Core.Path.{_≡_, refl}
+use mathlib.Core.List.{[], _∷_}
+use types.Run.{OneOf, miss}
+use denote.Enum.Declared.{tagOf}
+use borrow.Author.Needs.{needs}
+use Rattle.message.specs.Refusal.{holderOf}
+use Rattle.message.specs.declared.refusal.Refusal.{Refusal}
+use Rattle.message.specs.declared.refusal.Refusal.the-variants.{NotServed, NotSentence, NoSession, NoTree, NoOpen, NoAccess, LockType, NoSuchLock, PassesEnd, Conflict, NoRecord, NoSpace}
+use Rattle.message.specs.declared.refusal.HeldBy.the-variants.{Nobody}
+use Rattle.message.proofs.refusal.Refusal.{the-type}
+use Rattle.message.proofs.refusal.holder_of.Statement.{statement}
+use Rattle.message.proofs.refusal.holder_of.Tie as tie
+
+-- what the arm `_` knows: every variant but `Conflict`, the enum's variant 9
+nobody-else : (why : Refusal) → OneOf (0 ∷ 1 ∷ 2 ∷ 3 ∷ 4 ∷ 5 ∷ 6 ∷ 7 ∷ 8 ∷ 10 ∷ 11 ∷ []) (tagOf the-type why) → Nobody ≡ holderOf why
+unfolding holderOf
+nobody-else NotServed h = refl
+nobody-else NotSentence h = refl
+nobody-else NoSession h = refl
+nobody-else NoTree h = refl
+nobody-else NoOpen h = refl
+nobody-else NoAccess h = refl
+nobody-else LockType h = refl
+nobody-else NoSuchLock h = refl
+nobody-else PassesEnd h = refl
+nobody-else (Conflict x) h = absurd (miss (0 ∷ 1 ∷ 2 ∷ 3 ∷ 4 ∷ 5 ∷ 6 ∷ 7 ∷ 8 ∷ 10 ∷ 11 ∷ []) 9 _ h)
+nobody-else NoRecord h = refl
+nobody-else NoSpace h = refl
+
+enum-known-why : tie.Need-enum-known-why
+enum-known-why c = search needs
+
+returns : tie.Need-returns
+unfolding holderOf
+returns c = rw (c .before .why .given .1)
+
+returns-2 : tie.Need-returns-2
+returns-2 c = nobody-else (c .before .args .why) (c .match .keys2)
+
+pub holder-of-spec : {M : Type 1} → statement M
+holder-of-spec = tie.close (tie.spec enum-known-why returns returns-2)
