@@ -4,7 +4,7 @@
 use mathlib.Core.Path.{_≡_}
 use Prim.Native.Nat.{ℕ}
 use mathlib.Core.Bool.{Bool, true, cond, not, _&&_, _||_}
-use mathlib.Core.List.{List}
+use mathlib.Core.List.{List, [], _∷_}
 use lib.ListN.{length}
 use lib.Dec.{eqb, ltb}
 use Rattle.records.specs.declared.Tables.{Tables}
@@ -12,7 +12,10 @@ use Rattle.soundness.specs.Sound.{sound}
 use Rattle.host.specs.declared.answer.Returned.{Returned}
 use Rattle.host.specs.HostCall.{addSession, addTree, addOpen, loadFile, loadMemory, dropConnection}
 use Rattle.message.specs.Message.{Taken, notTaken, take-message}
+use Rattle.message.specs.declared.refusal.HeldBy.{HeldBy}
+use Rattle.message.specs.declared.refusal.HeldBy.the-variants.{Nobody, Holder as held-by}
 use Rattle.tables.specs.Words.{inUseFit, tablesOf}
+use Rattle.boundary.specs.OutParameter.{onDone}
 
 -- words that no call answers with 4: those in use fit, and the tables that they hold are sound
 unfoldable pub ready : List ℕ → Bool
@@ -79,4 +82,13 @@ messageTaken connection s w memory room =
 
 -- the reply's length goes to the out-parameter, where a reply was written
 unfoldable pub lengthAfter : ℕ → Taken → ℕ
-lengthAfter before k = cond (eqb (k .number) 0) (k .length) before
+lengthAfter before k = onDone (k .number) (k .length) before
+
+-- document 02, CR 2: "the host gets the holder's FID and process beside the reply". Six words: 1, then of the lock in the way the FID, the
+-- process, the place in the list as it then stood, the offset and the length; all zero where there is none.
+unfoldable pub holderWords : HeldBy → List ℕ
+holderWords Nobody = 0 ∷ 0 ∷ 0 ∷ 0 ∷ 0 ∷ 0 ∷ []
+holderWords (held-by h) = 1 ∷ h .lock .fid ∷ h .lock .process ∷ h .place ∷ h .lock .offset ∷ h .lock .length ∷ []
+
+unfoldable pub holderAfter : List ℕ → Taken → List ℕ
+holderAfter before k = onDone (k .number) (holderWords (k .holder)) before

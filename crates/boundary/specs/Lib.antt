@@ -1,3 +1,4 @@
+pub mod OutParameter
 pub mod Boundary
 pub mod BoundaryLaws
 pub mod MessageLaws

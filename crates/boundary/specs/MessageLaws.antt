@@ -14,7 +14,8 @@ use Rattle.message.specs.Message.{Taken, notTaken, replied, answered, take-mess
 use Rattle.invariants.specs.Fit.{take-message-good}
 use Rattle.tables.specs.Words.{tablesOf, inUseFit}
 use Rattle.boundary.specs.BoundaryLaws.{words-good, ready-of}
-use Rattle.boundary.specs.Boundary.{ready, ForNext, wrongRoom, messageTaken, lengthAfter}
+use Rattle.boundary.specs.OutParameter.{stands-else, given-done}
+use Rattle.boundary.specs.Boundary.{ready, ForNext, wrongRoom, messageTaken, lengthAfter, holderWords, holderAfter}
 
 pub room-short : (memory room : List ℕ) → length room < 12292 → wrongRoom memory room ≡ true
 unfolding wrongRoom
@@ -77,16 +78,25 @@ pub message-unfit : (connection : ℕ) (s w memory room : List ℕ) → inUseFit
 unfolding messageTaken
 message-unfit connection s w memory room e = rw e
 
--- ---- the reply's length
+-- ---- the reply's length and the holder: where nothing was written the out-parameters stand
 
--- where nothing was written the out-parameter stands
-pub length-stands : (before : ℕ) (k : Taken) → (k .number ≡ 0 → ⊥) → before ≡ lengthAfter before k
-unfolding lengthAfter
-length-stands before k n = rw (ne-eqb (k .number) 0 n)
+module _ (before : ℕ) (k : Taken) where
+  pub length-stands : (k .number ≡ 0 → ⊥) → before ≡ lengthAfter before k
+  unfolding lengthAfter
+  length-stands n = stands-else (k .number) (k .length) before n
 
-pub length-given : (before : ℕ) (k : Taken) → k .number ≡ 0 → k .length ≡ lengthAfter before k
-unfolding lengthAfter
-length-given before k e = rw (eq-eqb (k .number) 0 e)
+  pub length-given : k .number ≡ 0 → k .length ≡ lengthAfter before k
+  unfolding lengthAfter
+  length-given e = given-done (k .number) (k .length) before e
+
+module _ (before : List ℕ) (k : Taken) where
+  pub holder-stands : (k .number ≡ 0 → ⊥) → before ≡ holderAfter before k
+  unfolding holderAfter
+  holder-stands n = stands-else (k .number) (holderWords (k .holder)) before n
+
+  pub holder-given : k .number ≡ 0 → holderWords (k .holder) ≡ holderAfter before k
+  unfolding holderAfter
+  holder-given e = given-done (k .number) (holderWords (k .holder)) before e
 
 -- ---- for the next call
 

@@ -1,16 +1,15 @@
 -- The stream's calls as the host makes them: the reader's state is seven words that it lends, what a call of the reader gives is four. The numbers, the state,
 -- the buffer and the room after a call are those of `stream`'s definitions. Assumes nothing.
 use Prim.Native.Nat.{ℕ}
-use mathlib.Core.Bool.{cond}
 use mathlib.Core.List.{List, [], _∷_}
 use lib.ListN.{getD}
-use lib.Dec.{eqb}
 use Rattle.stream.specs.declared.state.State.{State}
 use Rattle.stream.specs.declared.reader.Event.{Event}
 use Rattle.stream.specs.declared.reader.Event.the-variants.{NoMessage, InPiece, InBuffer}
 use Rattle.stream.specs.declared.reader.Step.{Step}
 use Rattle.stream.specs.declared.writer.Written.{Written}
 use Rattle.stream.specs.Reader.{Read, read}
+use Rattle.boundary.specs.OutParameter.{onDone}
 
 -- the state that the words hold: any values are one
 unfoldable pub stateIn : List ℕ → State
@@ -41,8 +40,8 @@ pieceRead w buffer piece = read (stateIn w) buffer piece
 
 -- the words of a call's step, written on 0 only
 unfoldable pub stepAfter : List ℕ → Step → List ℕ
-stepAfter before s = cond (eqb (s .number) 0) (stepWords (s .taken) (s .event)) before
+stepAfter before s = onDone (s .number) (stepWords (s .taken) (s .event)) before
 
 -- how many bytes the writer wrote, written on 0 only
 unfoldable pub writtenAfter : ℕ → Written → ℕ
-writtenAfter before a = cond (eqb (a .number) 0) (a .length) before
+writtenAfter before a = onDone (a .number) (a .length) before

@@ -4,10 +4,10 @@ use Prim.Native.Nat.{ℕ}
 use native.Mathlib.Omega.{arith}
 use mathlib.Core.List.{List, [], _∷_}
 use lib.ListN.{length}
-use borrow.Author.Tests.{eq-eqb, ne-eqb}
 use Rattle.stream.specs.declared.state.State.{State}
 use Rattle.stream.specs.declared.reader.Step.{Step}
 use Rattle.stream.specs.declared.writer.Written.{Written}
+use Rattle.boundary.specs.OutParameter.{stands-else, given-done}
 use Rattle.boundary.specs.StreamWords.{stateIn, wordsOf, stepWords, stepAfter, writtenAfter}
 
 -- the words of a state hold it
@@ -31,17 +31,17 @@ words-state (a ∷ b ∷ c ∷ d ∷ e ∷ f ∷ g ∷ x ∷ xs) h = absurd (let
 module _ (before : List ℕ) (s : Step) where
   pub step-stands : (s .number ≡ 0 → ⊥) → before ≡ stepAfter before s
   unfolding stepAfter
-  step-stands n = rw (ne-eqb (s .number) 0 n)
+  step-stands n = stands-else (s .number) (stepWords (s .taken) (s .event)) before n
 
   pub step-given : s .number ≡ 0 → stepWords (s .taken) (s .event) ≡ stepAfter before s
   unfolding stepAfter
-  step-given z = rw (eq-eqb (s .number) 0 z)
+  step-given z = given-done (s .number) (stepWords (s .taken) (s .event)) before z
 
 module _ (before : ℕ) (a : Written) where
   pub written-stands : (a .number ≡ 0 → ⊥) → before ≡ writtenAfter before a
   unfolding writtenAfter
-  written-stands n = rw (ne-eqb (a .number) 0 n)
+  written-stands n = stands-else (a .number) (a .length) before n
 
   pub written-given : a .number ≡ 0 → a .length ≡ writtenAfter before a
   unfolding writtenAfter
-  written-given z = rw (eq-eqb (a .number) 0 z)
+  written-given z = given-done (a .number) (a .length) before z

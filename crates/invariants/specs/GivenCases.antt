@@ -18,6 +18,7 @@ use Rattle.records.specs.Empty.{noOpen}
 use Rattle.records.specs.Held.{sessionsOf, treesOf, opensOf}
 use Rattle.locks.specs.Request.{releaseAll, Grants, granted, blocked, grantAll, Result, done as doneWith, refused as refusedBy, afterGrants, rangePasses, afterReleases, request}
 use Rattle.locks.specs.declared.types.LockRange.{LockRange}
+use Rattle.locks.specs.declared.types.Holder.{Holder}
 use Rattle.locks.specs.declared.types.Outcome.the-variants.{NoSuchLock as NoLock, PassesEnd as PastEnd, Conflict as InWay, NoRecord as NoRoom}
 use Rattle.soundness.specs.Lookup.{isTree}
 use Rattle.message.specs.declared.caller.Caller.{Caller}
@@ -30,12 +31,12 @@ cond-case P true x y f g = f refl
 cond-case P false x y f g = g refl
 
 -- of a LOCKING request's result
-module _ (Q : Result → Type 0) (no-lock : Q (refusedBy NoLock)) (past : Q (refusedBy PastEnd)) (in-way : (k : ℕ) → Q (refusedBy (InWay k))) (no-room : Q (refusedBy NoRoom)) where
+module _ (Q : Result → Type 0) (no-lock : Q (refusedBy NoLock)) (past : Q (refusedBy PastEnd)) (in-way : (h : Holder) → Q (refusedBy (InWay h))) (no-room : Q (refusedBy NoRoom)) where
   grants-case : (g : Grants) → ((list : List Lock) → g ≡ granted list → length list ≤ 128 → Q (doneWith list)) → Q (afterGrants g)
   unfolding afterGrants
   grants-case (granted list) f =
       cond-case Q (leb (length list) 128) (doneWith list) (refusedBy NoRoom) (λ e. f list refl (leb-true (length list) 128 e)) (λ _. no-room)
-  grants-case (blocked k) f = in-way k
+  grants-case (blocked h) f = in-way h
 
   module _ (file : ℕ → ℕ) (fid : ℕ) (shared : Bool) (locks : List LockRange) where
     releases-case : (o : Option (List Lock))
@@ -78,7 +79,7 @@ module _ (P : Given → Type 0) where
       tree-case c t (openAt (found (isOpen c fid) (opensOf t)) (opensOf t) next) no-session no-tree
       (open-at-case (found (isOpen c fid) (opensOf t)) (opensOf t) next bad good)
 
-  pub barred-case : (f : Found) (next : Given) → ((k : ℕ) → P (refused (Conflict k))) → (f ≡ Nothing → P next) → P (unlessBarred f next)
+  pub barred-case : (t : Tables) (f : Found) (next : Given) → ((h : Holder) → P (refused (Conflict h))) → (f ≡ Nothing → P next) → P (unlessBarred t f next)
   unfolding unlessBarred
-  barred-case (At k) next bad good = bad k
-  barred-case Nothing next bad good = good refl
+  barred-case t (At k) next bad good = bad _
+  barred-case t Nothing next bad good = good refl

@@ -86,10 +86,10 @@ module _ (os : List Open) (fid : ℕ) (shared : Bool) (known : contains fid (map
             refl (h .agreed);
       }
 
-  walk-granted : (f : Found) (g : Grants) (out : List Lock) → afterWalk f g ≡ granted out → (f ≡ Nothing) × (g ≡ granted out)
+  walk-granted : (f : Found) (list : List Lock) (g : Grants) (out : List Lock) → afterWalk f list g ≡ granted out → (f ≡ Nothing) × (g ≡ granted out)
   unfolding afterWalk
-  walk-granted (At k) g out e = let z : _≡_ {A = ℕ} 0 1 = cc in absurd (omega arith)
-  walk-granted Nothing g out e = (refl, e)
+  walk-granted (At k) list g out e = let z : _≡_ {A = ℕ} 0 1 = cc in absurd (omega arith)
+  walk-granted Nothing list g out e = (refl, e)
 
   -- "Then locks in order, each against the list as it stands"
   pub grant-ok : (rs : List LockRange) (list out : List Lock) → any rangePasses rs ≡ false → LocksOk os list
@@ -98,5 +98,5 @@ module _ (os : List Open) (fid : ℕ) (shared : Bool) (known : contains fid (map
   grant-ok [] list out low h e = let same : list ≡ out = cc in rw (← same) h
   grant-ok (r ∷ rs) list out low h e =
       let b = neither-holds (rangePasses r) (any rangePasses rs) low in
-      let w = walk-granted (found (answers (fileOf os) (askOf fid (Grant shared) r)) list) (grantAll (fileOf os) fid shared rs (list ++ (lockOf fid shared r ∷ []))) out e in
+      let w = walk-granted (found (answers (fileOf os) (askOf fid (Grant shared) r)) list) list (grantAll (fileOf os) fid shared rs (list ++ (lockOf fid shared r ∷ []))) out e in
       grant-ok rs (list ++ (lockOf fid shared r ∷ [])) out (b .1) (granted-ok r list (b .0) (w .0) h) (w .1)

@@ -81,7 +81,7 @@ module _ (n : ℕ) (c : Caller) (t : Tables) (memory : List ℕ) where
   read-says f g h =
       open-case (Says n) c t (f .fid) _ says-refused says-refused says-refused
       (λ k _. cond-case (Says n) (eqb (getD (opensOf t) k noOpen .access) 1) (refused NoAccess) _ (λ _. says-refused)
-      (λ _. barred-case (Says n) _ _ (λ j. says-refused)
+      (λ _. barred-case (Says n) t _ _ (λ j. says-refused)
       (λ _. let a : length (readBytes t memory (getD (opensOf t) k noOpen .file) (f .offset) (f .max)) ≤ sizeOf t (getD (opensOf t) k noOpen .file) =
       length-read t memory (getD (opensOf t) k noOpen .file) (f .offset) (f .max) in
       let b : sizeOf t (getD (opensOf t) k noOpen .file) ≤ 4096 = size-most t (getD (opensOf t) k noOpen .file) (sound-says t (g .sound)) in
@@ -93,7 +93,7 @@ module _ (n : ℕ) (c : Caller) (t : Tables) (memory : List ℕ) where
   write-says f bytes h =
       open-case (Says n) c t (f .fid) _ says-refused says-refused says-refused
       (λ k _. cond-case (Says n) (eqb (getD (opensOf t) k noOpen .access) 0) (refused NoAccess) _ (λ _. says-refused)
-      (λ _. barred-case (Says n) _ _ (λ j. says-refused)
+      (λ _. barred-case (Says n) t _ _ (λ j. says-refused)
       (λ _. cond-case (Says n) (endsPast (f .offset) (f .count)) (refused NoSpace) _ (λ _. says-refused) (λ _. says-done h))))
 
 -- by how much a command's reply block may be longer than its request block, and a chain's from that command on

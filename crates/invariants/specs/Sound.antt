@@ -41,7 +41,6 @@ use Rattle.chain.specs.declared.block.Body.the-variants.{Locking as LockingBody
 use Rattle.chain.specs.declared.block.Block.{Block}
 use Rattle.message.specs.Caller.{callerOf}
 use Rattle.message.specs.declared.caller.Caller.{Caller}
-use Rattle.message.specs.Refusal.{statusOf}
 use Rattle.message.specs.Contents.{sizeOf, resized}
 use Rattle.message.specs.Command.{Given, Said, refused, done, isOpen, servedType, requestOf, withLockList, lockingEnd, lockingAfter, doLocking, doRead, endsPast, doWrite, perform}
 use Rattle.message.specs.Message.{areaOf, dataOf, Ran, after, afterGiven, run, served, onlyStatus, runChain, answered}
@@ -167,14 +166,14 @@ module _ (t : Tables) (g : Good t) where
     read-keeps f =
         open-case Keeps c t (f .fid) _ keeps-refused keeps-refused keeps-refused
         (λ k _. cond-case Keeps (eqb (getD (opensOf t) k noOpen .access) 1) (refused NoAccess) _ (λ _. keeps-refused)
-        (λ _. barred-case Keeps _ _ (λ j. keeps-refused) (λ _. keeps-done g)))
+        (λ _. barred-case Keeps t _ _ (λ j. keeps-refused) (λ _. keeps-done g)))
 
     write-keeps : (f : WriteFields) (bytes : List ℕ) → Keeps (doWrite c t memory f bytes)
     unfolding doWrite
     write-keeps f bytes =
         open-case Keeps c t (f .fid) _ keeps-refused keeps-refused keeps-refused
         (λ k _. cond-case Keeps (eqb (getD (opensOf t) k noOpen .access) 0) (refused NoAccess) _ (λ _. keeps-refused)
-        (λ _. barred-case Keeps _ _ (λ j. keeps-refused)
+        (λ _. barred-case Keeps t _ _ (λ j. keeps-refused)
         (λ _. cond-case Keeps (endsPast (f .offset) (f .count)) (refused NoSpace) _ (λ _. keeps-refused)
         (λ e. keeps-done (resized-good (getD (opensOf t) k noOpen .file) (f .offset) (f .count) e)))))
 
@@ -224,9 +223,3 @@ answered-good connection s t memory g =
 pub answered-sound : (connection : ℕ) (s : List ℕ) (t : Tables) (memory : List ℕ) → sound t ≡ true → Shaped t
     → sound (answered connection s t memory .tables) ≡ true
 answered-sound connection s t memory e h = answered-good connection s t memory (record { sound = e; shaped = h }) .sound
-
--- "A command refused changes no table and no file byte, its own unlocks included": what it leaves is what it was given, with its status
-pub refused-nothing : (why : Refusal) (bs : List Block) (place : ℕ) (t : Tables) (memory : List ℕ) (rest : ℕ → Tables → List ℕ → Ran)
-    → afterGiven (refused why) bs place t memory rest ≡ onlyStatus (statusOf why) t memory
-unfolding afterGiven onlyStatus
-refused-nothing why bs place t memory rest = refl
