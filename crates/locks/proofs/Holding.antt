@@ -7,7 +7,7 @@ use native.Mathlib.Nat.{add-zero}
 use mathlib.Core.Bool.{Bool}
 use mathlib.Core.List.{List, [], _∷_, _++_, map, append-assoc}
 use lib.ListN.{length, getD, length-map, length-append, List·getD-append}
-use lib.Seq.{getD-append-add, getD-take}
+use lib.Seq.{getD-append-add}
 use native.Mathlib.Omega.{arith}
 use Rattle.lists.specs.Walk.{found}
 use Rattle.lists.specs.FoundLaws.{found-below}
@@ -21,10 +21,10 @@ use Rattle.locks.specs.Wire.{rangeAt, rangesAt}
 use Rattle.locks.specs.Answer.{answers}
 use Rattle.locks.specs.Request.{askOf, lockOf, holderAt, Grants, granted, blocked, afterWalk, grantAll}
 use Rattle.locks.specs.Blocked.{blockedAt}
+use Rattle.locks.specs.Listed.{listed-at}
 use Rattle.locks.specs.declared.types.LockRange.{LockRange}
 use Rattle.locks.specs.declared.types.Holder.{Holder}
 use Rattle.locks.specs.declared.types.Purpose.the-variants.{Grant}
-use Rattle.locks.proofs.Lent.{held-front}
 
 -- a place in the list of two parts: the front part's own
 pub holder-front : (xs ys : List Lock) (k : ℕ) → k < length xs → holderAt xs k ≡ holderAt (xs ++ ys) k
@@ -73,9 +73,7 @@ module _ (file : ℕ → ℕ) (fid : ℕ) (shared : Bool) where
 -- a place below the number held is that of a record of the words
 pub holder-listed : (w : List ℕ) (more : List Lock) (k : ℕ) → k < length (locksIn w) → getD (locksIn w ++ more) k noLock ≡ getD (lockArray w) k noLock
 holder-listed w more k h =
-    List·getD-append (locksIn w) more noLock k h
-    ∙ ap (λ (l : List Lock). getD l k noLock) (sym (held-front w (length (locksIn w)) refl))
-    ∙ getD-take (length (locksIn w)) (lockArray w) k noLock h
+    List·getD-append (locksIn w) more noLock k h ∙ listed-at w k h
 
 -- the lock of the i-th of the request's ranges
 range-lock : (f : LockRange → Lock) (large : Bool) (s : List ℕ) (from n i : ℕ) (d : Lock) → i < n

@@ -4,3 +4,4 @@ pub mod Answer
 pub mod Request
 pub mod Blocked
 pub mod Changed
+pub mod Listed

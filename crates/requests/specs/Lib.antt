@@ -1,6 +1,7 @@
 pub mod Told
 pub mod Leaves
 pub mod LockPart
+pub mod BarPart
 pub mod Reach
 pub mod Steps
 pub mod ReadPart

@@ -25,7 +25,7 @@ lockAnswer Done = Locked
 lockAnswer BadRanges = Refused NotSentence
 lockAnswer NoLock = Refused NoSuchLock
 lockAnswer PastEnd = Refused PassesEnd
-lockAnswer (InWay place) = Refused (Conflict place)
+lockAnswer (InWay h) = Refused (Conflict h)
 lockAnswer NoRoom = Refused NoRecord
 
 -- a part put back as it was
@@ -49,5 +49,5 @@ module _ (w e m : List ℕ) (l : Locking) (full : length w ≡ 1172) (long : len
   settles-gives BadRanges s = none-left NotSentence s refl (ap (λ (o : Outcome). lockingEnd o (tablesOf w) m l) (sym (s .outcome)))
   settles-gives NoLock s = none-left NoSuchLock s refl (ap (λ (o : Outcome). lockingEnd o (tablesOf w) m l) (sym (s .outcome)))
   settles-gives PastEnd s = none-left PassesEnd s refl (ap (λ (o : Outcome). lockingEnd o (tablesOf w) m l) (sym (s .outcome)))
-  settles-gives (InWay place) s = none-left (Conflict place) s refl (ap (λ (o : Outcome). lockingEnd o (tablesOf w) m l) (sym (s .outcome)))
+  settles-gives (InWay h) s = none-left (Conflict h) s refl (ap (λ (o : Outcome). lockingEnd o (tablesOf w) m l) (sym (s .outcome)))
   settles-gives NoRoom s = none-left NoRecord s refl (ap (λ (o : Outcome). lockingEnd o (tablesOf w) m l) (sym (s .outcome)))

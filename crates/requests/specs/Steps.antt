@@ -37,7 +37,7 @@ locking-steps c t memory f area = refl
 unfoldable pub readOpen : Caller → Tables → List ℕ → ReadFields → Open → Given
 readOpen c t memory f o =
     cond (eqb (o .access) 1) (refused NoAccess)
-    (unlessBarred (barring t (askBy c (f .fid) (f .offset) (f .max) Reading))
+    (unlessBarred t (barring t (askBy c (f .fid) (f .offset) (f .max) Reading))
     (done t memory (read (readBytes t memory (o .file) (f .offset) (f .max)))))
 
 pub read-steps : (c : Caller) (t : Tables) (memory : List ℕ) (f : ReadFields) → doRead c t memory f ≡ withOpen c t (f .fid) (readOpen c t memory f)
@@ -54,7 +54,7 @@ writeFree t memory f file bytes =
 unfoldable pub writeOpen : Caller → Tables → List ℕ → WriteFields → List ℕ → Open → Given
 writeOpen c t memory f bytes o =
     cond (eqb (o .access) 0) (refused NoAccess)
-    (unlessBarred (barring t (askBy c (f .fid) (f .offset) (f .count) Writing)) (writeFree t memory f (o .file) bytes))
+    (unlessBarred t (barring t (askBy c (f .fid) (f .offset) (f .count) Writing)) (writeFree t memory f (o .file) bytes))
 
 pub write-steps : (c : Caller) (t : Tables) (memory : List ℕ) (f : WriteFields) (bytes : List ℕ)
     → doWrite c t memory f bytes ≡ withOpen c t (f .fid) (writeOpen c t memory f bytes)

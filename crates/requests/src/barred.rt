@@ -2,17 +2,25 @@
 
 use lists::Found;
 use locks::types::Ask;
+use locks::types::Holder;
 use locks::types::Purpose;
 use locks::walk::first_answer;
+use message::answer::Answer;
 use message::caller::Caller;
+use message::refusal::Refusal;
 use soundness::open_words::file_table;
 use tables::file::size_at;
+use tables::lock::lock_at;
 ghost use mathlib.Core.Path.{_≡_};
-ghost use Prim.Native.Nat.{_≤_};
+ghost use Prim.Native.Nat.{_≤_, _<_};
 ghost use lib.ListN.{length};
+ghost use Rattle.records.specs.Held.{locksOf};
 ghost use Rattle.tables.specs.Words.{tablesOf};
+ghost use Rattle.locks.specs.Request.{holderAt};
 ghost use Rattle.message.specs.Command.{askBy, barring};
 ghost use Rattle.message.specs.Contents.{sizeOf};
+ghost use Rattle.message.specs.declared.answer.Answer.the-variants.{Refused};
+ghost use Rattle.message.specs.declared.refusal.Refusal.the-variants.{Conflict};
 ghost use Rattle.invariants.specs.Sound.{Good};
 
 // "Locks: process from the range; reads and writes: from the header."
@@ -39,6 +47,16 @@ pub(crate) fn first_bar(words: &[u64], q: Ask) -> Found
     }
     let files = file_table(&words[130..515]);
     first_answer(&files, &words[515..1156], q)
+}
+
+// 1/33, the listed lock at that place being the holder.
+pub(crate) fn refuse_for(words: &[u64], place: usize) -> Answer
+    requires { ⌜ length (now words) ≡ 1172 ⌝ }
+    requires { ⌜ place < length (locksOf (tablesOf (now words))) ⌝ }
+    ensures { λ r. ⌜ r ≡ Refused (Conflict (holderAt (locksOf (tablesOf (now (words .entry)))) place)) ⌝ }
+{
+    let lock = lock_at(&words[515..1156], place);
+    Answer::Refused(Refusal::Conflict(Holder { lock, place }))
 }
 
 // A file's size.

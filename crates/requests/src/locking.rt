@@ -58,7 +58,7 @@ fn lock_answer(outcome: Outcome) -> Answer
         Outcome::Malformed => Answer::Refused(Refusal::NotSentence),
         Outcome::NoSuchLock => Answer::Refused(Refusal::NoSuchLock),
         Outcome::PassesEnd => Answer::Refused(Refusal::PassesEnd),
-        Outcome::Conflict(place) => Answer::Refused(Refusal::Conflict(place)),
+        Outcome::Conflict(h) => Answer::Refused(Refusal::Conflict(h)),
         Outcome::NoRecord => Answer::Refused(Refusal::NoRecord),
     }
 }

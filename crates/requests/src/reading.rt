@@ -3,6 +3,7 @@
 use crate::barred::ask_of;
 use crate::barred::file_size;
 use crate::barred::first_bar;
+use crate::barred::refuse_for;
 use crate::who::NamedOpen;
 use crate::who::reach_open;
 use chain::block::ReadFields;
@@ -54,7 +55,7 @@ fn read_open(c: Caller, words: &[u64], f: ReadFields, o: Open) -> Answer
     let q = ask_of(c, f.fid, f.offset, f.max, Purpose::Read);
     let bar = first_bar(words, q);
     match bar {
-        Found::At(place) => Answer::Refused(Refusal::Conflict(place)),
+        Found::At(place) => refuse_for(words, place),
         Found::Nothing => read_part(words, o.file, f.offset, f.max),
     }
 }

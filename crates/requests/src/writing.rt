@@ -3,6 +3,7 @@
 use crate::barred::ask_of;
 use crate::barred::file_size;
 use crate::barred::first_bar;
+use crate::barred::refuse_for;
 use crate::who::NamedOpen;
 use crate::who::reach_open;
 use chain::block::WriteFields;
@@ -140,7 +141,7 @@ fn write_open(
     let q = ask_of(c, f.fid, f.offset, f.count, Purpose::Write);
     let bar = first_bar(words, q);
     match bar {
-        Found::At(place) => Answer::Refused(Refusal::Conflict(place)),
+        Found::At(place) => refuse_for(words, place),
         Found::Nothing => write_free(words, f, o.file, source, memory),
     }
 }

@@ -3,13 +3,14 @@
 use borrow.Author.Needs.{needs}
 use Rattle.requests.proofs.reading.read_open.Statement.{statement}
 use Rattle.requests.proofs.reading.read_open.Tie as tie
-use mathlib.Core.Path.{refl, ap}
+use mathlib.Core.Path.{refl, sym, ap, _∙_}
 use borrow.Author.Tests.{eq-eqb, ne-eqb}
 use Rattle.tables.specs.Words.{tablesOf}
 use Rattle.message.specs.declared.answer.Answer.{Answer}
 use Rattle.message.specs.Command.{unlessBarred}
 use Rattle.requests.specs.Leaves.{performed, gives-refused, gives-done}
 use Rattle.requests.specs.Steps.{readOpen}
+use Rattle.requests.specs.BarPart.{bar-below}
 use Rattle.requests.specs.ReadPart.{part-given, part-within}
 
 returns : tie.Need-returns
@@ -26,6 +27,9 @@ first-bar-requires c κs = (c .before .before .before .before .pre .0, c .before
 enum-known-bar : tie.Need-enum-known-bar
 enum-known-bar c = search needs
 
+refuse-for-requires : tie.Need-refuse-for-requires
+refuse-for-requires c κs = (c .before .before .before .before .before .before .before .before .pre .0, bar-below _ (c .before .before .before .before .ask-of .result) (c .before .bar .given .0 .0) (sym (c .before .before .before .first-bar .ensures) ∙ c .before .bar .given .1))
+
 enum-told : tie.Need-enum-told
 enum-told c = search needs
 
@@ -35,7 +39,8 @@ read-part-requires c κs = c .before .before .before .before .before .before .be
 returns-2 : tie.Need-returns-2
 unfolding readOpen unlessBarred
 returns-2 c =
-    λ m. gives-refused _ (rw (ne-eqb _ _ (c .before .before .before .before .before .if1 .left), ← (c .before .before .before .before .ask-of .ensures), ← (c .before .before .before .first-bar .ensures), c .before .bar .given .1)) refl
+    λ m. gives-refused _ (rw (ne-eqb _ _ (c .before .before .before .before .before .before .if1 .left), ← (c .before .before .before .before .before .ask-of .ensures), ← (c .before .before .before .before .first-bar .ensures), c .before .before .bar .given .1))
+    (ap (λ (a : Answer). performed a (tablesOf (c .before .before .before .before .before .before .before .before .before .args .words .now))) (c .refuse-for .ensures))
 
 returns-3 : tie.Need-returns-3
 unfolding readOpen unlessBarred
@@ -56,6 +61,7 @@ read-open-spec =
     ask-of-requires
     first-bar-requires
     enum-known-bar
+    refuse-for-requires
     enum-told
     read-part-requires
     returns-2

@@ -1,11 +1,14 @@
 -- `requests::writing::write_open` meets its contract: the tests are those of the definition, in its order.
 -- Assumes nothing.
 use borrow.Author.Needs.{needs}
-use mathlib.Core.Path.{refl}
+use mathlib.Core.Path.{refl, sym, ap, _∙_}
 use borrow.Author.Tests.{eq-eqb, ne-eqb}
+use Rattle.tables.specs.Words.{tablesOf}
+use Rattle.message.specs.declared.answer.Answer.{Answer}
 use Rattle.message.specs.Command.{unlessBarred}
-use Rattle.requests.specs.Leaves.{gives-refused}
+use Rattle.requests.specs.Leaves.{performed, gives-refused}
 use Rattle.requests.specs.Steps.{writeOpen}
+use Rattle.requests.specs.BarPart.{bar-below}
 use Rattle.requests.proofs.writing.write_open.Statement.{statement}
 use Rattle.requests.proofs.writing.write_open.Tie as tie
 
@@ -23,6 +26,9 @@ first-bar-requires c κs = (c .before .before .before .before .before .before .b
 enum-known-bar : tie.Need-enum-known-bar
 enum-known-bar c = search needs
 
+refuse-for-requires : tie.Need-refuse-for-requires
+refuse-for-requires c κs = (c .before .before .before .before .before .before .before .before .before .before .before .before .pre .0, bar-below _ (c .before .before .before .before .before .before .ask-of .result) (c .before .before .bar .given .0 .0) (sym (c .before .before .before .before .first-bar .ensures) ∙ c .before .before .bar .given .1))
+
 enum-told : tie.Need-enum-told
 enum-told c = search needs
 
@@ -34,8 +40,11 @@ same-length c = search needs
 
 returns-2 : tie.Need-returns-2
 unfolding writeOpen unlessBarred
-returns-2 c =
-    (gives-refused _ (rw (ne-eqb _ _ (c .before .before .before .before .before .before .if1 .left), ← (c .before .before .before .before .before .ask-of .ensures), ← (c .before .before .before .first-bar .ensures), c .before .bar .given .1)) refl, λ h. h)
+returns-2 c = (
+  gives-refused _ (rw (ne-eqb _ _ (c .before .before .before .before .before .before .before .before .if1 .left), ← (c .before .before .before .before .before .before .before .ask-of .ensures), ← (c .before .before .before .before .before .first-bar .ensures), c .before .before .before .bar .given .1))
+      (ap (λ (a : Answer). performed a (tablesOf (c .before .before .before .before .before .before .before .before .before .before .before .before .before .args .words .now))) (c .refuse-for .ensures)),
+  λ h. h,
+)
 
 same-length-2 : tie.Need-same-length-2
 same-length-2 c = search needs
@@ -58,6 +67,7 @@ write-open-spec =
     ask-of-requires
     first-bar-requires
     enum-known-bar
+    refuse-for-requires
     enum-told
     write-free-requires
     same-length
