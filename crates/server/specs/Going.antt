@@ -17,7 +17,9 @@ use Rattle.invariants.specs.BlockParse.{blockAt, parse-complete}
 use Rattle.invariants.specs.Chained.{Chained, chained-end, chained-more}
 use Rattle.message.specs.declared.caller.Caller.{Caller}
 use Rattle.message.specs.declared.refusal.Status.{Status}
-use Rattle.message.specs.Refusal.{status, statusOf}
+use Rattle.message.specs.Refusal.{status, statusOf, holderOf}
+use Rattle.message.specs.declared.refusal.HeldBy.{HeldBy}
+use Rattle.message.specs.declared.refusal.HeldBy.the-variants.{Nobody}
 use Rattle.message.specs.declared.refusal.Refusal.{Refusal}
 use Rattle.message.specs.Command.{Said, locked, loggedOff, read, wrote, plain, Given, refused, done, perform}
 use Rattle.message.specs.declared.link.Link.{Link}
@@ -31,7 +33,7 @@ use Rattle.invariants.specs.Sound.{Good, keeps-good, perform-keeps}
 use Rattle.invariants.specs.ReplySize.{length-block}
 use Rattle.reply.specs.Links.{linkFor}
 use Rattle.reply.specs.BlockLaws.{length-yielded, read-inside}
-use Rattle.server.specs.Step.{statusAfter, goesOn}
+use Rattle.server.specs.Step.{statusAfter, holderLeft, goesOn}
 
 -- ---- a chain at its first block
 
@@ -84,6 +86,7 @@ record Says (a : Answer) (memory : List ℕ) : Type 0 where
   pub block : (place : ℕ) (link : Link) → blockOf a memory place link ≡ replyBlock said place link
   pub size : answerSize a ≡ replySize said
   pub status-is : statusAfter a ≡ status 0 0
+  pub nobody : holderLeft a ≡ Nobody
   pub next-is : (n : Next) → goesOn a n ≡ n
 
 -- ---- what a chain's head gives
@@ -92,7 +95,7 @@ module _ (c : Caller) (s : List ℕ) (b : Block) (behind : List Block) (place : 
   abbrev given : Given
   given = perform c t memory (b .body) (areaOf s b) (dataOf s b)
 
-  run-refused : (why : Refusal) → given ≡ refused why → run c s (b ∷ behind) place t memory ≡ record { status = statusOf why; tables = t; memory = memory; blocks = refusedBlock }
+  run-refused : (why : Refusal) → given ≡ refused why → run c s (b ∷ behind) place t memory ≡ record { status = statusOf why; holder = holderOf why; tables = t; memory = memory; blocks = refusedBlock }
   unfolding run afterGiven
   run-refused why e = rw e
 
@@ -105,7 +108,7 @@ module _ (c : Caller) (s : List ℕ) (b : Block) (behind : List Block) (place : 
 -- blocks in front of blocks in front
 after-after : (x y : List ℕ) (r : Ran) → after x (after y r) ≡ after (x ++ y) r
 unfolding after
-after-after x y r = ap (λ (z : List ℕ). record { status = r .status; tables = r .tables; memory = r .memory; blocks = z }) (sym (append-assoc x y (r .blocks)))
+after-after x y r = ap (λ (z : List ℕ). record { status = r .status; holder = r .holder; tables = r .tables; memory = r .memory; blocks = z }) (sym (append-assoc x y (r .blocks)))
 
 after-nothing : (r : Ran) → after [] r ≡ r
 unfolding after
@@ -113,10 +116,11 @@ after-nothing r = refl
 
 -- ---- how far the loop is
 
--- the chain has been carried out: its status, tables, file memory, and its blocks in the room from 32 on
+-- the chain has been carried out: its status, holder, tables, file memory, and its blocks in the room from 32 on
 module _ (first : List ℕ) (whole : Ran) where
-  pub record Finished (why : Status) (place : ℕ) (t : Tables) (memory room : List ℕ) : Type 0 where
+  pub record Finished (why : Status) (who : HeldBy) (place : ℕ) (t : Tables) (memory room : List ℕ) : Type 0 where
     pub status-is : why ≡ whole .status
+    pub holder-is : who ≡ whole .holder
     pub tables-are : t ≡ whole .tables
     pub memory-is : memory ≡ whole .memory
     pub room-is : room ≡ put first 32 (whole .blocks)
@@ -166,7 +170,7 @@ going-length {first = first} g enough =
     let h = going-place g in
     ap length (g .room-is) ∙ length-put first (g .written) 32 (omega arith)
 
-pub finished-length : {first : List ℕ} {whole : Ran} {why : Status} {place : ℕ} {t : Tables} {memory room : List ℕ} → Finished first whole why place t memory room
+pub finished-length : {first : List ℕ} {whole : Ran} {why : Status} {who : HeldBy} {place : ℕ} {t : Tables} {memory room : List ℕ} → Finished first whole why who place t memory room
     → 32 + length (whole .blocks) ≤ length first → length room ≡ length first
 finished-length {first} {whole} f enough = ap length (f .room-is) ∙ length-put first (whole .blocks) 32 enough
 
@@ -178,10 +182,10 @@ data Kind (a : Answer) (memory : List ℕ) : Type 0 where
   was-done : Says a memory → Kind a memory
 
 kind : (a : Answer) (memory : List ℕ) → inside a ≡ true → length memory ≡ 65536 → Kind a memory
-unfolding givenOf blockOf answerSize replySize statusAfter goesOn inside
+unfolding givenOf blockOf answerSize replySize statusAfter holderLeft goesOn inside
 kind (Refused why) memory i m = was-refused why refl
-kind Locked memory i m = was-done (record { said = locked; given = λ t. refl; block = λ p l. refl; size = refl; status-is = refl; next-is = λ n. refl })
-kind LoggedOff memory i m = was-done (record { said = loggedOff; given = λ t. refl; block = λ p l. refl; size = refl; status-is = refl; next-is = λ n. refl })
+kind Locked memory i m = was-done (record { said = locked; given = λ t. refl; block = λ p l. refl; size = refl; status-is = refl; nobody = refl; next-is = λ n. refl })
+kind LoggedOff memory i m = was-done (record { said = loggedOff; given = λ t. refl; block = λ p l. refl; size = refl; status-is = refl; nobody = refl; next-is = λ n. refl })
 kind (Read place count) memory i m =
     was-done (record {
       said = read (take count (drop place memory));
@@ -189,10 +193,11 @@ kind (Read place count) memory i m =
       block = λ p l. refl;
       size = ap (λ (n : ℕ). 27 + n) (sym (length-yielded memory place count (let h = read-inside (Read place count) place count refl i in omega arith)));
       status-is = refl;
+      nobody = refl;
       next-is = λ n. refl;
     })
-kind (Wrote count) memory i m = was-done (record { said = wrote count; given = λ t. refl; block = λ p l. refl; size = refl; status-is = refl; next-is = λ n. refl })
-kind Plain memory i m = was-done (record { said = plain; given = λ t. refl; block = λ p l. refl; size = refl; status-is = refl; next-is = λ n. refl })
+kind (Wrote count) memory i m = was-done (record { said = wrote count; given = λ t. refl; block = λ p l. refl; size = refl; status-is = refl; nobody = refl; next-is = λ n. refl })
+kind Plain memory i m = was-done (record { said = plain; given = λ t. refl; block = λ p l. refl; size = refl; status-is = refl; nobody = refl; next-is = λ n. refl })
 
 module _ {c : Caller} {s first : List ℕ} {whole : Ran} {command at place : ℕ} {t : Tables} {memory room : List ℕ} (g : Going c s first whole command at place t memory room) (b : Block) (e : parse s command at ≡ Whole b) where
   pub here : Head s command at (g .blocks-left) b
@@ -225,7 +230,7 @@ module _ {c : Caller} {s first : List ℕ} {whole : Ran} {command at place : ℕ
 
   -- what is refused: its block stands behind those written, and the tables and the file memory are as they were
   module _ (why : Refusal) (d : perform c t memory (b .body) (areaOf s b) (dataOf s b) ≡ refused why) where
-    refused-whole : whole ≡ record { status = statusOf why; tables = t; memory = memory; blocks = g .written ++ refusedBlock }
+    refused-whole : whole ≡ record { status = statusOf why; holder = holderOf why; tables = t; memory = memory; blocks = g .written ++ refusedBlock }
     unfolding after
     refused-whole = the-whole ∙ ap (after (g .written)) (run-refused c s b (here .behind) place t memory why d)
 
@@ -265,8 +270,8 @@ module _ {c : Caller} {s first : List ℕ} {whole : Ran} {command at place : ℕ
           ∙ ap (λ (k : ℕ). put (put first 32 (g .written)) k x) p
           ∙ put-then first (g .written) x 32 (omega arith)
 
-      end-kind : Kind a memory′ → goesOn a (b .next) ≡ End → Finished first whole (statusAfter a) (place + answerSize a) t′ memory′ room′
-      unfolding givenOf blockOf answerSize refusedBlock after statusAfter tablesAfter memoryAfter run
+      end-kind : Kind a memory′ → goesOn a (b .next) ≡ End → Finished first whole (statusAfter a) (holderLeft a) (place + answerSize a) t′ memory′ room′
+      unfolding givenOf blockOf answerSize refusedBlock after statusAfter holderLeft tablesAfter memoryAfter run
       end-kind (was-refused why f) stop =
           let p = g .place-is in
           let r : perform c t memory (b .body) (areaOf s b) (dataOf s b) ≡ refused why = meaning ∙ ap (λ (x : Answer). givenOf x t′ memory′) f in
@@ -275,6 +280,7 @@ module _ {c : Caller} {s first : List ℕ} {whole : Ran} {command at place : ℕ
           ap (λ (x : Answer). place + answerSize x) f ∙ (let l = length-append (g .written) refusedBlock in omega arith) in
           record {
             status-is = ap statusAfter f ∙ sym (ap (λ (x : Ran). x .status) w);
+            holder-is = ap holderLeft f ∙ sym (ap (λ (x : Ran). x .holder) w);
             tables-are = tables-left ∙ ap (λ (x : Given). tablesAfter x t) r ∙ sym (ap (λ (x : Ran). x .tables) w);
             memory-is = memory-left ∙ ap (λ (x : Given). memoryAfter x memory) r ∙ sym (ap (λ (x : Ran). x .memory) w);
             room-is = room-then refusedBlock (ap (λ (x : Answer). blockOf x memory′ place (linkFor (b .next) (place + answerSize a))) f) ∙ sym (ap (λ (x : Ran). put first 32 (x .blocks)) w);
@@ -283,12 +289,13 @@ module _ {c : Caller} {s first : List ℕ} {whole : Ran} {command at place : ℕ
       end-kind (was-done k) stop =
           let d : perform c t memory (b .body) (areaOf s b) (dataOf s b) ≡ done t′ memory′ (k .said) = meaning ∙ k .given t′ in
           let last : here .behind ≡ [] = here .ends (sym (k .next-is (b .next)) ∙ stop) in
-          let w : whole ≡ record { status = status 0 0; tables = t′; memory = memory′; blocks = g .written ++ block t′ memory′ (k .said) d } =
+          let w : whole ≡ record { status = status 0 0; holder = Nobody; tables = t′; memory = memory′; blocks = g .written ++ block t′ memory′ (k .said) d } =
           done-whole t′ memory′ (k .said) d
           ∙ ap (λ (bs : List Block). after (g .written ++ block t′ memory′ (k .said) d) (run c s bs (place + replySize (k .said)) t′ memory′)) last
-          ∙ ap (λ (x : List ℕ). record { status = status 0 0; tables = t′; memory = memory′; blocks = x }) (append-nil (g .written ++ block t′ memory′ (k .said) d)) in
+          ∙ ap (λ (x : List ℕ). record { status = status 0 0; holder = Nobody; tables = t′; memory = memory′; blocks = x }) (append-nil (g .written ++ block t′ memory′ (k .said) d)) in
           record {
             status-is = k .status-is ∙ sym (ap (λ (x : Ran). x .status) w);
+            holder-is = k .nobody ∙ sym (ap (λ (x : Ran). x .holder) w);
             tables-are = sym (ap (λ (x : Ran). x .tables) w);
             memory-is = sym (ap (λ (x : Ran). x .memory) w);
             room-is = room-then (block t′ memory′ (k .said) d) (k .block place (linkFor (b .next) (place + answerSize a)) ∙ ap (λ (n : ℕ). replyBlock (k .said) place (linkFor (b .next) (place + n))) (k .size))
@@ -317,7 +324,7 @@ module _ {c : Caller} {s first : List ℕ} {whole : Ran} {command at place : ℕ
           }
 
       -- the chain ends here, with its last block or a refused one
-      pub turn-end : goesOn a (b .next) ≡ End → Finished first whole (statusAfter a) (place + answerSize a) t′ memory′ room′
+      pub turn-end : goesOn a (b .next) ≡ End → Finished first whole (statusAfter a) (holderLeft a) (place + answerSize a) t′ memory′ room′
       turn-end = end-kind (kind a memory′ within size)
 
       -- it goes on with the next block

@@ -1,8 +1,10 @@
 -- What the loop over a chain does after a command. Assumes nothing.
 use Rattle.chain.specs.declared.block.Next.{Next}
 use Rattle.chain.specs.declared.block.Next.the-variants.{End}
-use Rattle.message.specs.Refusal.{status, statusOf}
+use Rattle.message.specs.Refusal.{status, statusOf, holderOf}
 use Rattle.message.specs.declared.refusal.Status.{Status}
+use Rattle.message.specs.declared.refusal.HeldBy.{HeldBy}
+use Rattle.message.specs.declared.refusal.HeldBy.the-variants.{Nobody}
 use Rattle.message.specs.declared.answer.Answer.{Answer}
 use Rattle.message.specs.declared.answer.Answer.the-variants.{Refused, Locked, LoggedOff, Read, Wrote, Plain}
 
@@ -14,6 +16,15 @@ statusAfter LoggedOff = status 0 0
 statusAfter (Read place count) = status 0 0
 statusAfter (Wrote count) = status 0 0
 statusAfter Plain = status 0 0
+
+-- the holder that it names, if it is the last
+unfoldable pub holderLeft : Answer → HeldBy
+holderLeft (Refused why) = holderOf why
+holderLeft Locked = Nobody
+holderLeft LoggedOff = Nobody
+holderLeft (Read place count) = Nobody
+holderLeft (Wrote count) = Nobody
+holderLeft Plain = Nobody
 
 -- "Commands before it in the chain stand; those after it aren't begun": what is carried out next
 unfoldable pub goesOn : Answer → Next → Next

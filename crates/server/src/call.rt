@@ -18,6 +18,7 @@ use host::file::MEMORY;
 use message::answer::Answer;
 use message::caller::Caller;
 use message::link::Link;
+use message::refusal::HeldBy;
 use message::refusal::Refusal;
 use message::refusal::status_of;
 use reply::block::write_block;
@@ -42,17 +43,23 @@ pub const DROPPED: u8 = 1;
 // "reply room 12,292": every reply fits.
 const ROOM: usize = 12292;
 
-// The row, and the reply's length (0 where none was written). The tables are left in the words.
+// The row, the reply's length (0 where none was written), and beside it the holder (document 02, CR 2). The tables are left
+// in the words.
 pub struct Taken {
     pub number: u8,
     pub length: usize,
+    pub holder: HeldBy,
 }
 
 // A refusal by number: nothing is written.
 fn refuse_call(number: u8) -> Taken
     ensures { λ r. ⌜ r ≡ refusal number ⌝ }
 {
-    Taken { number, length: 0 }
+    Taken {
+        number,
+        length: 0,
+        holder: HeldBy::Nobody,
+    }
 }
 
 // Who sends the message.
@@ -85,6 +92,7 @@ fn refuse_message(s: &[u8], why: Refusal, memory: &[u8], room: &mut [u8]) -> Tak
     Taken {
         number: DONE,
         length: SHORTEST,
+        holder: HeldBy::Nobody,
     }
 }
 
@@ -114,9 +122,11 @@ fn answer_message(
     }
     let ended = run_chain(caller_of(connection, s), s, words, memory, room);
     write_header(s, ended.status, room);
+    let holder = ended.holder;
     Taken {
         number: DONE,
         length: ended.length,
+        holder,
     }
 }
 

@@ -2,10 +2,12 @@
 
 use chain::block::Next;
 use message::answer::Answer;
+use message::refusal::HeldBy;
 use message::refusal::Status;
+use message::refusal::holder_of;
 use message::refusal::status_of;
 ghost use mathlib.Core.Path.{_≡_};
-ghost use Rattle.server.specs.Step.{statusAfter, goesOn};
+ghost use Rattle.server.specs.Step.{statusAfter, holderLeft, goesOn};
 
 // The status that an answer leaves in the header, if it is the last: 0/0 unless it is a refusal.
 pub(crate) fn status_after(a: Answer) -> Status
@@ -14,6 +16,16 @@ pub(crate) fn status_after(a: Answer) -> Status
     match a {
         Answer::Refused(why) => status_of(why),
         _ => Status { class: 0, code: 0 },
+    }
+}
+
+// The holder that an answer names, if it is the last: nobody unless it is a refusal for conflict.
+pub(crate) fn holder_left(a: Answer) -> HeldBy
+    ensures { λ r. ⌜ r ≡ holderLeft a ⌝ }
+{
+    match a {
+        Answer::Refused(why) => holder_of(why),
+        _ => HeldBy::Nobody,
     }
 }
 

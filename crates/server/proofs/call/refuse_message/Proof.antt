@@ -11,6 +11,7 @@ use lib.ListN.{length, length-take, length-drop}
 use Rattle.lists.specs.Put.{put}
 use Rattle.lists.specs.PutLaws.{put-part}
 use Rattle.message.specs.declared.refusal.Status.{Status}
+use Rattle.message.specs.declared.refusal.HeldBy.the-variants.{Nobody}
 use Rattle.message.specs.Refusal.{statusOf}
 use Rattle.message.specs.Reply.{replyHeader, refusedBlock}
 use Rattle.message.specs.Given.{inside, blockOf, answerSize}
@@ -54,7 +55,7 @@ returns c =
     let write-header = c .before .before .write-header in
     let long : 35 ≤ length (args .s .now) = pre .0 in
     let enough : 12292 ≤ length (args .room .now) = pre .1 .1 in
-    finish (args .s .now) (args .room .now) (onlyStatus (statusOf (args .why)) t (args .memory .now)) (statusOf (args .why)) 35 t (args .memory .now) (put (args .room .now) 32 refusedBlock) (write-header .last .1 .1 .0) (refused-finished (args .room .now) (statusOf (args .why)) t (args .memory .now))
+    finish (args .s .now) (args .room .now) (onlyStatus (statusOf (args .why)) t (args .memory .now)) (statusOf (args .why)) Nobody 35 t (args .memory .now) (put (args .room .now) 32 refusedBlock) (write-header .last .1 .1 .0) (refused-finished (args .room .now) (statusOf (args .why)) t (args .memory .now))
     (write-header .ensures
     ∙ ap (λ (x : List ℕ). put x 0 (replyHeader (args .s .now) (status-of .result)))
     (put-part (args .room .now) refusedBlock (write-block .last .1 .1 .1 .1 .0) 32 (length (args .room .now)) (omega arith) (omega arith) (write-block .ensures))

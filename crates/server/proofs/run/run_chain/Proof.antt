@@ -60,23 +60,26 @@ enum-told c = search needs
 status-after-requires : tie.Need-status-after-requires Inv-loop μ-loop
 status-after-requires c κs = search needs
 
+holder-left-requires : tie.Need-holder-left-requires Inv-loop μ-loop
+holder-left-requires c κs = search needs
+
 same-length : tie.Need-same-length Inv-loop μ-loop
-same-length c = c .before .before .before .before .before .before .before .before .before .before .before .before .before .perform-block .kept .1 .0 ∙ c .before .before .before .before .before .before .before .before .before .before .before .before .before .before .before .before .before .loop .inv .1 .long ∙ sym (c .before .before .before .before .before .before .before .before .before .before .before .before .before .before .before .before .before .before .before .before .before .before .before .pre .0)
+same-length c = c .before .before .before .before .before .before .before .before .before .before .before .before .before .before .perform-block .kept .1 .0 ∙ c .before .before .before .before .before .before .before .before .before .before .before .before .before .before .before .before .before .before .loop .inv .1 .long ∙ sym (c .before .before .before .before .before .before .before .before .before .before .before .before .before .before .before .before .before .before .before .before .before .before .before .before .pre .0)
 
 same-length-2 : tie.Need-same-length-2 Inv-loop μ-loop
-same-length-2 c = c .before .before .before .before .before .before .before .before .before .before .before .before .before .perform-block .kept .1 .1 .1 .1 .0 ∙ c .before .before .before .before .before .before .before .before .before .before .before .before .before .before .before .before .before .loop .inv .0 .going .memory-size ∙ sym (c .before .before .before .before .before .before .before .before .before .before .before .before .before .before .before .before .before .before .before .before .before .before .before .pre .1 .1 .0)
+same-length-2 c = c .before .before .before .before .before .before .before .before .before .before .before .before .before .before .perform-block .kept .1 .1 .1 .1 .0 ∙ c .before .before .before .before .before .before .before .before .before .before .before .before .before .before .before .before .before .before .loop .inv .0 .going .memory-size ∙ sym (c .before .before .before .before .before .before .before .before .before .before .before .before .before .before .before .before .before .before .before .before .before .before .before .before .pre .1 .1 .0)
 
 same-length-3 : tie.Need-same-length-3 Inv-loop μ-loop
-same-length-3 c = c .before .before .before .before .before .before .add-block .kept .1 .1 .1 .1 .0 ∙ turn-length (c .before .before .before .before .before .before .before .before .before .before .before .before .before .before .before .before .before .loop .inv .0)
+same-length-3 c = c .before .before .before .before .before .before .before .add-block .kept .1 .1 .1 .1 .0 ∙ turn-length (c .before .before .before .before .before .before .before .before .before .before .before .before .before .before .before .before .before .before .loop .inv .0)
 
 returns : tie.Need-returns Inv-loop μ-loop
 returns c =
-    let inv = c .before .before .before .before .before .before .before .before .before .before .before .before .before .before .before .before .before .loop .inv in
-    let block = c .before .before .before .before .before .before .before .before .before .before .before .before .before .before .before .before .fields-at in
-    let done = c .before .before .before .before .before .before .before .before .before .before .before .before .before .perform-block in
+    let inv = c .before .before .before .before .before .before .before .before .before .before .before .before .before .before .before .before .before .before .loop .inv in
+    let block = c .before .before .before .before .before .before .before .before .before .before .before .before .before .before .before .before .before .fields-at in
+    let done = c .before .before .before .before .before .before .before .before .before .before .before .before .before .before .perform-block in
     let size = done .kept .1 .1 .1 .1 .0 ∙ inv .0 .going .memory-size in
-    let add-block = c .before .before .before .before .before .before .add-block in (
-      rw (c .status-after .ensures, add-block .ensures .0) (turn-ends (inv .0) (block .result) (sym (block .ensures)) (performed (done .result) (tablesOf (done .last .1 .0))) (done .last .1 .1 .1 .1 .0) (done .ensures .0) size (add-block .last .1 .1 .1 .1 .0) (add-block .ensures .1) (sym (c .before .before .before .goes-on .ensures) ∙ c .before .enum-told .given .1)),
+    let add-block = c .before .before .before .before .before .before .before .add-block in (
+      rw (c .before .status-after .ensures, c .holder-left .ensures, add-block .ensures .0) (turn-ends (inv .0) (block .result) (sym (block .ensures)) (performed (done .result) (tablesOf (done .last .1 .0))) (done .last .1 .1 .1 .1 .0) (done .ensures .0) size (add-block .last .1 .1 .1 .1 .0) (add-block .ensures .1) (sym (c .before .before .before .before .goes-on .ensures) ∙ c .before .before .enum-told .given .1)),
       λ f. done .ensures .1 (inv .1 .fit f),
     )
 
@@ -113,6 +116,7 @@ run-chain-spec =
     enum-known-then
     enum-told
     status-after-requires
+    holder-left-requires
     same-length
     same-length-2
     same-length-3
