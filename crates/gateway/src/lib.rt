@@ -3,9 +3,11 @@
 
 mod argument;
 pub mod byte_stream;
+mod holder;
 
 use crate::argument::to_number;
 use crate::argument::to_small;
+use crate::holder::put_holder;
 use host::answer::DONE;
 use host::connection::drop_connection;
 use host::empty::empty_words;
@@ -19,7 +21,7 @@ ghost use mathlib.Core.Bool.{true};
 ghost use Rattle.host.specs.HostCall.{noTables};
 ghost use lib.ListN.{replicate};
 ghost use Rattle.tables.specs.Words.{tablesOf};
-ghost use Rattle.boundary.specs.Boundary.{numberOf, idAfter, sessionAdded, treeAdded, openAdded, connectionDropped, fileLoaded, loadNumberOf, memoryAfter, messageTaken, lengthAfter, ready, ForNext};
+ghost use Rattle.boundary.specs.Boundary.{numberOf, idAfter, sessionAdded, treeAdded, openAdded, connectionDropped, fileLoaded, loadNumberOf, memoryAfter, messageTaken, lengthAfter, holderAfter, ready, ForNext};
 
 // Tables to start from.
 #[no_mangle]
@@ -144,7 +146,8 @@ pub extern "C" fn gateway_drop_connection(tables: &mut [u64; 1172], connection: 
     DONE
 }
 
-// A request message of a connection. The reply goes to the start of the room, its length to written.
+// A request message of a connection. The reply goes to the start of the room, its length to written, and who holds the lock in its way
+// to holder.
 #[no_mangle]
 pub extern "C" fn gateway_take_message(
     tables: &mut [u64; 1172],
@@ -153,11 +156,13 @@ pub extern "C" fn gateway_take_message(
     memory: &mut [u8],
     room: &mut [u8],
     written: &mut usize,
+    holder: &mut [u64; 6],
 ) -> u8
     ensures { λ r. ⌜ r ≡ messageTaken connection (now (message .entry)) (now (tables .entry)) (now (memory .entry)) (now (room .entry)) .number ⌝ }
     ensures { λ _. ⌜ now (memory .exit) ≡ messageTaken connection (now (message .entry)) (now (tables .entry)) (now (memory .entry)) (now (room .entry)) .memory ⌝ }
     ensures { λ _. ⌜ now (room .exit) ≡ messageTaken connection (now (message .entry)) (now (tables .entry)) (now (memory .entry)) (now (room .entry)) .room ⌝ }
     ensures { λ _. ⌜ now (written .exit) ≡ lengthAfter (now (written .entry)) (messageTaken connection (now (message .entry)) (now (tables .entry)) (now (memory .entry)) (now (room .entry))) ⌝ }
+    ensures { λ _. ⌜ now (holder .exit) ≡ holderAfter (now (holder .entry)) (messageTaken connection (now (message .entry)) (now (tables .entry)) (now (memory .entry)) (now (room .entry))) ⌝ }
     ensures { λ r. ⌜ ForNext (now (tables .entry)) (now (tables .exit)) r (messageTaken connection (now (message .entry)) (now (tables .entry)) (now (memory .entry)) (now (room .entry)) .tables) ⌝ }
 {
     let taken = take_message(connection, message, tables, memory, room);
@@ -166,5 +171,7 @@ pub extern "C" fn gateway_take_message(
         return number;
     }
     *written = taken.length;
+    let who = taken.holder;
+    put_holder(who, holder);
     DONE
 }
