@@ -14,3 +14,5 @@ pub mod StreamStates
 pub mod StreamReasons
 pub mod StreamBack
 pub mod StreamCases
+pub mod YesOrNo
+pub mod BeforeHolder

@@ -1,0 +1,230 @@
+-- Document 02, CR 2: "The reply bytes do not change." What a message gives, the holder left out, is what it gives where a conflict is yes or no
+-- (YesOrNo.antt): number, reply, tables and files, of every message. Assumes nothing.
+use mathlib.Core.Path.{_≡_, refl, _∙_, ap}
+use Prim.Native.Nat.{ℕ, suc, _+_, _*_}
+use mathlib.Core.Bool.{Bool, true, false, cond, not, _||_}
+use mathlib.Core.List.{List, [], _∷_, _++_}
+use mathlib.Core.Option.{Option, none, some}
+use lib.ListN.{length, getD}
+use lib.Dec.{leb, ltb, eqb}
+use Rattle.lists.specs.Walk.{any, foundFrom, found}
+use Rattle.lists.specs.declared.Found.{Found}
+use Rattle.lists.specs.declared.Found.the-variants.{At, Nothing}
+use Rattle.records.specs.declared.Lock.{Lock}
+use Rattle.records.specs.declared.Open.{Open}
+use Rattle.records.specs.declared.Tables.{Tables}
+use Rattle.records.specs.Empty.{noOpen}
+use Rattle.records.specs.Held.{sessionsOf, treesOf, opensOf, locksOf, withLocks}
+use Rattle.locks.specs.Answer.{answers}
+use Rattle.locks.specs.Wire.{rangeSize, rangesAt}
+use Rattle.locks.specs.Request.{askOf, lockOf, releaseAll, afterWalk, grantAll, Result, afterGrants, rangePasses, afterReleases, request, settle, locking}
+use Rattle.locks.specs.declared.types.Ask.{Ask}
+use Rattle.locks.specs.declared.types.LockRange.{LockRange}
+use Rattle.locks.specs.declared.types.Request.{Request}
+use Rattle.locks.specs.declared.types.Purpose.the-variants.{Grant, Read as Reading, Write as Writing}
+use Rattle.soundness.specs.File.{fileOf}
+use Rattle.soundness.specs.Lookup.{isTree}
+use Rattle.soundness.specs.Sound.{sound}
+use Rattle.chain.specs.Layout.{headerCommand, FIRST}
+use Rattle.chain.specs.Header.{dropped}
+use Rattle.chain.specs.Chain.{blocks}
+use Rattle.chain.specs.declared.block.LockingFields.{LockingFields}
+use Rattle.chain.specs.declared.block.ReadFields.{ReadFields}
+use Rattle.chain.specs.declared.block.WriteFields.{WriteFields}
+use Rattle.chain.specs.declared.block.Body.{Body}
+use Rattle.chain.specs.declared.block.Body.the-variants.{Locking as LockingBody, Read as ReadBody, Write as WriteBody, Close, Logoff, TreeDisconnect, ProcessExit}
+use Rattle.chain.specs.declared.block.Block.{Block}
+use Rattle.message.specs.Caller.{callerOf}
+use Rattle.message.specs.declared.caller.Caller.{Caller}
+use Rattle.message.specs.Refusal.{status, statusOf}
+use Rattle.message.specs.Command.{Given, refused, done, isSession, withSession, withTree, isOpen, openAt, withOpen, servedType, requestOf, withLockList, lockingEnd, lockingAfter, doLocking, askBy, unlessBarred, barring, doRead, endsPast, doWrite, perform}
+use Rattle.message.specs.Message.{areaOf, dataOf, linkTo, Ran, after, afterGiven, run, served, onlyStatus, runChain, answered, replyOf, Taken, notTaken, replied, take-message}
+use Rattle.message.specs.Reply.{replyBlock, replySize}
+use Rattle.claims.specs.YesOrNo.{Gave, refusedWith, onward, grantsBefore, afterReleasesBefore, requestBefore, lockingBefore, unlessConflict, readBefore, writeBefore, plainly, performBefore, RanBefore, refusedBefore, inFront, afterGave, runBefore, chainBefore, answeredBefore, TakenBefore, untaken, repliedBefore, takeBefore}
+
+-- what the call gives back, the holder left out
+unfoldable pub withoutHolder : Taken → TakenBefore
+withoutHolder k = record { number = k .number; length = k .length; tables = k .tables; memory = k .memory; room = k .room }
+
+-- what a chain leaves, the holder left out
+unfoldable ranWithout : Ran → RanBefore
+ranWithout r = record { status = r .status; tables = r .tables; memory = r .memory; blocks = r .blocks }
+
+-- the same choice, before a function and behind it
+chosen : {A B : Type 0} (f : A → B) (b : Bool) {x y : B} {u v : A} → x ≡ f u → y ≡ f v → cond b x y ≡ f (cond b u v)
+chosen f true p q = p
+chosen f false p q = q
+
+-- ---- a conflict
+
+-- whether a place is given
+unfoldable isAt : Found → Bool
+isAt (At k) = true
+isAt Nothing = false
+
+-- an element in front of the others
+at-first : (b : Bool) (k : ℕ) (f : Found) (others : Bool) → isAt f ≡ others → isAt (cond b (At k) f) ≡ (b || others)
+unfolding isAt
+at-first true k f others e = refl
+at-first false k f others e = e
+
+module _ {A : Type 0} where
+  from-any : (k : ℕ) (p : A → Bool) (xs : List A) → isAt (foundFrom k p xs) ≡ any p xs
+  unfolding foundFrom any isAt
+  from-any k p [] = refl
+  from-any k p (x ∷ xs) = at-first (p x) k (foundFrom (suc k) p xs) (any p xs) (from-any (suc k) p xs)
+
+  -- a place is found exactly if some element passes
+  found-any : (p : A → Bool) (xs : List A) → isAt (found p xs) ≡ any p xs
+  unfolding found
+  found-any p xs = from-any 0 p xs
+
+-- "instead of yes or no, the place of the first conflicting lock": what is made of a place is 1/33, and what is made of none is what follows a no
+conflict-before : (t : Tables) (q : Ask) (list : List Lock) (x : Gave) (f : Found → Gave)
+    → ((k : ℕ) → refusedWith (status 1 33) ≡ f (At k)) → x ≡ f Nothing
+    → unlessConflict t q list x ≡ f (found (answers (fileOf (opensOf t)) q) list)
+unfolding unlessConflict isAt
+conflict-before t q list x f there clear =
+    by-place (found (answers (fileOf (opensOf t)) q) list) (any (answers (fileOf (opensOf t)) q) list) (found-any (answers (fileOf (opensOf t)) q) list)
+  where
+    by-place : (place : Found) (b : Bool) → isAt place ≡ b → cond b (refusedWith (status 1 33)) x ≡ f place
+    by-place (At k) b e = rw (← e) (there k)
+    by-place Nothing b e = rw (← e) clear
+
+-- ---- LOCKING
+
+module _ (t : Tables) (memory : List ℕ) where
+  -- what a request's result gives
+  unfoldable resultGives : Result → Gave
+  resultGives r = plainly (lockingAfter t memory (settle (t .locks) (t .nlocks) r))
+
+  -- its ranges, one after the other
+  grants-before : (fid : ℕ) (shared : Bool) (rs : List LockRange) (list : List Lock)
+      → grantsBefore t memory fid shared rs list ≡ resultGives (afterGrants (grantAll (fileOf (opensOf t)) fid shared rs list))
+  unfolding grantsBefore grantAll afterGrants afterWalk resultGives plainly onward lockingAfter settle lockingEnd withLockList withLocks statusOf
+  grants-before fid shared [] list = chosen resultGives (leb (length list) 128) refl refl
+  grants-before fid shared (r ∷ rs) list =
+      conflict-before t (askOf fid (Grant shared) r) list _
+      (λ (f : Found). resultGives (afterGrants (afterWalk f list (grantAll (fileOf (opensOf t)) fid shared rs (list ++ (lockOf fid shared r ∷ []))))))
+      (λ k. refl) (grants-before fid shared rs (list ++ (lockOf fid shared r ∷ [])))
+
+  -- behind its unlocks
+  releases-before : (fid : ℕ) (shared : Bool) (locks : List LockRange) (o : Option (List Lock))
+      → afterReleasesBefore t memory fid shared locks o ≡ resultGives (afterReleases (fileOf (opensOf t)) fid shared locks o)
+  unfolding afterReleasesBefore afterReleases resultGives plainly onward lockingAfter settle lockingEnd statusOf
+  releases-before fid shared locks none = refl
+  releases-before fid shared locks (some list) = chosen resultGives (any rangePasses locks) refl (grants-before fid shared locks list)
+
+  -- the request as a whole
+  request-before : (q : Request) (area : List ℕ)
+      → requestBefore t memory q area ≡ plainly (lockingAfter t memory (locking (fileOf (opensOf t)) (t .locks) (t .nlocks) q area))
+  unfolding requestBefore locking request resultGives plainly onward lockingAfter settle lockingEnd statusOf
+  request-before q area =
+      chosen resultGives (eqb (length area) ((q .unlocks + q .locks) * rangeSize (q .large)))
+      (releases-before (q .fid) (q .shared) (rangesAt (q .large) area (q .unlocks) (q .locks))
+      (releaseAll (fileOf (opensOf t)) (q .fid) (rangesAt (q .large) area 0 (q .unlocks)) (locksOf t)))
+      refl
+
+-- ---- who may ask
+
+module _ (k : Gave → Gave) where
+  -- a choice before what follows
+  on-choice : (b : Bool) (u v x y : Given) → onward u k ≡ plainly x → onward v k ≡ plainly y → onward (cond b u v) k ≡ plainly (cond b x y)
+  on-choice true u v x y p q = p
+  on-choice false u v x y p q = q
+
+  on-open-at : (f : Found) (opens : List Open) (x y : Open → Given) → ((o : Open) → onward (x o) k ≡ plainly (y o))
+      → onward (openAt f opens x) k ≡ plainly (openAt f opens y)
+  unfolding onward plainly openAt
+  on-open-at (At j) opens x y e = e (getD opens j noOpen)
+  on-open-at Nothing opens x y e = refl
+
+  -- the tests of a command on an open, before what follows
+  on-open : (c : Caller) (t : Tables) (fid : ℕ) (x y : Open → Given) → ((o : Open) → onward (x o) k ≡ plainly (y o))
+      → onward (withOpen c t fid x) k ≡ plainly (withOpen c t fid y)
+  unfolding withOpen withTree withSession onward plainly
+  on-open c t fid x y e =
+      on-choice (any (isSession c) (sessionsOf t)) _ _ _ _
+      (on-choice (any (isTree (c .tid) (c .uid)) (treesOf t)) _ _ _ _ (on-open-at (found (isOpen c fid) (opensOf t)) (opensOf t) x y e) refl) refl
+
+module _ (c : Caller) (t : Tables) (memory : List ℕ) where
+  locking-before : (f : LockingFields) (area : List ℕ) → lockingBefore c t memory f area ≡ plainly (doLocking c t memory f area)
+  unfolding lockingBefore doLocking onward plainly
+  locking-before f area =
+      on-open _ c t (f .fid) _ _ (λ o. on-choice _ (servedType (f .kind)) _ _ _ _ (request-before t memory (requestOf f) area) refl)
+
+  -- ---- reading and writing
+
+  -- a read or a write against the locks
+  transfer-before : (q : Ask) (x : Gave) (y : Given) → x ≡ plainly y → unlessConflict t q (locksOf t) x ≡ plainly (unlessBarred t (barring t q) y)
+  unfolding unlessBarred barring plainly onward statusOf
+  transfer-before q x y h = conflict-before t q (locksOf t) x (λ (f : Found). plainly (unlessBarred t f y)) (λ k. refl) h
+
+  read-before : (f : ReadFields) → readBefore c t memory f ≡ plainly (doRead c t memory f)
+  unfolding readBefore doRead onward plainly
+  read-before f =
+      on-open _ c t (f .fid) _ _
+      (λ o. on-choice _ (eqb (o .access) 1) _ _ _ _ refl (transfer-before (askBy c (f .fid) (f .offset) (f .max) Reading) _ _ refl))
+
+  write-before : (f : WriteFields) (bytes : List ℕ) → writeBefore c t memory f bytes ≡ plainly (doWrite c t memory f bytes)
+  unfolding writeBefore doWrite onward plainly statusOf
+  write-before f bytes =
+      on-open _ c t (f .fid) _ _
+      (λ o. on-choice _ (eqb (o .access) 0) _ _ _ _ refl
+      (transfer-before (askBy c (f .fid) (f .offset) (f .count) Writing) _ _ (chosen plainly (endsPast (f .offset) (f .count)) refl refl)))
+
+  -- every command
+  perform-before : (b : Body) (area bytes : List ℕ) → performBefore c t memory b area bytes ≡ plainly (perform c t memory b area bytes)
+  unfolding performBefore perform
+  perform-before (LockingBody f) area bytes = locking-before f area
+  perform-before (ReadBody f) area bytes = read-before f
+  perform-before (WriteBody f) area bytes = write-before f bytes
+  perform-before (Close fid) area bytes = refl
+  perform-before Logoff area bytes = refl
+  perform-before TreeDisconnect area bytes = refl
+  perform-before ProcessExit area bytes = refl
+
+-- ---- a message
+
+-- a command's end, and the commands behind it
+given-before : (g : Given) (bs : List Block) (place : ℕ) (t : Tables) (memory : List ℕ) (x : ℕ → Tables → List ℕ → RanBefore)
+    (y : ℕ → Tables → List ℕ → Ran) → ((p : ℕ) (u : Tables) (m : List ℕ) → x p u m ≡ ranWithout (y p u m))
+    → afterGave (plainly g) bs place t memory x ≡ ranWithout (afterGiven g bs place t memory y)
+unfolding afterGave afterGiven plainly onward ranWithout refusedBefore inFront after
+given-before (refused why) bs place t memory x y e = refl
+given-before (done u m said) bs place t memory x y e =
+    ap (inFront (replyBlock said place (linkTo bs (place + replySize said)))) (e (place + replySize said) u m)
+
+-- "command by command"
+run-before : (c : Caller) (s : List ℕ) (bs : List Block) (place : ℕ) (t : Tables) (memory : List ℕ)
+    → runBefore c s bs place t memory ≡ ranWithout (run c s bs place t memory)
+unfolding runBefore run ranWithout
+run-before c s [] place t memory = refl
+run-before c s (b ∷ bs) place t memory =
+    rw (perform-before c t memory (b .body) (areaOf s b) (dataOf s b))
+    (given-before (perform c t memory (b .body) (areaOf s b) (dataOf s b)) bs place t memory _ _ (λ p u m. run-before c s bs p u m))
+
+chain-before : (c : Caller) (s : List ℕ) (o : Option (List Block)) (t : Tables) (memory : List ℕ)
+    → chainBefore c s o t memory ≡ ranWithout (runChain c s o t memory)
+unfolding chainBefore runChain onlyStatus refusedBefore ranWithout statusOf
+chain-before c s none t memory = refl
+chain-before c s (some bs) t memory = run-before c s bs FIRST t memory
+
+answered-before : (connection : ℕ) (s : List ℕ) (t : Tables) (memory : List ℕ)
+    → answeredBefore connection s t memory ≡ ranWithout (answered connection s t memory)
+unfolding answeredBefore answered onlyStatus refusedBefore ranWithout statusOf
+answered-before connection s t memory = chosen ranWithout (served (headerCommand s)) (chain-before (callerOf connection s) s (blocks s) t memory) refl
+
+replied-before : (s room : List ℕ) (r : Ran) → repliedBefore s room (ranWithout r) ≡ withoutHolder (replied s room r)
+unfolding repliedBefore ranWithout withoutHolder replied replyOf
+replied-before s room r = refl
+
+-- "The reply bytes do not change": nor do the number, the tables and the files
+pub before-holder : (connection : ℕ) (s : List ℕ) (t : Tables) (memory room : List ℕ)
+    → takeBefore connection s t memory room ≡ withoutHolder (take-message connection s t memory room)
+unfolding takeBefore take-message untaken notTaken withoutHolder
+before-holder connection s t memory room =
+    chosen withoutHolder (ltb (length room) 12292 || not (eqb (length memory) 65536)) refl
+    (chosen withoutHolder (not (sound t)) refl
+    (chosen withoutHolder (dropped s) refl
+    (ap (repliedBefore s room) (answered-before connection s t memory) ∙ replied-before s room (answered connection s t memory))))

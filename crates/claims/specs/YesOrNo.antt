@@ -1,0 +1,177 @@
+-- What a message gives by document 01 alone, where a conflict is yes or no: no holder, no place. What CR 2 of document 02 moved is restated here, all
+-- else is cited. Assumes nothing.
+use Prim.Native.Nat.{ℕ, _+_, _*_}
+use mathlib.Core.Bool.{Bool, cond, not, _||_}
+use mathlib.Core.List.{List, [], _∷_, _++_}
+use mathlib.Core.Option.{Option, none, some}
+use lib.ListN.{length}
+use lib.Dec.{leb, ltb, eqb}
+use Rattle.lists.specs.Walk.{any}
+use Rattle.lists.specs.Put.{put}
+use Rattle.records.specs.declared.Lock.{Lock}
+use Rattle.records.specs.declared.Tables.{Tables}
+use Rattle.records.specs.Held.{opensOf, locksOf, withLocks}
+use Rattle.locks.specs.Answer.{answers}
+use Rattle.locks.specs.Wire.{rangeSize, rangesAt}
+use Rattle.locks.specs.Request.{askOf, lockOf, releaseAll, rangePasses}
+use Rattle.locks.specs.declared.types.Ask.{Ask}
+use Rattle.locks.specs.declared.types.LockRange.{LockRange}
+use Rattle.locks.specs.declared.types.Request.{Request}
+use Rattle.locks.specs.declared.types.Purpose.the-variants.{Grant, Read as Reading, Write as Writing}
+use Rattle.soundness.specs.File.{fileOf}
+use Rattle.soundness.specs.Sound.{sound}
+use Rattle.chain.specs.Layout.{headerCommand, FIRST}
+use Rattle.chain.specs.Header.{dropped}
+use Rattle.chain.specs.Chain.{blocks}
+use Rattle.chain.specs.declared.block.LockingFields.{LockingFields}
+use Rattle.chain.specs.declared.block.ReadFields.{ReadFields}
+use Rattle.chain.specs.declared.block.WriteFields.{WriteFields}
+use Rattle.chain.specs.declared.block.Body.{Body}
+use Rattle.chain.specs.declared.block.Body.the-variants.{Locking as LockingBody, Read as ReadBody, Write as WriteBody, Close, Logoff, TreeDisconnect, ProcessExit}
+use Rattle.chain.specs.declared.block.Block.{Block}
+use Rattle.message.specs.Caller.{callerOf}
+use Rattle.message.specs.declared.caller.Caller.{Caller}
+use Rattle.message.specs.Contents.{readBytes, written, resized}
+use Rattle.message.specs.Refusal.{status, statusOf}
+use Rattle.message.specs.declared.refusal.Status.{Status}
+use Rattle.message.specs.declared.refusal.Refusal.the-variants.{NoAccess, LockType}
+use Rattle.message.specs.Command.{Said, locked, read, wrote, Given, refused, done, withOpen, servedType, requestOf, askBy, endsPast, perform}
+use Rattle.message.specs.Message.{areaOf, dataOf, linkTo, served}
+use Rattle.message.specs.Reply.{replyHeader, replyBlock, refusedBlock, replySize}
+
+-- a command refused with a Status, or done: the tables and the file memory it leaves, and what it says
+pub data Gave : Type 0 where
+  refusedWith : Status → Gave
+  did : Tables → List ℕ → Said → Gave
+
+-- "Order: as written": a refusal that comes before a conflict stands, by its Status; where there is none, the command's end goes on to what follows
+unfoldable pub onward : Given → (Gave → Gave) → Gave
+onward (refused why) next = refusedWith (statusOf why)
+onward (done t memory said) next = next (did t memory said)
+
+-- "1/33 lock conflict": some listed lock stands in the way, yes or no
+unfoldable pub unlessConflict : Tables → Ask → List Lock → Gave → Gave
+unlessConflict t q list next = cond (any (answers (fileOf (opensOf t)) q) list) (refusedWith (status 1 33)) next
+
+-- ---- LOCKING
+
+-- "Then locks in order, each against the list as it stands, the asker's own locks included, however long it gets; 1/8 exactly if over 128 would then
+-- be held."
+unfoldable pub grantsBefore : Tables → List ℕ → ℕ → Bool → List LockRange → List Lock → Gave
+grantsBefore t memory fid shared [] list = cond (leb (length list) 128) (did (withLocks t list) memory locked) (refusedWith (status 1 8))
+grantsBefore t memory fid shared (r ∷ rs) list =
+    unlessConflict t (askOf fid (Grant shared) r) list (grantsBefore t memory fid shared rs (list ++ (lockOf fid shared r ∷ [])))
+
+-- "1/158 no such lock to release; 1/87 lock range passes 2^64"
+unfoldable pub afterReleasesBefore : Tables → List ℕ → ℕ → Bool → List LockRange → Option (List Lock) → Gave
+afterReleasesBefore t memory fid shared locks none = refusedWith (status 1 158)
+afterReleasesBefore t memory fid shared locks (some list) =
+    cond (any rangePasses locks) (refusedWith (status 1 87)) (grantsBefore t memory fid shared locks list)
+
+-- "Unlocks go first, in order": the bytes are "(unlocks + locks) × 10, or × 20 with type bit 0x10"
+unfoldable pub requestBefore : Tables → List ℕ → Request → List ℕ → Gave
+requestBefore t memory q area =
+    cond (eqb (length area) ((q .unlocks + q .locks) * rangeSize (q .large)))
+    (afterReleasesBefore t memory (q .fid) (q .shared) (rangesAt (q .large) area (q .unlocks) (q .locks))
+    (releaseAll (fileOf (opensOf t)) (q .fid) (rangesAt (q .large) area 0 (q .unlocks)) (locksOf t)))
+    (refusedWith (status 2 1))
+
+-- from "2/91 no session" to "2/65535 lock type bit other than 0x01 and 0x10", then the request
+unfoldable pub lockingBefore : Caller → Tables → List ℕ → LockingFields → List ℕ → Gave
+lockingBefore c t memory f area =
+    onward (withOpen c t (f .fid) (λ o. cond (servedType (f .kind)) (done t memory locked) (refused LockType)))
+    (λ _. requestBefore t memory (requestOf f) area)
+
+-- ---- reading and writing
+
+-- "A read is refused 1/33 exactly if an exclusive lock of another owner overlaps offset and max."
+unfoldable pub readBefore : Caller → Tables → List ℕ → ReadFields → Gave
+readBefore c t memory f =
+    onward
+    (withOpen c t (f .fid) (λ o. cond (eqb (o .access) 1) (refused NoAccess) (done t memory (read (readBytes t memory (o .file) (f .offset) (f .max))))))
+    (λ end. unlessConflict t (askBy c (f .fid) (f .offset) (f .max) Reading) (locksOf t) end)
+
+-- "A write is refused 1/33 exactly if any lock overlaps it save the writer's own exclusive ones." "class 3, code 39, write would end past 4,096"
+unfoldable pub writeBefore : Caller → Tables → List ℕ → WriteFields → List ℕ → Gave
+writeBefore c t memory f bytes =
+    onward
+    (withOpen c t (f .fid)
+    (λ o.
+    cond (eqb (o .access) 0) (refused NoAccess)
+    (done (resized t (o .file) (f .offset) (f .count)) (written t memory (o .file) (f .offset) bytes) (wrote (f .count)))))
+    (λ end.
+    unlessConflict t (askBy c (f .fid) (f .offset) (f .count) Writing) (locksOf t)
+    (cond (endsPast (f .offset) (f .count)) (refusedWith (status 3 39)) end))
+
+-- ---- a message
+
+-- the other commands meet no lock: what they give, a refusal by its Status
+unfoldable pub plainly : Given → Gave
+plainly given = onward given (λ end. end)
+
+unfoldable pub performBefore : Caller → Tables → List ℕ → Body → List ℕ → List ℕ → Gave
+performBefore c t memory (LockingBody f) area bytes = lockingBefore c t memory f area
+performBefore c t memory (ReadBody f) area bytes = readBefore c t memory f
+performBefore c t memory (WriteBody f) area bytes = writeBefore c t memory f bytes
+performBefore c t memory (Close fid) area bytes = plainly (perform c t memory (Close fid) area bytes)
+performBefore c t memory Logoff area bytes = plainly (perform c t memory Logoff area bytes)
+performBefore c t memory TreeDisconnect area bytes = plainly (perform c t memory TreeDisconnect area bytes)
+performBefore c t memory ProcessExit area bytes = plainly (perform c t memory ProcessExit area bytes)
+
+-- what a chain leaves: its status, the tables, the file memory, and the reply blocks
+pub record RanBefore : Type 0 where
+  pub status : Status
+  pub tables : Tables
+  pub memory : List ℕ
+  pub blocks : List ℕ
+
+-- "A refused command or message gives WordCount 0 and ByteCount 0, and Status stands in the header."
+unfoldable pub refusedBefore : Status → Tables → List ℕ → RanBefore
+refusedBefore why t memory = record { status = why; tables = t; memory = memory; blocks = refusedBlock }
+
+-- "Blocks stand end to end"
+unfoldable pub inFront : List ℕ → RanBefore → RanBefore
+inFront bytes r = record { status = r .status; tables = r .tables; memory = r .memory; blocks = bytes ++ r .blocks }
+
+-- "Commands before it in the chain stand; those after it aren't begun."
+unfoldable pub afterGave : Gave → List Block → ℕ → Tables → List ℕ → (ℕ → Tables → List ℕ → RanBefore) → RanBefore
+afterGave (refusedWith why) bs place t memory rest = refusedBefore why t memory
+afterGave (did t′ memory′ said) bs place t memory rest =
+    inFront (replyBlock said place (linkTo bs (place + replySize said))) (rest (place + replySize said) t′ memory′)
+
+unfoldable pub runBefore : Caller → List ℕ → List Block → ℕ → Tables → List ℕ → RanBefore
+runBefore c s [] place t memory = record { status = status 0 0; tables = t; memory = memory; blocks = [] }
+runBefore c s (b ∷ bs) place t memory =
+    afterGave (performBefore c t memory (b .body) (areaOf s b) (dataOf s b)) bs place t memory (λ p t′ m. runBefore c s bs p t′ m)
+
+-- "2/22 header command not served; 2/1 not a sentence": "2/22 and 2/1 come before anything is carried out."
+unfoldable pub chainBefore : Caller → List ℕ → Option (List Block) → Tables → List ℕ → RanBefore
+chainBefore c s none t memory = refusedBefore (status 2 1) t memory
+chainBefore c s (some bs) t memory = runBefore c s bs FIRST t memory
+
+unfoldable pub answeredBefore : ℕ → List ℕ → Tables → List ℕ → RanBefore
+answeredBefore connection s t memory =
+    cond (served (headerCommand s)) (chainBefore (callerOf connection s) s (blocks s) t memory) (refusedBefore (status 2 22) t memory)
+
+-- what the call gives back: the number, the reply's length, tables, file memory and reply room
+pub record TakenBefore : Type 0 where
+  pub number : ℕ
+  pub length : ℕ
+  pub tables : Tables
+  pub memory : List ℕ
+  pub room : List ℕ
+
+unfoldable pub untaken : ℕ → Tables → List ℕ → List ℕ → TakenBefore
+untaken number t memory room = record { number = number; length = 0; tables = t; memory = memory; room = room }
+
+unfoldable pub repliedBefore : List ℕ → List ℕ → RanBefore → TakenBefore
+repliedBefore s room r =
+    let reply = replyHeader s (r .status) ++ r .blocks in
+    record { number = 0; length = length reply; tables = r .tables; memory = r .memory; room = put room 0 reply }
+
+-- 2 "reply room under 12,292 bytes, or file memory not 65,536", 4 "tables not sound", 1 "message dropped": "A refusal of this table writes nothing at all."
+unfoldable pub takeBefore : ℕ → List ℕ → Tables → List ℕ → List ℕ → TakenBefore
+takeBefore connection s t memory room =
+    cond (ltb (length room) 12292 || not (eqb (length memory) 65536)) (untaken 2 t memory room)
+    (cond (not (sound t)) (untaken 4 t memory room)
+    (cond (dropped s) (untaken 1 t memory room) (repliedBefore s room (answeredBefore connection s t memory))))
