@@ -1,7 +1,7 @@
 //! A call of the host's as a value, so that histories of calls can be made.
 
 use crate::refusals::Outcome;
-use crate::words::{self, Words};
+use crate::words::{self, HolderWords, Words};
 
 #[derive(Clone, Debug, PartialEq, Eq)]
 pub enum Call {
@@ -34,8 +34,14 @@ pub enum Call {
 
 impl Call {
     /// Makes the call. It gives the number of what was added, the reply's
-    /// length, or else 0.
-    pub fn make(&self, words: &mut Words, memory: &mut [u8], room: &mut [u8]) -> Outcome<usize> {
+    /// length, or else 0. Only a message taken writes the holder.
+    pub fn make(
+        &self,
+        words: &mut Words,
+        memory: &mut [u8],
+        room: &mut [u8],
+        holder: &mut HolderWords,
+    ) -> Outcome<usize> {
         match *self {
             Call::AddSession { connection } => {
                 words::add_session(words, connection).map(usize::from)
@@ -57,7 +63,7 @@ impl Call {
             Call::TakeMessage {
                 connection,
                 ref message,
-            } => words::take_message(words, connection, message, memory, room),
+            } => words::take_message(words, connection, message, memory, room, holder),
         }
     }
 

@@ -2,6 +2,7 @@
 //! with the refusals in the order of "Refusals on the wire". A command that
 //! is refused has changed nothing.
 
+use crate::holder::{unless_held, Holder, Refused};
 use crate::host::file_bytes_mut;
 use crate::refusals::WireRefusal;
 use crate::request::{OwnedRange, Ranges, Request, TYPE_LARGE, TYPE_SHARED};
@@ -36,15 +37,15 @@ pub fn carry_out(
     memory: &mut [u8],
     asker: &Asker,
     request: &Request,
-) -> Result<Done, WireRefusal> {
+) -> Result<Done, Refused> {
     find_session(tables, asker)?;
     match *request {
         // "LOGOFF and PROCESS_EXIT stop after 2/91, TREE_DISCONNECT after
         // 2/5, CLOSE after 1/6."
         Request::Logoff => Ok(logoff(tables, asker)),
         Request::ProcessExit => Ok(process_exit(tables, asker)),
-        Request::TreeDisconnect => tree_disconnect(tables, asker),
-        Request::Close { fid } => close(tables, asker, fid),
+        Request::TreeDisconnect => Ok(tree_disconnect(tables, asker)?),
+        Request::Close { fid } => Ok(close(tables, asker, fid)?),
         Request::Locking {
             fid,
             kind,
@@ -114,6 +115,12 @@ impl Released {
     fn count(self) -> usize {
         self.0.count_ones() as usize
     }
+
+    /// The place in the list of what is left.
+    fn left(self, place: usize) -> usize {
+        let before = Released(self.0 & ((1 << place) - 1));
+        place - before.count()
+    }
 }
 
 /// Judges all ranges of the request against the table as it is, then
@@ -125,14 +132,14 @@ fn locking(
     kind: u8,
     unlocks: Ranges,
     locks: Ranges,
-) -> Result<Done, WireRefusal> {
+) -> Result<Done, Refused> {
     let open = find_open(tables, asker, fid)?;
     if kind & !(TYPE_SHARED | TYPE_LARGE) != 0 {
-        return Err(WireRefusal::LockType);
+        return Err(WireRefusal::LockType.into());
     }
     let released = release(tables, fid, unlocks)?;
     if locks.iter().any(|asked| asked.range.passes()) {
-        return Err(WireRefusal::RangePasses);
+        return Err(WireRefusal::RangePasses.into());
     }
     let shared = kind & TYPE_SHARED != 0;
     let as_lock = |asked: OwnedRange| Lock {
@@ -141,16 +148,13 @@ fn locking(
         range: asked.range,
         shared,
     };
-    if conflicts_with_held(tables, open.file, released, locks.iter().map(as_lock))
-        || conflicts_within(locks, shared)
-    {
-        return Err(WireRefusal::Conflict);
-    }
+    let asked = locks.iter().map(as_lock);
+    unless_held(first_conflict(tables, open.file, released, asked.clone()))?;
     // "1/8 exactly if over 128 would then be held"
     if tables.locks.count - released.count() + locks.len() > LOCKS {
-        return Err(WireRefusal::NoLockRecord);
+        return Err(WireRefusal::NoLockRecord.into());
     }
-    replace_locks(tables, released, locks.iter().map(as_lock));
+    replace_locks(tables, released, asked);
     Ok(Done::Linked)
 }
 
@@ -171,27 +175,39 @@ fn release(tables: &Tables, fid: u16, unlocks: Ranges) -> Result<Released, WireR
     Ok(released)
 }
 
-/// Whether a lock asked for conflicts with one held and not released, "the
-/// asker's own locks included".
-fn conflicts_with_held(
+/// "Then locks in order, each against the list as it stands, the asker's own
+/// locks included": the first lock in the way of the first that has one.
+fn first_conflict(
     tables: &Tables,
     file: u8,
     released: Released,
     asked: impl Iterator<Item = Lock> + Clone,
-) -> bool {
-    tables.locks_of(file).any(|(place, held)| {
-        !released.contains(place) && asked.clone().any(|asked| asked.conflicts(held))
-    })
+) -> Option<Holder> {
+    let held = tables.locks_of(file);
+    let held = held.filter(|&(place, _)| !released.contains(place));
+    let kept = tables.locks.count - released.count();
+    for (earlier, lock) in asked.clone().enumerate() {
+        if let Some((place, &lock)) = held.clone().find(|(_, held)| lock.conflicts(held)) {
+            let place = released.left(place);
+            return Some(Holder { place, lock });
+        }
+        if let Some((place, lock)) = conflict_within(asked.clone().take(earlier), &lock) {
+            let place = kept + place;
+            return Some(Holder { place, lock });
+        }
+    }
+    None
 }
 
-/// Whether a lock asked for conflicts with an earlier one of the same
-/// request. All of them are shared, or none is.
-fn conflicts_within(locks: Ranges, shared: bool) -> bool {
-    !shared
-        && locks.iter().enumerate().any(|(place, asked)| {
-            let mut earlier = locks.iter().take(place);
-            earlier.any(|earlier| earlier.range.overlaps(asked.range))
-        })
+/// The first of the request's own earlier ranges in the way of a lock. All of
+/// them are shared, or none is.
+fn conflict_within(earlier: impl Iterator<Item = Lock>, lock: &Lock) -> Option<(usize, Lock)> {
+    if lock.shared {
+        return None;
+    }
+    earlier
+        .enumerate()
+        .find(|(_, earlier)| earlier.conflicts(lock))
 }
 
 /// The list without the locks released, then those granted. Places given up
@@ -209,20 +225,25 @@ fn replace_locks(tables: &mut Tables, released: Released, granted: impl Iterator
     }
 }
 
+/// The first lock of a file that is in the way. A read or a write finds the
+/// list as the table has it.
+fn first_lock_of(tables: &Tables, file: u8, in_the_way: impl Fn(&Lock) -> bool) -> Option<Holder> {
+    let mut locks = tables.locks_of(file);
+    let found = locks.find(|(_, lock)| in_the_way(lock));
+    found.map(|(place, &lock)| Holder { place, lock })
+}
+
 /// "A read is refused 1/33 exactly if an exclusive lock of another owner
 /// overlaps offset and max. It yields the file's bytes in the range below its
 /// size."
-fn read(tables: &Tables, asker: &Asker, fid: u16, range: Range) -> Result<Done, WireRefusal> {
+fn read(tables: &Tables, asker: &Asker, fid: u16, range: Range) -> Result<Done, Refused> {
     let open = find_open(tables, asker, fid)?;
     if open.access == ACCESS_WRITE {
-        return Err(WireRefusal::Access);
+        return Err(WireRefusal::Access.into());
     }
-    let barred = tables
-        .locks_of(open.file)
-        .any(|(_, lock)| !lock.shared && !owns(asker, fid, lock) && lock.range.overlaps(range));
-    if barred {
-        return Err(WireRefusal::Conflict);
-    }
+    unless_held(first_lock_of(tables, open.file, |lock| {
+        !lock.shared && !owns(asker, fid, lock) && lock.range.overlaps(range)
+    }))?;
     let size = u128::from(tables.files[usize::from(open.file)].size);
     // Both are at most the size, 4,096.
     let start = range.start().min(size) as usize;
@@ -240,25 +261,22 @@ fn write(
     fid: u16,
     offset: u64,
     data: &[u8],
-) -> Result<Done, WireRefusal> {
+) -> Result<Done, Refused> {
     let open = find_open(tables, asker, fid)?;
     if open.access == ACCESS_READ {
-        return Err(WireRefusal::Access);
+        return Err(WireRefusal::Access.into());
     }
     let range = Range {
         offset,
         length: data.len() as u64,
     };
-    let barred = tables
-        .locks_of(open.file)
-        .any(|(_, lock)| (lock.shared || !owns(asker, fid, lock)) && lock.range.overlaps(range));
-    if barred {
-        return Err(WireRefusal::Conflict);
-    }
+    unless_held(first_lock_of(tables, open.file, |lock| {
+        (lock.shared || !owns(asker, fid, lock)) && lock.range.overlaps(range)
+    }))?;
     // "Length 0 writes nothing, changes no size and is done at any offset."
     if !data.is_empty() {
         if range.end() > FILE_BYTES as u128 {
-            return Err(WireRefusal::FileFull);
+            return Err(WireRefusal::FileFull.into());
         }
         put_data(tables, memory, open.file, offset as usize, data);
     }

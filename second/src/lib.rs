@@ -13,6 +13,7 @@ pub mod builder;
 pub mod call;
 pub mod commands;
 pub mod grammar;
+pub mod holder;
 pub mod host;
 pub mod listing;
 pub mod message;

@@ -2,6 +2,7 @@
 
 use crate::commands::{carry_out, Asker};
 use crate::grammar::{blocks, SERVED};
+use crate::holder::{Holder, Refused};
 use crate::host::ensure;
 use crate::listing::dropped;
 use crate::refusals::{CallRefusal, Outcome, WireRefusal};
@@ -20,25 +21,41 @@ pub(crate) fn check_room(memory: &[u8], room: &[u8]) -> Outcome<()> {
     )
 }
 
+/// What a message that was taken gives besides tables, files and the reply's
+/// bytes.
+#[derive(Clone, Copy, Debug, PartialEq, Eq)]
+pub struct Taken {
+    /// The reply's length.
+    pub length: usize,
+    /// If Status is 1/33: in a chain, the refused command's.
+    pub holder: Option<Holder>,
+}
+
 /// Takes a message that came on a connection. On success the reply stands at
-/// the room's start and its length is given; bytes past it are as they were.
-/// A refusal writes nothing. Order: 2, 4, 1.
+/// the room's start; bytes past its length are as they were. A refusal writes
+/// nothing. Order: 2, 4, 1.
 pub fn take_message(
     tables: &mut Tables,
     connection: u32,
     message: &[u8],
     memory: &mut [u8],
     room: &mut [u8],
-) -> Outcome<usize> {
+) -> Outcome<Taken> {
     check_room(memory, room)?;
     ensure(tables.sound(), CallRefusal::NotSound)?;
     ensure(dropped(message).is_none(), CallRefusal::Dropped)?;
     let mut reply = Reply::new(room, message);
-    match unreadable(message) {
-        Some(refusal) => reply.refused(message[4], refusal),
+    let holder = match unreadable(message) {
+        Some(refusal) => {
+            reply.refused(message[4], refusal);
+            None
+        }
         None => answer_chain(tables, connection, message, memory, &mut reply),
-    }
-    Ok(reply.length())
+    };
+    Ok(Taken {
+        length: reply.length(),
+        holder,
+    })
 }
 
 /// "2/22 and 2/1 come before anything is carried out."
@@ -53,14 +70,15 @@ fn unreadable(message: &[u8]) -> Option<WireRefusal> {
 }
 
 /// Carries out a sentence command by command. "Commands before [one refused]
-/// in the chain stand; those after it aren't begun."
+/// in the chain stand; those after it aren't begun." Gives the holder of the
+/// one refused.
 fn answer_chain(
     tables: &mut Tables,
     connection: u32,
     message: &[u8],
     memory: &mut [u8],
     reply: &mut Reply,
-) {
+) -> Option<Holder> {
     let (uid, tid, process) = header_numbers(message);
     let asker = Asker {
         connection,
@@ -72,7 +90,11 @@ fn answer_chain(
         let request = Request::read(message, &block);
         match carry_out(tables, memory, &asker, &request) {
             Ok(done) => reply.done(block.command, &done, memory),
-            Err(refusal) => return reply.refused(block.command, refusal),
+            Err(Refused { why, holder }) => {
+                reply.refused(block.command, why);
+                return holder;
+            }
         }
     }
+    None
 }

@@ -227,7 +227,7 @@ impl Tables {
     }
 
     /// The locks of a file, through whatever FID, with their places.
-    pub fn locks_of(&self, file: u8) -> impl Iterator<Item = (usize, &Lock)> {
+    pub fn locks_of(&self, file: u8) -> impl Iterator<Item = (usize, &Lock)> + Clone {
         // The FIDs of the file: bit n - 1 for FID n.
         let fids = self
             .opens

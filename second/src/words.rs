@@ -4,6 +4,7 @@
 //! that are not in use are nobody's and stay as they are. A refused call
 //! leaves every word as it was.
 
+use crate::holder::Holder;
 use crate::host;
 use crate::message;
 use crate::refusals::{CallRefusal, Outcome};
@@ -24,6 +25,11 @@ pub const WORDS: usize = 1
     + FILES * File::FIELDS;
 
 pub type Words = [u64; WORDS];
+
+pub const HOLDER_WORDS: usize = 6;
+/// Who holds the lock: 1, FID, process, place, offset, length. All are 0 if
+/// there is no holder.
+pub type HolderWords = [u64; HOLDER_WORDS];
 
 /// A record that stands in the array as so many fields, one to a word.
 trait Record: Copy + Default {
@@ -242,15 +248,31 @@ pub fn drop_connection(words: &mut Words, connection: u32) -> Outcome<()> {
     on_tables(words, |tables| host::drop_connection(tables, connection))
 }
 
+/// Gives the reply's length. Who holds the lock is written if the message was
+/// taken, "beside the reply", and only then.
 pub fn take_message(
     words: &mut Words,
     connection: u32,
     message: &[u8],
     memory: &mut [u8],
     room: &mut [u8],
+    holder: &mut HolderWords,
 ) -> Outcome<usize> {
     message::check_room(memory, room)?;
-    on_tables(words, |tables| {
+    let taken = on_tables(words, |tables| {
         message::take_message(tables, connection, message, memory, room)
-    })
+    })?;
+    *holder = taken.holder.map_or([0; HOLDER_WORDS], holder_words);
+    Ok(taken.length)
+}
+
+fn holder_words(Holder { place, lock }: Holder) -> HolderWords {
+    [
+        1,
+        lock.fid.into(),
+        lock.process.into(),
+        place as u64,
+        lock.range.offset,
+        lock.range.length,
+    ]
 }

@@ -108,6 +108,7 @@ fn free_bytes_are_free() {
         let reply = other.take(&with_other_free_bytes(&chain, &read));
         assert_eq!(world.take(&chain), reply);
         assert!(world.tables == other.tables && world.memory == other.memory);
+        assert_eq!(world.holder, other.holder);
     }
 }
 
@@ -236,6 +237,7 @@ fn chains_are_their_messages_in_turn() {
         let commands: Vec<u8> = read.iter().map(|block| block.command).collect();
         assert_eq!(reply, joined(&commands, &replies, &chain));
         assert!(world.tables == apart.tables && world.memory == apart.memory);
+        assert_eq!(world.holder, apart.holder);
     }
     assert!((1000..3500).contains(&refused), "{refused}");
 }

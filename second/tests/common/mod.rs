@@ -2,10 +2,14 @@
 #![allow(dead_code)]
 
 use second::builder::{locking, message, Ask, Asked, Header};
+use second::holder::Holder;
 use second::host;
-use second::message::{take_message, ROOM_BYTES};
+use second::message::{take_message, Taken, ROOM_BYTES};
 use second::refusals::Outcome;
 use second::tables::{Tables, MEMORY_BYTES};
+
+/// FID, process, place, offset and length.
+pub type Held = (u16, u32, usize, u64, u64);
 
 pub const CONNECTION: u32 = 9;
 
@@ -14,6 +18,8 @@ pub struct World {
     pub memory: Vec<u8>,
     pub connection: u32,
     pub header: Header,
+    /// Who held the lock when the last message was refused 1/33.
+    pub holder: Option<Holder>,
 }
 
 impl World {
@@ -38,13 +44,15 @@ impl World {
                 pid: 7,
                 uid: 1,
             },
+            holder: None,
         }
     }
 
     /// The reply to a message, taken with the least room.
     pub fn take(&mut self, message: &[u8]) -> Outcome<Vec<u8>> {
         let mut room = vec![0xA5; ROOM_BYTES];
-        let length = take_message(
+        self.holder = None;
+        let Taken { length, holder } = take_message(
             &mut self.tables,
             self.connection,
             message,
@@ -54,6 +62,8 @@ impl World {
         assert!(room[length..].iter().all(|&byte| byte == 0xA5));
         assert!(self.tables.sound());
         room.truncate(length);
+        self.holder = holder;
+        assert_eq!(holder.is_some(), status(&room) == (1, 33));
         Ok(room)
     }
 
@@ -79,6 +89,12 @@ impl World {
         }
         status
     }
+}
+
+/// A holder's numbers.
+pub fn held(Holder { place, lock }: Holder) -> Held {
+    let range = lock.range;
+    (lock.fid, lock.process, place, range.offset, range.length)
 }
 
 pub fn status(reply: &[u8]) -> (u8, u16) {

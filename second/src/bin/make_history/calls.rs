@@ -4,7 +4,7 @@ use second::call::Call;
 use second::message::ROOM_BYTES;
 use second::refusals::number;
 use second::tables::MEMORY_BYTES;
-use second::words::{Words, WORDS};
+use second::words::{HolderWords, Words, HOLDER_WORDS, WORDS};
 
 /// The digest counts modulo this prime.
 const P: u64 = 4_294_967_291;
@@ -143,6 +143,8 @@ pub struct Answer {
     /// The number given out by an add, or the reply's length; else 0.
     pub value: usize,
     pub reply: Vec<u8>,
+    /// Who holds the lock, if the message was refused for a lock conflict.
+    pub holder: HolderWords,
 }
 
 /// All that is carried from call to call.
@@ -164,7 +166,9 @@ impl State {
     }
 
     pub fn make(&mut self, call: &Call) -> Answer {
-        let outcome = call.make(&mut self.words, &mut self.memory, &mut self.room);
+        let mut holder = [0; HOLDER_WORDS];
+        let (words, memory, room) = (&mut self.words, &mut self.memory, &mut self.room);
+        let outcome = call.make(words, memory, room, &mut holder);
         let number = number(&outcome);
         let value = outcome.unwrap_or(0);
         let reply = match call {
@@ -175,6 +179,7 @@ impl State {
             number,
             value,
             reply,
+            holder,
         }
     }
 
@@ -185,10 +190,17 @@ impl State {
     }
 
     /// The line of an answer, this being the state after it: `NUMBER VALUE
-    /// REPLYHEX DIGEST`, the reply in upper-case hex, the others decimal.
+    /// REPLYHEX DIGEST`, the reply in upper-case hex, the others decimal. Of a
+    /// message refused 1/33 ` FID PROCESS PLACE OFFSET LENGTH` of the holder
+    /// follow, decimal too.
     pub fn line(&self, answer: &Answer) -> String {
         let hex: String = answer.reply.iter().map(|b| format!("{b:02X}")).collect();
         let Answer { number, value, .. } = answer;
-        format!("{number} {value} {hex} {}\n", self.digest())
+        let [held, holder @ ..] = answer.holder;
+        let behind: String = match held {
+            0 => String::new(),
+            _ => holder.iter().map(|word| format!(" {word}")).collect(),
+        };
+        format!("{number} {value} {hex} {}{behind}\n", self.digest())
     }
 }
