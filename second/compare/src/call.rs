@@ -3,7 +3,7 @@
 use linked as gateway;
 use second::call::Call;
 use second::refusals::number;
-use second::words::Words;
+use second::words::{HolderWords, Words, HOLDER_WORDS};
 
 /// What is asked of both programs.
 #[derive(Clone, Debug)]
@@ -78,9 +78,17 @@ impl Trial {
             _ => 0,
         }
     }
+
+    /// Words of the parameter for the holder of a lock.
+    pub fn holder_words(&self) -> usize {
+        match self.call() {
+            Some(Call::TakeMessage { .. }) => HOLDER_WORDS,
+            _ => 0,
+        }
+    }
 }
 
-/// What a call works on besides its arguments.
+/// What a call works on besides its arguments, the tables and the holder.
 pub struct Places<'p> {
     /// A copy of the call's input, for the library.
     pub input: &'p [u8],
@@ -90,12 +98,12 @@ pub struct Places<'p> {
 }
 
 /// Makes the call by this package's own program. Gives its number.
-pub fn own(trial: &Trial, tables: &mut Words, places: Places) -> u8 {
+pub fn own(trial: &Trial, tables: &mut Words, holder: &mut HolderWords, places: Places) -> u8 {
     let Some(call) = trial.call() else {
         tables.fill(0);
         return 0;
     };
-    let outcome = call.make(tables, places.memory, places.room);
+    let outcome = call.make(tables, places.memory, places.room, holder);
     if let Ok(value) = outcome {
         let bytes = &value.to_le_bytes()[..places.out.len()];
         places.out.copy_from_slice(bytes);
@@ -104,7 +112,7 @@ pub fn own(trial: &Trial, tables: &mut Words, places: Places) -> u8 {
 }
 
 /// Makes the call by the library. Gives its number.
-pub fn theirs(trial: &Trial, tables: &mut [u8], places: Places) -> u8 {
+pub fn theirs(trial: &Trial, tables: &mut [u8], holder: &mut [u8], places: Places) -> u8 {
     let Places {
         input,
         memory,
@@ -112,6 +120,7 @@ pub fn theirs(trial: &Trial, tables: &mut [u8], places: Places) -> u8 {
         out,
     } = places;
     let tables = tables.as_mut_ptr().cast::<u64>();
+    let holder = holder.as_mut_ptr().cast::<u64>();
     let out = out.as_mut_ptr();
     // SAFETY: the pointers are to whole slices, aligned for their types, and
     // the lengths are theirs.
@@ -155,6 +164,7 @@ pub fn theirs(trial: &Trial, tables: &mut [u8], places: Places) -> u8 {
                 room.as_mut_ptr(),
                 room.len(),
                 out.cast(),
+                holder,
             ),
         }
     }

@@ -9,6 +9,7 @@
 mod call;
 mod crash;
 mod damage;
+mod holders;
 mod plan;
 mod report;
 mod sides;
@@ -48,7 +49,8 @@ impl Run {
         let side = self.planner.rng.pick(&[Side::Start, Side::End]);
         let shift = self.planner.rng.below(4096);
         let given = self.sides.make(trial, side, shift)?;
-        self.tally.count(trial, given, &self.sides.room);
+        let Sides { room, words, .. } = &self.sides;
+        self.tally.count(trial, given, room, words);
         Ok(given)
     }
 

@@ -381,6 +381,9 @@ impl Planner {
             let next = self.rng.pick(followers);
             let next = self.seldom(next, &[next, next, next, next, any]);
             let mut ask = self.ask(next, tables, scene);
+            if asks.len() > 1 && self.once_in(2) {
+                widen(&mut ask);
+            }
             if let (true, Some(fid)) = (same, asks[0].fid()) {
                 set_fid(&mut ask, fid);
             }
@@ -461,13 +464,19 @@ impl Planner {
             5 | 6 => (size + self.rng.below(5) as u64).saturating_sub(2),
             7 => size / 2,
             8 => 4088 + self.rng.below(12) as u64,
-            9 => match self.held(tables) {
+            9 => match open.and_then(|open| self.held_of(tables, open.file)) {
                 Some(lock) => near(&mut self.rng, lock.range.offset),
                 None => 0,
             },
             10 => self.rng.below(5000) as u64,
             _ => self.rng.pick(&EDGES),
         }
+    }
+
+    /// A lock of the file.
+    fn held_of(&mut self, tables: &Tables, file: u8) -> Option<Lock> {
+        let locks: Vec<Lock> = tables.locks_of(file).map(|(_, lock)| *lock).collect();
+        (!locks.is_empty()).then(|| self.rng.pick(&locks))
     }
 
     fn held(&mut self, tables: &Tables) -> Option<Lock> {
@@ -491,13 +500,30 @@ impl Planner {
         };
         // A long request mostly asks for what nobody holds.
         let fresh = locks > 5 || self.mood == Mood::Locks && !self.once_in(6);
+        let unlocks = self.unlocks(fid, tables, scene);
+        let mut locks: Vec<Asked> = (0..locks)
+            .map(|_| self.asked(tables, scene, fresh))
+            .collect();
+        if self.once_in(12) {
+            self.cross(&mut locks);
+        }
         Ask::Locking {
             fid,
             kind,
-            unlocks: self.unlocks(fid, tables, scene),
-            locks: (0..locks)
-                .map(|_| self.asked(tables, scene, fresh))
-                .collect(),
+            unlocks,
+            locks,
+        }
+    }
+
+    /// Puts the last range on or beside an earlier one of the same request, a
+    /// late one mostly.
+    fn cross(&mut self, ranges: &mut [Asked]) {
+        if let [earlier @ .., last] = ranges {
+            if let Some(from) = earlier.len().checked_sub(1) {
+                let (_, offset, length) = earlier[from - self.rng.below(from.min(4) + 1)];
+                let process = self.rng.pick(&PROCESSES);
+                *last = (process, near(&mut self.rng, offset), length);
+            }
         }
     }
 
@@ -649,6 +675,13 @@ impl Planner {
 /// A number within 2 of the given one.
 fn near(rng: &mut Rng, number: u64) -> u64 {
     number.wrapping_add(rng.below(5) as u64).wrapping_sub(2)
+}
+
+/// Makes a read one of the whole file, which locks bar more often.
+fn widen(ask: &mut Ask) {
+    if let Ask::Read { offset, max, .. } = ask {
+        (*offset, *max) = (0, u16::MAX);
+    }
 }
 
 fn set_fid(ask: &mut Ask, number: u16) {

@@ -5,7 +5,7 @@ use linked::guarded::Side;
 use second::call::Call;
 use second::listing::{answer, Answer};
 use second::request::{Ranges, Request};
-use second::words::{Words, WORDS};
+use second::words::{HolderWords, Words, WORDS};
 
 /// Most differences of one kind that are printed.
 const MOST: usize = 12;
@@ -63,6 +63,40 @@ pub fn words(own: &Words, theirs: &Words) -> Vec<String> {
         .collect();
     lines.push(format!("{} words differ", differing.len()));
     lines
+}
+
+/// The words that differ, of those with these names.
+pub fn named_words(of: &str, names: &[&str], own: &[u64], theirs: &[u64]) -> Vec<String> {
+    let each = names.iter().zip(own.iter().zip(theirs));
+    let differing = each.filter(|(_, (own, theirs))| own != theirs);
+    differing
+        .map(|(name, (own, theirs))| format!("{of}, {name}: {own}, library's {theirs}"))
+        .collect()
+}
+
+const HOLDER_NAMES: [&str; 6] = ["held", "fid", "process", "place", "offset", "length"];
+
+/// Who holds the lock, if that differs, in words that were lent so.
+pub fn holders(own: &HolderWords, theirs: &HolderWords, lent: &HolderWords) -> Vec<String> {
+    if own == theirs {
+        return Vec::new();
+    }
+    let (own_holder, their_holder) = (holder(own, lent), holder(theirs, lent));
+    let mut lines = vec![format!("holder: {own_holder}; library's: {their_holder}")];
+    lines.extend(named_words("holder", &HOLDER_NAMES, own, theirs));
+    lines
+}
+
+/// What the words for the holder say.
+fn holder(words: &HolderWords, lent: &HolderWords) -> String {
+    match words {
+        _ if words == lent => "not written".to_string(),
+        [0, 0, 0, 0, 0, 0] => "nobody".to_string(),
+        [1, fid, process, place, offset, length] => {
+            format!("FID {fid}, process {process}, place {place}, offset {offset}, length {length}")
+        }
+        _ => format!("no such words, {words:?}"),
+    }
 }
 
 /// The bytes that differ.

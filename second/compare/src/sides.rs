@@ -2,10 +2,11 @@
 
 use crate::call::{own, theirs, Places, Trial};
 use crate::report;
+use crate::tally::status;
 use linked::guarded::{Guarded, Side};
 use second::rng::Rng;
 use second::tables::MEMORY_BYTES;
-use second::words::{Words, WORDS};
+use second::words::{HolderWords, Words, HOLDER_WORDS, WORDS};
 
 /// Largest message, contents or odd memory handed over.
 pub const LARGEST: usize = 140_000;
@@ -20,6 +21,7 @@ pub struct Sides {
     /// The second program's reply room after the last call.
     pub room: Vec<u8>,
     out: Vec<u8>,
+    holder: HolderWords,
     odd_memory: Vec<u8>,
     library: Library,
     /// Bytes that rooms, odd memories and out parameters are prefilled with.
@@ -32,6 +34,8 @@ pub struct Given {
     pub number: u8,
     /// The out parameter, where there is one.
     pub value: usize,
+    /// The words for the holder of a lock; none if nothing was written to them.
+    pub holder: Option<HolderWords>,
 }
 
 impl Sides {
@@ -43,6 +47,7 @@ impl Sides {
             memory,
             room: Vec::new(),
             out: Vec::new(),
+            holder: [0; HOLDER_WORDS],
             odd_memory: Vec::new(),
             pattern: rng.bytes(LARGEST + 4096),
         }
@@ -61,14 +66,15 @@ impl Sides {
     pub fn make(&mut self, trial: &Trial, side: Side, shift: usize) -> Result<Given, String> {
         let before = self.words;
         self.prefill(trial, shift);
+        let lent = self.holder;
         let their_number = self.make_theirs(trial, side);
         let number = self.make_own(trial);
         let mut differences = self.differences(trial, side);
+        differences.extend(self.holders_differing(trial, side, &lent));
         if number != their_number {
             differences.insert(0, format!("number: {number}, library's {their_number}"));
-        } else if !differences.is_empty() && trial.room() > 9 {
+        } else if !differences.is_empty() && number == 0 && trial.room() > 9 {
             let room = self.library.room.place(trial.room(), side);
-            let status = |reply: &[u8]| (reply[5], u16::from_le_bytes([reply[7], reply[8]]));
             let (own, theirs) = (status(&self.room), status(room));
             differences.insert(0, format!("status: {own:?}, library's {theirs:?}"));
         }
@@ -80,6 +86,7 @@ impl Sides {
         Ok(Given {
             number,
             value: usize::from_ne_bytes(value),
+            holder: (self.holder != lent).then_some(self.holder),
         })
     }
 
@@ -94,6 +101,7 @@ impl Sides {
             bytes.clear();
             bytes.extend_from_slice(&filling[..length]);
         }
+        get_words(filling, &mut self.holder);
     }
 
     /// By the library, on copies of what the second program gets.
@@ -110,7 +118,9 @@ impl Sides {
             room: library.room.put(&self.room, side),
             out: library.out.put(&self.out, side),
         };
-        theirs(trial, tables, places)
+        let holder = library.holder.place(8 * trial.holder_words(), side);
+        put_words(&self.holder, holder);
+        theirs(trial, tables, holder, places)
     }
 
     fn make_own(&mut self, trial: &Trial) -> u8 {
@@ -123,7 +133,7 @@ impl Sides {
             room: &mut self.room,
             out: &mut self.out,
         };
-        own(trial, &mut self.words, places)
+        own(trial, &mut self.words, &mut self.holder, places)
     }
 
     /// What differs after a call: tables, out parameter, room and memory, and
@@ -143,6 +153,14 @@ impl Sides {
         compare("input", trial.input(), &mut library.input);
         found
     }
+
+    /// What differs in the words for the holder, which were lent so.
+    fn holders_differing(&mut self, trial: &Trial, side: Side, lent: &HolderWords) -> Vec<String> {
+        let bytes = self.library.holder.place(8 * trial.holder_words(), side);
+        let mut theirs = self.holder;
+        get_words(bytes, &mut theirs);
+        report::holders(&self.holder, &theirs, lent)
+    }
 }
 
 /// What is handed to the library.
@@ -154,6 +172,7 @@ struct Library {
     input: Guarded,
     room: Guarded,
     out: Guarded,
+    holder: Guarded,
 }
 
 impl Library {
@@ -167,17 +186,19 @@ impl Library {
             input: Guarded::new(LARGEST),
             room: Guarded::new(LARGEST_ROOM),
             out: Guarded::new(8),
+            holder: Guarded::new(8 * HOLDER_WORDS),
         }
     }
 }
 
-fn put_words(words: &Words, bytes: &mut [u8]) {
+/// As many words as there are bytes for.
+fn put_words(words: &[u64], bytes: &mut [u8]) {
     for (place, word) in bytes.chunks_exact_mut(8).zip(words) {
         place.copy_from_slice(&word.to_ne_bytes());
     }
 }
 
-fn get_words(bytes: &[u8], words: &mut Words) {
+fn get_words(bytes: &[u8], words: &mut [u64]) {
     for (word, place) in words.iter_mut().zip(bytes.chunks_exact(8)) {
         *word = u64::from_ne_bytes(place.try_into().unwrap());
     }

@@ -1,10 +1,12 @@
 //! Counts what was met, and says what was not met often enough.
 
 use crate::call::Trial;
+use crate::holders::Holders;
 use crate::sides::Given;
 use second::call::Call;
 use second::grammar::SERVED;
 use second::refusals::WireRefusal;
+use second::words::Words;
 use std::collections::BTreeMap;
 
 /// Fewest times for a number of a call, and for a refusal on the wire.
@@ -30,6 +32,7 @@ pub struct Tally {
     longest: usize,
     /// Most sessions, trees, opens and locks at a time.
     most: [u64; 4],
+    holders: Holders,
 }
 
 /// Every call's numbers, from "What a call returns".
@@ -111,8 +114,28 @@ fn length_class(blocks: usize) -> &'static str {
     }
 }
 
+/// Class and code of a reply; 0 of none.
+pub fn status(reply: &[u8]) -> (u8, u16) {
+    match reply {
+        [] => (0, 0),
+        _ => (reply[5], u16::from_le_bytes([reply[7], reply[8]])),
+    }
+}
+
+/// The commands that a reply has blocks of, by its links.
+pub fn commands(message: &[u8], reply: &[u8]) -> Vec<u8> {
+    let mut commands = vec![message[4]];
+    let mut offset = 32;
+    while reply[offset] >= 2 && reply[offset + 1] != 0xFF {
+        commands.push(reply[offset + 1]);
+        offset = usize::from(reply[offset + 3]) + 256 * usize::from(reply[offset + 4]);
+    }
+    commands
+}
+
 impl Tally {
-    pub fn count(&mut self, trial: &Trial, given: Given, reply: &[u8]) {
+    /// Counts a call, these being the reply room and the words after it.
+    pub fn count(&mut self, trial: &Trial, given: Given, room: &[u8], words: &Words) {
         self.calls += 1;
         *self
             .numbers
@@ -123,8 +146,15 @@ impl Tally {
                 *self.wide.entry(name).or_default() += 1;
             }
         }
-        if let (Some(Call::TakeMessage { message, .. }), 0) = (trial.call(), given.number) {
-            self.count_reply(message, &reply[..given.value]);
+        if let Some(Call::TakeMessage { message, .. }) = trial.call() {
+            let reply = match given.number {
+                0 => &room[..given.value],
+                _ => &[],
+            };
+            self.holders.count(message, given, reply, words);
+            if given.number == 0 {
+                self.count_reply(message, reply);
+            }
         }
     }
 
@@ -134,17 +164,11 @@ impl Tally {
         }
     }
 
-    /// Follows the reply's links.
     fn count_reply(&mut self, message: &[u8], reply: &[u8]) {
-        let mut commands = vec![message[4]];
-        let mut offset = 32;
-        while reply[offset] >= 2 && reply[offset + 1] != 0xFF {
-            let next = reply[offset + 1];
-            self.succession(commands[commands.len() - 1], next);
-            commands.push(next);
-            offset = usize::from(reply[offset + 3]) + 256 * usize::from(reply[offset + 4]);
+        let (commands, status) = (commands(message, reply), status(reply));
+        for pair in commands.windows(2) {
+            self.succession(pair[0], pair[1]);
         }
-        let status = (reply[5], u16::from_le_bytes([reply[7], reply[8]]));
         let mut done = &commands[..];
         if status != (0, 0) {
             let last = commands[commands.len() - 1];
@@ -196,6 +220,7 @@ impl Tally {
             self.print_refused(),
             self.print_done(),
             self.print_chains(),
+            self.holders.print(),
         ];
         parts.into_iter().all(|good| good)
     }

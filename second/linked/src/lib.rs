@@ -36,6 +36,7 @@ extern "C" {
         room: *mut u8,
         room_length: usize,
         reply_length: *mut usize,
+        holder: *mut u64,
     ) -> u8;
     pub fn gateway_stream_reset(state: *mut u64);
     pub fn gateway_stream_read(

@@ -10,7 +10,7 @@ use crate::call::Trial;
 use crate::Run;
 use second::call::Call;
 use second::message::ROOM_BYTES;
-use second::words::{unpack, Words};
+use second::words::{unpack, HolderWords, Words};
 
 /// Messages in the history.
 const MESSAGES: usize = 4000;
@@ -25,11 +25,14 @@ struct History {
     calls: Vec<Vec<Trial>>,
 }
 
+/// What a message gave: the number, the reply, and the words for the holder of
+/// a lock if they were written.
+type Taken = (u8, Vec<u8>, Option<HolderWords>);
+
 /// What a history gave.
 #[derive(Debug, PartialEq, Eq)]
 struct Given {
-    /// For each message the number and the reply.
-    taken: Vec<(u8, Vec<u8>)>,
+    taken: Vec<Taken>,
     /// The replies in a stream.
     replies: Vec<u8>,
     words: Words,
@@ -56,7 +59,7 @@ impl Streams {
         let fine = pieces(length, || 1 + self.planner.rng.below(40));
         for cuts in [largest, coarse, fine] {
             let given = self.replay(run, &start, &history, &cuts)?;
-            expect(&given.taken, &planned.taken, "numbers and replies")?;
+            expect(&given.taken, &planned.taken, "numbers, replies and holders")?;
             expect(&given.replies, &planned.replies, "replies written")?;
             expect(&given.words, &planned.words, "tables")?;
             expect(&given.memory, &planned.memory, "files")?;
@@ -68,8 +71,8 @@ impl Streams {
     /// The replies as the terminal reads them, in pieces. One above 8,192 bytes
     /// stops it.
     fn replies_read(&mut self, given: &Given) -> Result<(), String> {
-        let done = given.taken.iter().filter(|(number, _)| *number == 0);
-        let replies: Vec<_> = done.map(|(_, reply)| reply.clone()).collect();
+        let done = given.taken.iter().filter(|(number, ..)| *number == 0);
+        let replies: Vec<_> = done.map(|(_, reply, _)| reply.clone()).collect();
         let short = replies.iter().take_while(|reply| reply.len() <= LONGEST);
         let planned: Vec<_> = short.cloned().collect();
         let stopped = planned.len() < replies.len();
@@ -106,11 +109,11 @@ impl Streams {
                     }
                     history.stream.message(message);
                     history.calls.push(std::mem::take(&mut calls));
-                    let (number, reply) = take(run, &trial)?;
-                    if number == 0 {
-                        replies.extend(framed(&reply));
+                    let given = take(run, &trial)?;
+                    if given.0 == 0 {
+                        replies.extend(framed(&given.1));
                     }
-                    taken.push((number, reply));
+                    taken.push(given);
                 }
                 _ => {
                     run.make(&trial)?;
@@ -223,12 +226,13 @@ fn make_all(run: &mut Run, trials: &[Trial]) -> Result<(), String> {
         .try_for_each(|trial| run.make(trial).map(|_| ()))
 }
 
-/// Takes a message on both sides: the number and the reply.
-fn take(run: &mut Run, trial: &Trial) -> Result<(u8, Vec<u8>), String> {
+/// Takes a message on both sides.
+fn take(run: &mut Run, trial: &Trial) -> Result<Taken, String> {
     let given = run.make(trial)?;
     let length = match given.number {
         0 => given.value,
         _ => 0,
     };
-    Ok((given.number, run.sides.room[..length].to_vec()))
+    let reply = run.sides.room[..length].to_vec();
+    Ok((given.number, reply, given.holder))
 }

@@ -89,7 +89,7 @@ impl Readers {
         let side = setting.side;
         let mut found = self.numbers_and_state(number, their_number, side);
         let theirs: StepWords = get(self.step.place(STEP_BYTES, side));
-        found.extend(words_differing("step", &STEP_NAMES, &step, &theirs));
+        found.extend(report::named_words("step", &STEP_NAMES, &step, &theirs));
         let their_buffer = self.their_buffer.place(BUFFER_BYTES, side);
         found.extend(report::bytes("buffer", &self.buffer[..], their_buffer));
         let their_piece = self.piece.place(piece.len(), side);
@@ -147,7 +147,12 @@ impl Readers {
         let number = stream_words::write_to(message, room, &mut written);
         let mut found = numbers(number, their_number);
         let theirs: [u64; 1] = get(self.written.place(8, side));
-        found.extend(words_differing("out", &["written"], &[written], &theirs));
+        found.extend(report::named_words(
+            "out",
+            &["written"],
+            &[written],
+            &theirs,
+        ));
         found.extend(report::bytes("room", room, self.room.place(length, side)));
         let their_message = self.piece.place(message.len(), side);
         found.extend(report::bytes("message", message, their_message));
@@ -165,7 +170,12 @@ impl Readers {
     fn numbers_and_state(&mut self, number: u8, their_number: u8, side: Side) -> Vec<String> {
         let mut found = numbers(number, their_number);
         let theirs: StreamWords = get(self.state.place(STATE_BYTES, side));
-        found.extend(words_differing("state", &STATE_NAMES, &self.words, &theirs));
+        found.extend(report::named_words(
+            "state",
+            &STATE_NAMES,
+            &self.words,
+            &theirs,
+        ));
         found
     }
 }
@@ -175,14 +185,6 @@ fn numbers(own: u8, theirs: u8) -> Vec<String> {
         true => Vec::new(),
         false => vec![format!("number: {own}, library's {theirs}")],
     }
-}
-
-fn words_differing(of: &str, names: &[&str], own: &[u64], theirs: &[u64]) -> Vec<String> {
-    let each = names.iter().zip(own.iter().zip(theirs));
-    let differing = each.filter(|(_, (own, theirs))| own != theirs);
-    differing
-        .map(|(name, (own, theirs))| format!("{of}, {name}: {own}, library's {theirs}"))
-        .collect()
 }
 
 fn judged(found: Vec<String>, described: impl Fn() -> String) -> Result<(), String> {

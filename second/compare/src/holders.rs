@@ -1,0 +1,399 @@
+//! Counts what became of the words for the holder of a lock: with each answer,
+//! and with 1/33 who held it. The list as it then stood is written out here, and
+//! what the words say must be in it at that place.
+
+use crate::sides::Given;
+use crate::tally::{commands, enough, status};
+use second::grammar::{blocks, LOCKING_ANDX, READ_ANDX, WRITE_ANDX};
+use second::refusals::WireRefusal;
+use second::reply::header_numbers;
+use second::request::{OwnedRange, Request, TYPE_SHARED};
+use second::tables::{Lock, Range, Tables};
+use second::words::{unpack, HolderWords, Words};
+use std::collections::BTreeMap;
+
+/// Fewest times for each thing.
+const LEAST: usize = 50;
+
+/// Where the command that a lock barred stood.
+const PLACES: [&str; 4] = ["alone", "before others", "second", "third or later"];
+
+/// What is to be met of holders, besides each command at each place.
+const MET: [&str; 16] = [
+    "READ: a lock held through another FID",
+    "READ: a lock held through the same FID by another process",
+    "WRITE: the writer's own shared lock",
+    "WRITE: another's shared lock",
+    "WRITE: another's exclusive lock",
+    "LOCKING: the asker's own lock",
+    "LOCKING: for a shared lock",
+    "LOCKING: moved by unlocks of the same request",
+    "LOCKING: in a request whose unlocks are all behind it",
+    "LOCKING: an own earlier range",
+    "LOCKING: an own earlier range behind unlocks",
+    "LOCKING: an own earlier range of another process than the header's",
+    "LOCKING: a lock held, in the way of a range behind the first",
+    "LOCKING: while a later range meets an earlier lock",
+    "LOCKING: at a place above 127",
+    "a lock granted by an earlier command of the chain",
+];
+/// Of each command.
+const MET_BY_EACH: [&str; 3] = [
+    "while another lock behind it is in the way too",
+    "behind a lock of another file that overlaps",
+    "behind a lock of length 0 inside the range",
+];
+
+#[derive(Default)]
+pub struct Holders {
+    /// What was written with each answer.
+    answers: BTreeMap<String, usize>,
+    met: BTreeMap<String, usize>,
+    /// What should not be.
+    wrong: Vec<String>,
+}
+
+impl Holders {
+    /// Counts a message, these being the words after it.
+    pub fn count(&mut self, message: &[u8], given: Given, reply: &[u8], words: &Words) {
+        let answer = match (given.number, status(reply)) {
+            (0, (0, 0)) => "done".to_string(),
+            (0, (class, code)) => format!("{class}/{code}"),
+            (number, _) => format!("number {number}"),
+        };
+        let written = match given.holder {
+            None => "not written",
+            Some([0, 0, 0, 0, 0, 0]) => "nobody",
+            Some([1, ..]) => "a holder",
+            Some(_) => "no such words",
+        };
+        let entry = self.answers.entry(format!("{answer}: {written}"));
+        *entry.or_default() += 1;
+        if let (0, (1, 33), Some(holder)) = (given.number, status(reply), given.holder) {
+            let begun = commands(message, reply).len();
+            match Conflict::new(message, begun, holder, words) {
+                Ok(conflict) => conflict.count(self),
+                Err(what) => self.wrong.push(what),
+            }
+        }
+    }
+
+    fn met(&mut self, what: impl Into<String>) {
+        *self.met.entry(what.into()).or_default() += 1;
+    }
+
+    fn met_if(&mut self, holds: bool, what: &str) {
+        if holds {
+            self.met(what);
+        }
+    }
+
+    /// Prints the counts. False if something was met too seldom, or was wrong.
+    pub fn print(&self) -> bool {
+        let mut good = true;
+        println!("words for the holder of a lock, by answer:");
+        let expected = answers();
+        for (answer, count) in &self.answers {
+            println!("  {answer}: {count}");
+            if !expected.contains(answer) {
+                println!("FAILED: met, and must not be: {answer}");
+                good = false;
+            }
+        }
+        for answer in expected {
+            let count = self.answers.get(&answer).copied().unwrap_or(0);
+            good &= enough(count, LEAST, &answer);
+        }
+        println!("holders:");
+        for what in holders() {
+            let count = self.met.get(&what).copied().unwrap_or(0);
+            println!("  {what}: {count}");
+            good &= enough(count, LEAST, &what);
+        }
+        for what in self.wrong.iter().take(5) {
+            println!("FAILED: {what}");
+        }
+        good && self.wrong.is_empty()
+    }
+}
+
+/// Every answer with what it must leave in the words, "Only 1/33 has a holder".
+fn answers() -> Vec<String> {
+    let mut all = vec!["done: nobody".to_string()];
+    all.extend([1, 2, 4].map(|number| format!("number {number}: not written")));
+    for refusal in WireRefusal::ALL {
+        let (class, code) = refusal.class_and_code();
+        let written = match refusal {
+            WireRefusal::Conflict => "a holder",
+            _ => "nobody",
+        };
+        all.push(format!("{class}/{code}: {written}"));
+    }
+    all
+}
+
+fn holders() -> Vec<String> {
+    let mut all = Vec::new();
+    for command in [LOCKING_ANDX, READ_ANDX, WRITE_ANDX].map(name) {
+        for place in PLACES {
+            // LOCKING follows nothing.
+            if command != "LOCKING" || ["alone", "before others"].contains(&place) {
+                all.push(format!("{command} {place}"));
+            }
+        }
+        all.extend(MET_BY_EACH.map(|what| format!("{command}: {what}")));
+    }
+    all.extend(MET.map(str::to_string));
+    all
+}
+
+fn name(command: u8) -> &'static str {
+    match command {
+        LOCKING_ANDX => "LOCKING",
+        READ_ANDX => "READ",
+        _ => "WRITE",
+    }
+}
+
+/// A lock conflict: what the papers let be known of it.
+struct Conflict<'m> {
+    requests: Vec<Request<'m>>,
+    /// The place in the chain of the one refused.
+    refused: usize,
+    /// The header's process.
+    process: u32,
+    /// As the call left them, so as the refused command found them.
+    tables: Tables,
+    /// The list as it then stood, each lock with its place in the table; behind
+    /// them the ranges of the request.
+    list: Vec<(Option<usize>, Lock)>,
+    /// The holder's place in it.
+    place: usize,
+}
+
+impl<'m> Conflict<'m> {
+    /// The error says what the words have that the list has not.
+    fn new(
+        message: &'m [u8],
+        begun: usize,
+        holder: HolderWords,
+        words: &Words,
+    ) -> Result<Conflict<'m>, String> {
+        let read = blocks(message).flatten();
+        let requests: Vec<_> = read.map(|block| Request::read(message, &block)).collect();
+        let tables = unpack(words).ok_or("a holder in tables that are not sound")?;
+        let list = list(&tables, &requests[begun - 1]);
+        let place = holder[3] as usize;
+        let named = list.get(place).map(|(_, lock)| {
+            let (fid, process) = (lock.fid.into(), lock.process.into());
+            [
+                1,
+                fid,
+                process,
+                holder[3],
+                lock.range.offset,
+                lock.range.length,
+            ]
+        });
+        if named != Some(holder) {
+            return Err(format!("holder {holder:?}, at its place {named:?}"));
+        }
+        Ok(Conflict {
+            requests,
+            refused: begun - 1,
+            process: header_numbers(message).2.into(),
+            tables,
+            list,
+            place,
+        })
+    }
+
+    fn request(&self) -> &Request<'m> {
+        &self.requests[self.refused]
+    }
+
+    fn holder(&self) -> &Lock {
+        &self.list[self.place].1
+    }
+
+    fn file(&self, fid: u16) -> Option<u8> {
+        let mut opens = self.tables.opens.in_use().iter();
+        opens.find(|open| open.fid == fid).map(|open| open.file)
+    }
+
+    fn count(&self, holders: &mut Holders) {
+        let command = match self.request() {
+            Request::Locking { .. } => name(LOCKING_ANDX),
+            Request::Read { .. } => name(READ_ANDX),
+            _ => name(WRITE_ANDX),
+        };
+        let place = match (self.refused, self.requests.len()) {
+            (0, 1) => PLACES[0],
+            (0, _) => PLACES[1],
+            (1, _) => PLACES[2],
+            _ => PLACES[3],
+        };
+        holders.met(format!("{command} {place}"));
+        match *self.request() {
+            Request::Locking { fid, kind, .. } => {
+                self.count_locking(holders, fid, kind & TYPE_SHARED != 0)
+            }
+            Request::Read { fid, range } => {
+                let own = |lock: &Lock| lock.fid == fid && lock.process == self.process;
+                self.count_around(holders, command, fid, range, |l| !l.shared && !own(l));
+                self.count_read(holders, fid);
+            }
+            Request::Write { fid, offset, data } => {
+                let length = data.len() as u64;
+                let own = |lock: &Lock| lock.fid == fid && lock.process == self.process;
+                let range = Range { offset, length };
+                self.count_around(holders, command, fid, range, |l| l.shared || !own(l));
+                self.count_write(holders, own(self.holder()));
+            }
+            _ => holders
+                .wrong
+                .push(format!("{:?} has a holder", self.request())),
+        }
+        let granted = match self.requests[0] {
+            Request::Locking { locks, .. } if self.refused > 0 => locks.len(),
+            _ => 0,
+        };
+        let earlier = self.place >= self.tables.locks.count - granted;
+        let what = "a lock granted by an earlier command of the chain";
+        holders.met_if(self.refused > 0 && earlier, what);
+    }
+
+    fn count_read(&self, holders: &mut Holders, fid: u16) {
+        holders.met(match self.holder().fid == fid {
+            false => "READ: a lock held through another FID",
+            true => "READ: a lock held through the same FID by another process",
+        });
+    }
+
+    fn count_write(&self, holders: &mut Holders, own: bool) {
+        holders.met(match (own, self.holder().shared) {
+            (true, _) => "WRITE: the writer's own shared lock",
+            (false, true) => "WRITE: another's shared lock",
+            (false, false) => "WRITE: another's exclusive lock",
+        });
+    }
+
+    /// Counts the others in the way, and those that are not, around the holder.
+    /// The test does not look at file and range.
+    fn count_around(
+        &self,
+        holders: &mut Holders,
+        command: &str,
+        fid: u16,
+        range: Range,
+        in_the_way: impl Fn(&Lock) -> bool,
+    ) {
+        let (before, behind) = self.list.split_at(self.place);
+        let same = |lock: &Lock| self.file(lock.fid) == self.file(fid);
+        let meets = |lock: &Lock| lock.range.overlaps(range) && in_the_way(lock);
+        // Only locks held: of the request's own some come later.
+        let mut behind = behind[1..].iter().filter(|(held, _)| held.is_some());
+        let found = [
+            behind.any(|(_, lock)| same(lock) && meets(lock)),
+            before.iter().any(|(_, lock)| !same(lock) && meets(lock)),
+            before.iter().any(|(_, lock)| {
+                let inside = range.start() < lock.range.start() && lock.range.end() < range.end();
+                same(lock) && inside && lock.range.length == 0
+            }),
+        ];
+        for (what, found) in MET_BY_EACH.into_iter().zip(found) {
+            holders.met_if(found, &format!("{command}: {what}"));
+        }
+    }
+
+    fn count_locking(&self, holders: &mut Holders, fid: u16, shared: bool) {
+        let Request::Locking { unlocks, locks, .. } = *self.request() else {
+            return;
+        };
+        let asked: Vec<OwnedRange> = locks.iter().collect();
+        let kept = self.list.len() - asked.len();
+        let own = self.place.checked_sub(kept);
+        // The first range that meets it, behind itself if it is one of them.
+        let from = own.map_or(0, |own| own + 1);
+        let barred = |asked: &OwnedRange| asked.range.overlaps(self.holder().range);
+        let Some(at) = asked[from..].iter().position(barred) else {
+            return holders
+                .wrong
+                .push("a holder that bars no range".to_string());
+        };
+        let at = from + at;
+        let range = asked[at].range;
+        self.count_around(holders, "LOCKING", fid, range, |l| !(l.shared && shared));
+        holders.met_if(shared, "LOCKING: for a shared lock");
+        match (own, self.list[self.place].0) {
+            (None, Some(in_table)) => {
+                let owner = (fid, asked[at].process);
+                let own = (self.holder().fid, self.holder().process) == owner;
+                holders.met_if(own, "LOCKING: the asker's own lock");
+                self.count_moved(holders, in_table, !unlocks.is_empty());
+                let later = "LOCKING: a lock held, in the way of a range behind the first";
+                holders.met_if(at > 0, later);
+            }
+            _ => self.count_own(holders, !unlocks.is_empty()),
+        }
+        let earlier = &self.list[..self.place.min(kept)];
+        let crossed = asked[at + 1..].iter().any(|asked| {
+            let meets = |lock: &Lock| lock.range.overlaps(asked.range) && !(lock.shared && shared);
+            let same = |lock: &Lock| self.file(lock.fid) == self.file(fid);
+            earlier.iter().any(|(_, lock)| same(lock) && meets(lock))
+        });
+        holders.met_if(
+            crossed,
+            "LOCKING: while a later range meets an earlier lock",
+        );
+        holders.met_if(self.place > 127, "LOCKING: at a place above 127");
+    }
+
+    fn count_moved(&self, holders: &mut Holders, in_table: usize, unlocks: bool) {
+        let moved = in_table != self.place;
+        holders.met_if(moved, "LOCKING: moved by unlocks of the same request");
+        let behind = "LOCKING: in a request whose unlocks are all behind it";
+        holders.met_if(unlocks && !moved, behind);
+    }
+
+    fn count_own(&self, holders: &mut Holders, unlocks: bool) {
+        holders.met("LOCKING: an own earlier range");
+        holders.met_if(unlocks, "LOCKING: an own earlier range behind unlocks");
+        let other = self.holder().process != self.process;
+        let what = "LOCKING: an own earlier range of another process than the header's";
+        holders.met_if(other, what);
+    }
+}
+
+/// The list as a request finds it: without what it releases, its own ranges at
+/// the end.
+fn list(tables: &Tables, request: &Request) -> Vec<(Option<usize>, Lock)> {
+    let held = tables.locks.in_use().iter().enumerate();
+    let mut list: Vec<_> = held.map(|(place, &lock)| (Some(place), lock)).collect();
+    if let Request::Locking {
+        fid,
+        kind,
+        unlocks,
+        locks,
+    } = *request
+    {
+        for unlock in unlocks.iter() {
+            let alike = |(_, lock): &(Option<usize>, Lock)| {
+                lock.fid == fid && lock.process == unlock.process && lock.range == unlock.range
+            };
+            if let Some(place) = list.iter().position(alike) {
+                list.remove(place);
+            }
+        }
+        list.extend(locks.iter().map(|asked| {
+            let lock = Lock {
+                fid,
+                process: asked.process,
+                range: asked.range,
+                shared: kind & TYPE_SHARED != 0,
+            };
+            (None, lock)
+        }));
+    }
+    list
+}
