@@ -10,7 +10,7 @@
 //! is carried from call to call.
 //!
 //! The lines are this package's own answers, `NUMBER VALUE REPLYHEX DIGEST`
-//! for each call; see [`calls::State::line`]. The program ends with a failure
+//! for each call, and the holder of a lock behind it; see [`calls::State::line`]. The program ends with a failure
 //! and writes nothing if something that the history must reach was not
 //! reached, or if the history read back gives other lines.
 #![forbid(unsafe_code)]
@@ -19,6 +19,8 @@
 mod calls;
 #[path = "make_history/day.rs"]
 mod day;
+#[path = "make_history/holders.rs"]
+mod holders;
 #[path = "make_history/maker.rs"]
 mod maker;
 #[path = "make_history/plan.rs"]
@@ -71,6 +73,7 @@ fn made() -> Maker {
     plan::before_the_day(&mut maker);
     day::day(&mut maker);
     plan::after_the_day(&mut maker);
+    holders::holders(&mut maker);
     maker
 }
 

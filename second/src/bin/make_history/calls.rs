@@ -135,6 +135,9 @@ pub fn digest(numbers: impl Iterator<Item = u64>) -> u64 {
     numbers.fold(0, |d, x| (d * 257 + x % P + 1) % P)
 }
 
+/// Stands in the words for the holder before a call.
+const LENT: HolderWords = [u64::MAX; HOLDER_WORDS];
+
 /// What a call gave.
 #[derive(Clone, Debug, PartialEq, Eq)]
 pub struct Answer {
@@ -143,8 +146,8 @@ pub struct Answer {
     /// The number given out by an add, or the reply's length; else 0.
     pub value: usize,
     pub reply: Vec<u8>,
-    /// Who holds the lock, if the message was refused for a lock conflict.
-    pub holder: HolderWords,
+    /// The words for the holder of a lock; none if nothing was written there.
+    pub holder: Option<HolderWords>,
 }
 
 /// All that is carried from call to call.
@@ -166,7 +169,7 @@ impl State {
     }
 
     pub fn make(&mut self, call: &Call) -> Answer {
-        let mut holder = [0; HOLDER_WORDS];
+        let mut holder = LENT;
         let (words, memory, room) = (&mut self.words, &mut self.memory, &mut self.room);
         let outcome = call.make(words, memory, room, &mut holder);
         let number = number(&outcome);
@@ -179,7 +182,7 @@ impl State {
             number,
             value,
             reply,
-            holder,
+            holder: (holder != LENT).then_some(holder),
         }
     }
 
@@ -196,10 +199,9 @@ impl State {
     pub fn line(&self, answer: &Answer) -> String {
         let hex: String = answer.reply.iter().map(|b| format!("{b:02X}")).collect();
         let Answer { number, value, .. } = answer;
-        let [held, holder @ ..] = answer.holder;
-        let behind: String = match held {
-            0 => String::new(),
-            _ => holder.iter().map(|word| format!(" {word}")).collect(),
+        let behind: String = match answer.holder {
+            Some([1, holder @ ..]) => holder.iter().map(|word| format!(" {word}")).collect(),
+            _ => String::new(),
         };
         format!("{number} {value} {hex} {}{behind}\n", self.digest())
     }

@@ -7,7 +7,7 @@ use second::call::Call;
 use second::refusals::WireRefusal;
 use second::rng::Rng;
 use second::tables::Tables;
-use second::words::unpack;
+use second::words::{unpack, HOLDER_WORDS};
 
 /// Who sends a message: its connection and the header's numbers.
 #[derive(Clone, Copy, Debug, PartialEq, Eq)]
@@ -17,6 +17,9 @@ pub struct User {
     pub tid: u16,
     pub pid: u16,
 }
+
+/// A lock in the way: FID, process, place, offset and length.
+pub type Held = (u16, u16, u64, u64, u64);
 
 pub struct Maker {
     state: State,
@@ -57,6 +60,16 @@ impl Maker {
         let after = self.tables();
         if !after.sound() {
             self.complain("tables not sound", &call, &answer);
+        }
+        let holds = match (&call, answer.number) {
+            (Call::TakeMessage { .. }, 0) => match status(&answer.reply) {
+                (1, 33) => answer.holder.is_some_and(|words| words[0] == 1),
+                _ => answer.holder == Some([0; HOLDER_WORDS]),
+            },
+            _ => answer.holder.is_none(),
+        };
+        if !holds {
+            self.complain("other words for a holder", &call, &answer);
         }
         let unchanged = before.0 == after && before.1 == self.state.memory;
         // A reply of 35 bytes with a Status is that of a first command.
@@ -158,6 +171,18 @@ impl Maker {
     pub fn refused(&mut self, user: User, asks: &[Ask], refusal: WireRefusal) -> Answer {
         let message = self.message(user, asks);
         self.take_for(user.connection, message, refusal.class_and_code())
+    }
+
+    /// Sends a message that must be refused for this lock.
+    pub fn held(&mut self, user: User, asks: &[Ask], holder: Held) {
+        let answer = self.refused(user, asks, WireRefusal::Conflict);
+        let (fid, process, place, offset, length) = holder;
+        let wanted = [1, fid.into(), process.into(), place, offset, length];
+        if answer.holder != Some(wanted) {
+            let (number, given) = (self.calls, answer.holder);
+            self.complaints
+                .push(format!("holder {given:?}, not {wanted:?}: call {number}"));
+        }
     }
 
     /// Takes a message whose reply must have the Status.

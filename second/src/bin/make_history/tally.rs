@@ -3,22 +3,22 @@
 use crate::calls::Answer;
 use second::call::Call;
 use second::grammar::{
-    Block, Why, CLOSE, LOCKING_ANDX, LOGOFF_ANDX, PROCESS_EXIT, READ_ANDX, SERVED, TREE_DISCONNECT,
-    WRITE_ANDX,
+    blocks, Block, Why, CLOSE, LOCKING_ANDX, LOGOFF_ANDX, PROCESS_EXIT, READ_ANDX, SERVED,
+    TREE_DISCONNECT, WRITE_ANDX,
 };
 use second::listing::{self, Dropped};
 use second::messages::SUCCESSIONS;
 use second::refusals::WireRefusal;
 use second::reply::header_numbers;
 use second::request::Request;
-use second::tables::{Tables, FILE_BYTES, LOCKS, OPENS, SESSIONS, TREES};
+use second::tables::{Lock, Range, Tables, FILE_BYTES, LOCKS, OPENS, SESSIONS, TREES};
 use std::collections::{BTreeMap, BTreeSet};
 
 /// The numbers that these calls can return, on sound tables.
 const NUMBERS: [u8; 7] = [0, 1, 5, 6, 7, 8, 9];
 
 /// Single things to be reached, with the least count.
-const SINGLE: [(&str, usize); 31] = [
+const SINGLE: [(&str, usize); 40] = [
     ("add a session: 5", 3),
     ("add a tree: 5", 3),
     ("add a tree: 6", 3),
@@ -50,7 +50,18 @@ const SINGLE: [(&str, usize); 31] = [
     ("locks removed with an open", 5),
     ("open left by process exit for its high half", 1),
     ("chain refused behind a command that stands", 10),
+    ("done: nobody holds", 300),
+    ("number 1: holder not written", 10),
+    ("holder moved by unlocks", 5),
+    ("holder not moved by the unlocks behind it", 2),
+    ("holder an own earlier range", 5),
+    ("holder an own earlier range, behind unlocks", 2),
+    ("holder at a place above 127", 2),
+    ("holder is WRITE's own owner", 5),
+    ("holder is LOCKING's own owner", 5),
 ];
+/// The commands that a lock can bar.
+const BARRED: [u8; 3] = [LOCKING_ANDX, READ_ANDX, WRITE_ANDX];
 
 #[derive(Default)]
 pub struct Tally {
@@ -126,6 +137,7 @@ impl Tally {
         after: &Tables,
         unchanged: bool,
     ) {
+        self.note_holder(message, answer, after);
         match listing::answer(message) {
             listing::Answer::Dropped(reason) => self.count(format!("dropped: {reason:?}")),
             listing::Answer::NotAChain(reason) => {
@@ -138,6 +150,83 @@ impl Tally {
                 self.note_hanging(&blocks, before, after);
             }
         }
+    }
+
+    /// What stands in the words for the holder, with each answer.
+    fn note_holder(&mut self, message: &[u8], answer: &Answer, after: &Tables) {
+        let what = match (answer.number, status(&answer.reply)) {
+            (0, (0, 0)) => "done".to_string(),
+            (0, status) => refusal_name(status),
+            (number, _) => format!("number {number}"),
+        };
+        match answer.holder {
+            None => self.count(format!("{what}: holder not written")),
+            Some([0, 0, 0, 0, 0, 0]) => self.count(format!("{what}: nobody holds")),
+            Some([_, fid, process, place, offset, length]) => {
+                self.count(format!("{what}: a holder"));
+                let lock = Lock {
+                    fid: fid as u16,
+                    process: process as u32,
+                    range: Range { offset, length },
+                    shared: false,
+                };
+                self.note_held(message, &answer.reply, place as usize, lock, after);
+            }
+        }
+    }
+
+    /// Who holds the lock. The tables are as the refused command found them.
+    fn note_held(
+        &mut self,
+        message: &[u8],
+        reply: &[u8],
+        place: usize,
+        lock: Lock,
+        after: &Tables,
+    ) {
+        let blocks: Vec<Block> = blocks(message).flatten().collect();
+        let block = blocks[reply_blocks(reply).len() - 1];
+        let command = name(block.command);
+        let among = match blocks.len() {
+            1 => "alone",
+            _ => "in a chain",
+        };
+        self.count(format!("holder for {command} {among}"));
+        let owner = match Request::read(message, &block) {
+            Request::Locking {
+                fid,
+                unlocks,
+                locks,
+                ..
+            } => {
+                let held = self.note_place(place, lock, unlocks.len(), after);
+                let mut asked = locks.iter().filter(|_| held);
+                let barred = asked.find(|asked| asked.range.overlaps(lock.range));
+                barred.map(|asked| (fid, asked.process))
+            }
+            Request::Read { fid, .. } | Request::Write { fid, .. } => {
+                Some((fid, header_numbers(message).2.into()))
+            }
+            _ => None,
+        };
+        let own = owner == Some((lock.fid, lock.process));
+        self.count_if(own, &format!("holder is {command}'s own owner"));
+    }
+
+    /// Where a lock that bars a LOCKING stands, so many locks being released:
+    /// behind those kept are the request's own. False of one of these.
+    fn note_place(&mut self, place: usize, lock: Lock, released: usize, after: &Tables) -> bool {
+        self.count_if(place > 127, "holder at a place above 127");
+        let table = after.locks.in_use();
+        let held = place < table.len() - released;
+        let moved = held && !alike(&table[place], &lock);
+        self.count_if(!held, "holder an own earlier range");
+        self.count_if(moved, "holder moved by unlocks");
+        if released > 0 {
+            self.count_if(!held, "holder an own earlier range, behind unlocks");
+            self.count_if(held && !moved, "holder not moved by the unlocks behind it");
+        }
+        held
     }
 
     /// The commands and successions, done or refused.
@@ -274,6 +363,26 @@ pub fn required() -> Vec<(String, usize)> {
         all.push((format!("{before} then {behind}, chain refused"), 2));
     }
     all.extend(refusals_by_command());
+    all.extend(holders());
+    all
+}
+
+/// "Only 1/33 has a holder", whichever command is barred.
+fn holders() -> Vec<(String, usize)> {
+    let mut all: Vec<_> = WireRefusal::ALL
+        .map(|refusal| {
+            let holder = match refusal {
+                WireRefusal::Conflict => "a holder",
+                _ => "nobody holds",
+            };
+            let refused = refusal_name(refusal.class_and_code());
+            (format!("{refused}: {holder}"), 5)
+        })
+        .into();
+    for command in BARRED.map(name) {
+        all.push((format!("holder for {command} alone"), 5));
+        all.push((format!("holder for {command} in a chain"), 2));
+    }
     all
 }
 
@@ -320,6 +429,12 @@ pub fn name(command: u8) -> &'static str {
         LOGOFF_ANDX => "LOGOFF",
         _ => "not served",
     }
+}
+
+/// The same but for its sharing, which the words for a holder don't say.
+fn alike(one: &Lock, other: &Lock) -> bool {
+    let shared = other.shared;
+    Lock { shared, ..*one } == *other
 }
 
 /// Class and code of a reply; none of a call without one.
