@@ -10,10 +10,11 @@ mod stack;
 mod stream;
 
 use measure::{by_library, cost, costs};
+use requests::Request;
 use scene::Scene;
 use second::message::ROOM_BYTES;
 use second::tables::FILE_BYTES;
-use second::words;
+use second::words::{self, HOLDER_WORDS};
 use stack::Stack;
 use std::hint::black_box;
 
@@ -49,21 +50,32 @@ fn message_table(scenes: &[Scene], rounds: usize) {
     println!("|---|---|--:|--:|--:|--:|--:|");
     for which in 0..requests::all(&scenes[0]).len() {
         for scene in scenes {
-            let request = &requests::all(scene)[which];
-            let cost = cost(scene, request, rounds);
-            println!(
-                "| {} | {} | {:.0} | {:.0} | {:.0} | {:.2} | {:.2} |",
-                request.name,
-                scene.name,
-                cost.library,
-                cost.words,
-                cost.own,
-                cost.library / cost.words,
-                cost.library / cost.own
-            );
+            message_line(scene, &requests::all(scene)[which], rounds);
+        }
+    }
+    // Where the request can be refused so.
+    for refused in [requests::barred_lock, requests::barred_read] {
+        for scene in scenes {
+            if let Some(request) = refused(scene) {
+                message_line(scene, &request, rounds);
+            }
         }
     }
     println!();
+}
+
+fn message_line(scene: &Scene, request: &Request, rounds: usize) {
+    let cost = cost(scene, request, rounds);
+    println!(
+        "| {} | {} | {:.0} | {:.0} | {:.0} | {:.2} | {:.2} |",
+        request.name,
+        scene.name,
+        cost.library,
+        cost.words,
+        cost.own,
+        cost.library / cost.words,
+        cost.library / cost.own
+    );
 }
 
 /// Chains of writes. Of writes that carry a byte 291 fit, of empty ones 302.
@@ -136,14 +148,16 @@ fn message_stack(scene: &Scene, which: usize, stack: &mut Stack) -> (usize, usiz
     let request = &requests::all(scene)[which];
     let (connection, bytes) = (scene.asker.connection, &request.bytes);
     let (mut words, mut memory) = (scene.words, scene.memory.clone());
-    let mut room = vec![0; ROOM_BYTES];
+    let (mut room, mut holder) = (vec![0; ROOM_BYTES], [0; HOLDER_WORDS]);
     let library = stack.used(&mut || {
         words.copy_from_slice(&scene.words);
-        by_library(&mut words, connection, bytes, &mut memory, &mut room);
+        let (memory, room) = (&mut memory, &mut room);
+        by_library(&mut words, connection, bytes, memory, room, &mut holder);
     });
     let second = stack.used(&mut || {
         words.copy_from_slice(&scene.words);
-        words::take_message(&mut words, connection, bytes, &mut memory, &mut room).unwrap();
+        let (memory, room) = (&mut memory, &mut room);
+        words::take_message(&mut words, connection, bytes, memory, room, &mut holder).unwrap();
     });
     (library, second)
 }

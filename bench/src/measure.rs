@@ -16,7 +16,7 @@ use crate::requests::Request;
 use crate::scene::Scene;
 use linked as gateway;
 use second::message::{take_message, ROOM_BYTES};
-use second::words::{self, Words};
+use second::words::{self, HolderWords, Words, HOLDER_WORDS};
 use std::hint::black_box;
 
 /// Least time of a batch, in nanoseconds.
@@ -39,6 +39,7 @@ pub type Batch<'a> = Box<dyn FnMut(usize) + 'a>;
 struct Lent {
     memory: Vec<u8>,
     room: Vec<u8>,
+    holder: HolderWords,
 }
 
 impl Lent {
@@ -46,6 +47,7 @@ impl Lent {
         Lent {
             memory: scene.memory.clone(),
             room: vec![0; ROOM_BYTES],
+            holder: [u64::MAX; HOLDER_WORDS],
         }
     }
 }
@@ -57,6 +59,7 @@ pub fn by_library(
     message: &[u8],
     memory: &mut [u8],
     room: &mut [u8],
+    holder: &mut HolderWords,
 ) -> (u8, usize) {
     let mut length = 0;
     // SAFETY: pointers and lengths are of slices that do not overlap.
@@ -71,6 +74,7 @@ pub fn by_library(
             room.as_mut_ptr(),
             room.len(),
             &mut length,
+            holder.as_mut_ptr(),
         )
     };
     (number, length)
@@ -83,13 +87,14 @@ fn by_second(
     message: &[u8],
     memory: &mut [u8],
     room: &mut [u8],
+    holder: &mut HolderWords,
 ) -> (u8, usize) {
-    let length = words::take_message(words, connection, message, memory, room);
+    let length = words::take_message(words, connection, message, memory, room, holder);
     (0, length.unwrap())
 }
 
-/// A program's call over words, message, file memory and room.
-type Call = fn(&mut Words, u32, &[u8], &mut [u8], &mut [u8]) -> (u8, usize);
+/// A program's call over words, message, file memory, room and holder.
+type Call = fn(&mut Words, u32, &[u8], &mut [u8], &mut [u8], &mut HolderWords) -> (u8, usize);
 
 /// So many calls over the words, which are restored before each.
 fn words_calls<'a>(scene: &'a Scene, message: &'a [u8], call: Call) -> impl FnMut(usize) + 'a {
@@ -98,8 +103,12 @@ fn words_calls<'a>(scene: &'a Scene, message: &'a [u8], call: Call) -> impl FnMu
         for _ in 0..calls {
             words.copy_from_slice(black_box(&scene.words));
             let (connection, message) = (scene.asker.connection, black_box(message));
-            let Lent { memory, room } = &mut lent;
-            black_box(call(&mut words, connection, message, memory, room));
+            let Lent {
+                memory,
+                room,
+                holder,
+            } = &mut lent;
+            black_box(call(&mut words, connection, message, memory, room, holder));
         }
     }
 }
@@ -111,7 +120,7 @@ fn own_calls<'a>(scene: &'a Scene, message: &'a [u8]) -> impl FnMut(usize) + 'a 
         for _ in 0..calls {
             tables.clone_from(black_box(&start));
             let (connection, message) = (scene.asker.connection, black_box(message));
-            let Lent { memory, room } = &mut lent;
+            let Lent { memory, room, .. } = &mut lent;
             let taken = take_message(&mut tables, connection, message, memory, room);
             black_box(taken).unwrap();
         }
@@ -182,14 +191,19 @@ fn check(scene: &Scene, request: &Request) {
     let (connection, message) = (scene.asker.connection, &request.bytes);
     let called = |call: Call| {
         let (mut words, mut lent) = (scene.words, Lent::new(scene));
-        let Lent { memory, room } = &mut lent;
-        let given = call(&mut words, connection, message, memory, room);
+        let Lent {
+            memory,
+            room,
+            holder,
+        } = &mut lent;
+        let given = call(&mut words, connection, message, memory, room, holder);
         (given, words, lent)
     };
     let (given, words, lent) = called(by_library);
     let (own_given, own_words, own) = called(by_second);
     let same = given == own_given
-        && (words, &lent.memory, &lent.room) == (own_words, &own.memory, &own.room);
+        && (words, &lent.memory, &lent.room) == (own_words, &own.memory, &own.room)
+        && lent.holder == own.holder;
     assert!(same, "the programs differ: {}", request.name);
     let status = (
         lent.room[5],

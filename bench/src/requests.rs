@@ -1,7 +1,7 @@
 //! The requests that are measured.
 
 use crate::scene::Scene;
-use second::builder::{message, Ask, Asked};
+use second::builder::{message, Ask, Asked, Header};
 
 const LARGEST: usize = 8192;
 
@@ -15,9 +15,15 @@ pub struct Request {
     pub status: (u8, u16),
 }
 
+const CONFLICT: (u8, u16) = (1, 33);
+
 impl Request {
     fn new(name: &str, scene: &Scene, asks: &[Ask]) -> Request {
-        let bytes = message(scene.asker.header, asks, &mut || 0, &mut || FILL);
+        Request::from(name, scene.asker.header, asks)
+    }
+
+    fn from(name: &str, header: Header, asks: &[Ask]) -> Request {
+        let bytes = message(header, asks, &mut || 0, &mut || FILL);
         assert!(bytes.len() <= LARGEST);
         Request {
             name: name.to_string(),
@@ -100,6 +106,44 @@ fn spoilt(scene: &Scene) -> Request {
     request.bytes[last] = 1;
     request.status = (2, 1);
     request
+}
+
+/// The last byte of the last lock in a full list; no other lock has it.
+fn last_byte(scene: &Scene) -> Option<u64> {
+    let (_, offset, length) = scene.to_release?;
+    Some(offset + length - 1)
+}
+
+/// A lock that the last one held is in the way of, the asker's own.
+pub fn barred_lock(scene: &Scene) -> Option<Request> {
+    let ask = Ask::Locking {
+        fid: scene.asker.fid,
+        kind: 0,
+        unlocks: Vec::new(),
+        locks: vec![(scene.asker.header.pid, last_byte(scene)?, 1)],
+    };
+    Some(Request {
+        status: CONFLICT,
+        ..Request::new("LOCKING (refused 1/33 by the last lock)", scene, &[ask])
+    })
+}
+
+/// A read by another process of the same bytes; shared locks bar none.
+pub fn barred_read(scene: &Scene) -> Option<Request> {
+    let header = Header {
+        pid: scene.asker.header.pid + 1,
+        ..scene.asker.header
+    };
+    let ask = Ask::Read {
+        fid: scene.asker.fid,
+        offset: last_byte(scene).filter(|_| scene.kind == 0)?,
+        max: 64,
+        long: false,
+    };
+    Some(Request {
+        status: CONFLICT,
+        ..Request::from("READ (refused 1/33 by the last lock)", header, &[ask])
+    })
 }
 
 pub fn all(scene: &Scene) -> Vec<Request> {

@@ -5,7 +5,7 @@
 use second::builder::{message, Ask, Asked, Header};
 use second::tables::{Tables, FILES, FILE_BYTES, MEMORY_BYTES};
 use second::words::{
-    add_open, add_session, add_tree, load_file, take_message, unpack, Words, WORDS,
+    add_open, add_session, add_tree, load_file, take_message, unpack, Words, HOLDER_WORDS, WORDS,
 };
 
 const PROCESS: u16 = 7;
@@ -92,6 +92,7 @@ impl Scene {
             &message,
             memory,
             &mut self.room,
+            &mut [0; HOLDER_WORDS],
         )
         .unwrap();
         assert_eq!(self.room[5..9], [0; 4], "a lock of the scene was refused");
