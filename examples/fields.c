@@ -1,7 +1,7 @@
 /*
- * Reads every field of the tables, of a reader's state and of its step by its name in gateway.h. The calls below give a
- * field of some record a value that no other field of the record has, and each count another, so a field that the header has
- * in another place than the library is read with a wrong value.
+ * Reads every field of the tables, of a holder, of a reader's state and of its step by its name in gateway.h. The calls below
+ * give a field of some record a value that no other field of the record has, and each count another, so a field that the
+ * header has in another place than the library is read with a wrong value.
  *
  * Exit status: 0 if every field is as given and stands at its word; 1 if not, with each that is not; 2 if a call was
  * refused.
@@ -16,6 +16,8 @@
 
 static struct gateway_tables tables;
 static uint8_t memory[GATEWAY_MEMORY];
+static uint8_t room[GATEWAY_ROOM];
+static struct gateway_holder holder;
 static unsigned long read_fields, wrong;
 
 /* What the tables hold after the calls; records not named are all 0. */
@@ -92,12 +94,15 @@ static void put(uint8_t *message, size_t place, size_t count, uint64_t number)
         message[place + byte] = (uint8_t)(number >> (8 * byte));
 }
 
-/* A lock by a LOCKING message of UID 3 and TID 4 on connection 70003; its ranges have 20 bytes, type bit 0x10. */
-static void lock(uint16_t fid, uint8_t type, uint16_t process, uint64_t offset, uint64_t length)
+/*
+ * A LOCKING message of UID 3 and TID 4 on connection 70003; its ranges have 20 bytes, type bit 0x10. Gives the number that the
+ * call returned. The holder's words are all ones before it.
+ */
+static uint8_t ask_lock(uint16_t fid, uint8_t type, uint16_t process, uint64_t offset, uint64_t length, size_t room_length)
 {
-    static uint8_t room[GATEWAY_ROOM];
     uint8_t message[MESSAGE] = {0xFF, 0x53, 0x4D, 0x42, 0x24, [32] = 8, 0xFF};
     size_t reply_length = 0;
+    memset(&holder, 0xFF, sizeof holder);
     put(message, 24, 2, 4); /* TID */
     put(message, 28, 2, 3); /* UID */
     put(message, 37, 2, fid);
@@ -109,13 +114,24 @@ static void lock(uint16_t fid, uint8_t type, uint16_t process, uint64_t offset, 
     put(message, 59, 4, offset);
     put(message, 63, 4, length >> 32);
     put(message, 67, 4, length);
-    require_done(gateway_take_message(&tables, 70003, message, sizeof message, memory, sizeof memory, room, sizeof room,
-                                      &reply_length),
-                 "gateway_take_message");
-    if (room[5] != 0) {
-        fprintf(stderr, "fields: the lock was refused with class %u\n", (unsigned)room[5]);
-        exit(2);
-    }
+    return gateway_take_message(&tables, 70003, message, sizeof message, memory, sizeof memory, room, room_length,
+                                &reply_length, &holder);
+}
+
+/* The reply's status must be the one expected: class at 5, code at 7. */
+static void require_status(unsigned class, unsigned code)
+{
+    if (room[5] == class && room[7] == code)
+        return;
+    fprintf(stderr, "fields: the lock was answered with status %u/%u\n", (unsigned)room[5], (unsigned)room[7]);
+    exit(2);
+}
+
+/* A lock that is granted. */
+static void lock(uint16_t fid, uint8_t type, uint16_t process, uint64_t offset, uint64_t length)
+{
+    require_done(ask_lock(fid, type, process, offset, length, sizeof room), "gateway_take_message");
+    require_status(0, 0);
 }
 
 static void fill(void)
@@ -223,6 +239,64 @@ static void read_words(void)
     WORD(files[15].size, 1171);
 }
 
+static void same_holder(size_t place, struct gateway_holder due)
+{
+    same("held", place, holder.held, due.held);
+    same("fid", place, holder.fid, due.fid);
+    same("process", place, holder.process, due.process);
+    same("place", place, holder.place, due.place);
+    same("offset", place, holder.offset, due.offset);
+    same("length", place, holder.length, due.length);
+}
+
+/* The holder's words as they were before the call. */
+static const struct gateway_holder not_written = {UINT64_MAX, UINT64_MAX, UINT64_MAX, UINT64_MAX, UINT64_MAX, UINT64_MAX};
+
+/* A lock granted, one refused for a conflict, one for another reason: no FID 9. */
+static void read_holder(void)
+{
+    lock(3, 0x00, 5555, 0, 1);
+    same_holder(0, (struct gateway_holder){0});
+    lock(2, 0x00, 62000, 5000000000007, 6000000000008);
+    require_done(ask_lock(2, 0x00, 1234, 5000000000100, 1, sizeof room), "gateway_take_message");
+    require_status(1, 33);
+    same_holder(1, (struct gateway_holder){
+                       .held = 1, .fid = 2, .process = 62000, .place = 3, .offset = 5000000000007, .length = 6000000000008});
+    require_done(ask_lock(9, 0x00, 1234, 5000000000100, 1, sizeof room), "gateway_take_message");
+    require_status(1, 6);
+    same_holder(2, (struct gateway_holder){0});
+}
+
+/* Calls that are refused leave the holder as it was, of a lock that would be refused for a conflict too. */
+static void read_holder_refused(void)
+{
+    static const uint8_t short_message[34];
+    size_t reply_length = 0;
+    same("number", 3, ask_lock(2, 0x00, 1234, 5000000000100, 1, sizeof room - 1), GATEWAY_WRONG_ROOM);
+    same_holder(3, not_written);
+    tables.session_count += GATEWAY_SESSIONS;
+    same("number", 4, ask_lock(2, 0x00, 1234, 5000000000100, 1, sizeof room), GATEWAY_NOT_SOUND);
+    same_holder(4, not_written);
+    tables.session_count -= GATEWAY_SESSIONS;
+    same("number", 5,
+         gateway_take_message(&tables, 70003, short_message, sizeof short_message, memory, sizeof memory, room, sizeof room,
+                              &reply_length, &holder),
+         GATEWAY_DROPPED);
+    same_holder(5, not_written);
+}
+
+#define HOLDER_WORD(field, word) same("the word of the holder's " #field, 0, offsetof(struct gateway_holder, field) / 8, word)
+
+static void read_holder_words(void)
+{
+    HOLDER_WORD(held, 0);
+    HOLDER_WORD(fid, 1);
+    HOLDER_WORD(process, 2);
+    HOLDER_WORD(place, 3);
+    HOLDER_WORD(offset, 4);
+    HOLDER_WORD(length, 5);
+}
+
 static struct gateway_stream reader;
 static struct gateway_stream_step step;
 
@@ -314,6 +388,9 @@ int main(void)
     fill();
     read_records();
     read_words();
+    read_holder();
+    read_holder_refused();
+    read_holder_words();
     read_stream();
     read_stream_words();
     printf("fields: %lu read, %lu wrong\n", read_fields, wrong);

@@ -162,15 +162,16 @@ static void write_reply(struct host *host, size_t length)
 static void take_message(struct host *host, uint32_t connection, const uint8_t *message, size_t length)
 {
     size_t reply_length = 0;
+    struct gateway_holder holder;
     host->messages++;
     if (host->show)
         show_message(host->messages, connection, length);
     uint8_t number = gateway_take_message(&host->tables, connection, message, length, host->memory, sizeof host->memory,
-                                          host->room, sizeof host->room, &reply_length);
+                                          host->room, sizeof host->room, &reply_length, &holder);
     if (number != GATEWAY_DROPPED)
         require_done(number, "gateway_take_message");
     if (host->show)
-        show_taken(number, host->room, reply_length, &host->tables);
+        show_taken(number, host->room, reply_length, &holder, &host->tables);
     else if (number == GATEWAY_DONE)
         write_reply(host, reply_length);
 }

@@ -2,6 +2,7 @@
 
 #include <ctype.h>
 #include <inttypes.h>
+#include <stdbool.h>
 #include <stdio.h>
 
 #define FIRST_BLOCK 32 /* the first block stands behind the header */
@@ -165,6 +166,49 @@ static void show_blocks(const uint8_t *reply, size_t length)
     }
 }
 
+/* The connection of the open of that FID. A holder's open stands in the tables that its call left, and so does its session. */
+static uint64_t connection_of(const struct gateway_tables *tables, uint64_t fid)
+{
+    uint64_t uid = 0, connection = 0;
+    for (size_t place = 0; place < tables->open_count; place++)
+        if (tables->opens[place].fid == fid)
+            uid = tables->opens[place].uid;
+    for (size_t place = 0; place < tables->session_count; place++)
+        if (tables->sessions[place].uid == uid)
+            connection = tables->sessions[place].connection;
+    return connection;
+}
+
+/* Whether the holder's lock is held still. One that the refused request itself had been granted is undone with it. */
+static bool still_held(const struct gateway_tables *tables, const struct gateway_holder *holder)
+{
+    for (size_t place = 0; place < tables->lock_count; place++) {
+        const struct gateway_lock *lock = &tables->locks[place];
+        if (lock->fid == holder->fid && lock->process == holder->process && lock->offset == holder->offset
+            && lock->length == holder->length)
+            return true;
+    }
+    return false;
+}
+
+/* A line for the plant's log: whose lock is in the way. */
+static void put_holder(const struct gateway_tables *tables, const struct gateway_holder *holder)
+{
+    printf("FID %" PRIu64 " of process %" PRIu64 " on connection %" PRIu64 " %s bytes %" PRIu64 " to %" PRIu64 "\n",
+           holder->fid, holder->process, connection_of(tables, holder->fid),
+           still_held(tables, holder) ? "holds" : "asked in the same request for", holder->offset,
+           holder->offset + (holder->length - 1));
+}
+
+static void show_holder(const struct gateway_tables *tables, const struct gateway_holder *holder)
+{
+    if (holder->held == 0)
+        return;
+    printf("  ");
+    put_holder(tables, holder);
+    printf("  place in the list of locks as it then stood: %" PRIu64 "\n", holder->place);
+}
+
 static void show_tables(const struct gateway_tables *tables)
 {
     printf("  tables: sessions %" PRIu64 ", trees %" PRIu64 ", opens %" PRIu64 ", locks %" PRIu64 "\n",
@@ -176,12 +220,14 @@ void show_message(unsigned long place, uint32_t connection, size_t length)
     printf("message %lu on connection %" PRIu32 ": %zu bytes\n", place, connection, length);
 }
 
-void show_taken(uint8_t number, const uint8_t *reply, size_t length, const struct gateway_tables *tables)
+void show_taken(uint8_t number, const uint8_t *reply, size_t length, const struct gateway_holder *holder,
+                const struct gateway_tables *tables)
 {
     printf("  returned %u: %s\n", (unsigned)number, number_in_words(number));
     if (number == GATEWAY_DONE && length >= FIRST_BLOCK) {
         unsigned class = reply[5], code = get_word(reply + 7);
         printf("  status %u/%u: %s\n", class, code, status_in_words(class, code));
+        show_holder(tables, holder);
         show_blocks(reply, length);
         printf("  reply, %zu bytes:\n", length);
         show_dump(reply, length);

@@ -6,8 +6,8 @@
  * not run at the same time.
  *
  * No pointer may be NULL, not even one whose length is 0, and no two areas handed to one call may overlap: the tables,
- * an out-parameter, the contents or the message, the file memory, the reply room; a reader's state, its buffer, the
- * piece and the step.
+ * an out-parameter (a message has two, the reply's length and the holder), the contents or the message, the file memory,
+ * the reply room; a reader's state, its buffer, the piece and the step.
  *
  * Every call on tables but gateway_empty returns one of the numbers below. A call that returns anything but GATEWAY_DONE
  * has written nothing at all: no table, no file byte, no reply byte, no out-parameter. The stream's calls, at the end of
@@ -45,6 +45,7 @@ extern "C" {
 #define GATEWAY_MEMORY 65536    /* bytes of file memory: file n stands at n * GATEWAY_FILE_SIZE */
 #define GATEWAY_ROOM 12292      /* bytes of reply room that a message needs at least */
 #define GATEWAY_WORDS 1172      /* 64-bit words in the tables */
+#define GATEWAY_HOLDER_WORDS 6  /* 64-bit words in a holder */
 
 /*
  * The records. Each field is a 64-bit word, whatever its values: a comment gives the largest value that fits. A call
@@ -95,10 +96,27 @@ struct gateway_tables {
     struct gateway_file files[GATEWAY_FILES];
 };
 
+/*
+ * Whose lock is in the way of a message that is refused 1/33, lock conflict; in a chain, of the command that is refused. If
+ * several are, it is the first in the list of locks as it then stood: in order of grant, this request's unlocks taken out,
+ * its own ranges that were granted before at the end. The refusal undoes both, so the place need not be one in the tables
+ * that the call leaves, and the bytes are given beside it. The open of that FID always stands in those tables.
+ */
+struct gateway_holder {
+    uint64_t held;    /* 1 if the reply's Status is 1/33; otherwise 0, and so is all else */
+    uint64_t fid;     /* of the open through which the lock is held */
+    uint64_t process; /* the owner's process */
+    uint64_t place;   /* the lock's place in that list, from 0 */
+    uint64_t offset;  /* the first byte locked */
+    uint64_t length;  /* how many bytes, at least 1: the last is offset + (length - 1) */
+};
+
 #ifdef __cplusplus
 static_assert(sizeof(struct gateway_tables) == GATEWAY_WORDS * sizeof(uint64_t), "the tables are 1172 words");
+static_assert(sizeof(struct gateway_holder) == GATEWAY_HOLDER_WORDS * sizeof(uint64_t), "the holder is 6 words");
 #else
 _Static_assert(sizeof(struct gateway_tables) == GATEWAY_WORDS * sizeof(uint64_t), "the tables are 1172 words");
+_Static_assert(sizeof(struct gateway_holder) == GATEWAY_HOLDER_WORDS * sizeof(uint64_t), "the holder is 6 words");
 #endif
 
 /* Writes tables with no record in use and every file empty. */
@@ -134,12 +152,12 @@ uint8_t gateway_drop_connection(struct gateway_tables *tables, uint32_t connecti
 
 /*
  * Carries out one request message of a connection. On GATEWAY_DONE the reply is the first *reply_length bytes of the
- * room, and the bytes behind it are as they were. memory_length must be GATEWAY_MEMORY and room_length at least
- * GATEWAY_ROOM.
+ * room, the bytes behind it are as they were, and *holder says whose lock is in the way, or is all 0 if the message was not
+ * refused 1/33; the reply does not tell it. memory_length must be GATEWAY_MEMORY and room_length at least GATEWAY_ROOM.
  */
 uint8_t gateway_take_message(struct gateway_tables *tables, uint32_t connection, const uint8_t *message,
                              size_t message_length, uint8_t *memory, size_t memory_length, uint8_t *room,
-                             size_t room_length, size_t *reply_length);
+                             size_t room_length, size_t *reply_length, struct gateway_holder *holder);
 
 /*
  * The stream. On TCP each message stands behind the four-byte session header of RFC 1002. The reader takes the bytes of a
