@@ -7,7 +7,7 @@
  * Terminal 1 is connection 5 and terminal 2 is connection 6. The files are read one after the other, and what is begun on a
  * connection at the end of one goes on in its next. With no file named, standard input is connection 5's stream. Replies go
  * to standard output in the same framing, in the order of their messages. A message that is dropped has no reply. With
- * --show a person can read what came of each message.
+ * --show a person can read what came of each message, and whose lock is in the way of one that is refused for a lock.
  *
  * SIZE is how many bytes are read at a time at most, 1 to 4,096. LIST is a file of at most 4,096 bytes to serve; without it a
  * built-in list is served.

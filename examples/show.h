@@ -14,8 +14,8 @@ const char *stream_number_in_words(uint8_t number);
 void show_message(unsigned long place, uint32_t connection, size_t length);
 
 /*
- * What the library returned, the reply if there is one, whose lock is in the way if it was refused for one, and how many records
- * the tables then hold.
+ * What the library returned, the reply if there is one, whose lock is in the way if it was refused for one, and how many
+ * records the tables then hold.
  */
 void show_taken(uint8_t number, const uint8_t *reply, size_t length, const struct gateway_holder *holder,
                 const struct gateway_tables *tables);
