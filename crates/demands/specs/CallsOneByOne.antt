@@ -1,5 +1,5 @@
 -- Demand 3's single claim, said of the calls themselves (document 01, "Sent one to a message" and "Compared"): the chain's call gives the number,
--- tables, file memory and reply that the calls of its blocks' own messages give. Assumes nothing.
+-- holder, tables, file memory and reply that the calls of its blocks' own messages give. Assumes nothing.
 use mathlib.Core.Path.{_≡_, refl, _∙_, ap}
 use Prim.Native.Nat.{ℕ, _/_, _%_, _≤_, _<_}
 use native.Mathlib.Omega.{arith}
@@ -11,7 +11,7 @@ use lib.Seq.{take-append-seam}
 use lib.Dec.{eqb}
 use borrow.Author.Tests.{eqb-true, eq-eqb}
 use Rattle.lists.specs.Put.{put}
-use Rattle.lists.specs.Truth.{both-hold, hold-both, same-truth}
+use Rattle.lists.specs.Truth.{both-hold, hold-both, same-truth, not-decided-twice}
 use Rattle.wire.specs.LittleEndian.{byteAt}
 use Rattle.records.specs.declared.Tables.{Tables}
 use Rattle.chain.specs.Layout.{headerCommand, FIRST}
@@ -21,6 +21,8 @@ use Rattle.message.specs.Caller.{callerOf}
 use Rattle.message.specs.declared.caller.Caller.{Caller}
 use Rattle.message.specs.Refusal.{status, statusOf}
 use Rattle.message.specs.declared.refusal.Status.{Status}
+use Rattle.message.specs.declared.refusal.HeldBy.{HeldBy}
+use Rattle.message.specs.declared.refusal.HeldBy.the-variants.{Nobody}
 use Rattle.message.specs.Command.{Given, refused, done, perform}
 use Rattle.message.specs.Reply.{two, replyHeader}
 use Rattle.message.specs.Message.{areaOf, dataOf, Ran, after, afterGiven, run, served, onlyStatus, runChain, answered, replyOf, Taken, replied, take-message}
@@ -28,15 +30,16 @@ use Rattle.message.specs.declared.refusal.Refusal.{Refusal}
 use Rattle.message.specs.declared.refusal.Refusal.the-variants.{NotServed, NotSentence, NoSession, NoTree, NoOpen, NoAccess, LockType, NoSuchLock, PassesEnd, Conflict, NoRecord, NoSpace}
 use Rattle.invariants.specs.GivenCases.{cond-case}
 use Rattle.demands.specs.Alone.{alone}
-use Rattle.demands.specs.OneByOne.{Sent, succeeded, replyThen, sendOn, sendAll, joined, compared, one-by-one}
+use Rattle.demands.specs.OneByOne.{Sent, succeeded, refusal-fails, replyThen, sendOn, sendAll, joined, compared, one-by-one}
 use Rattle.demands.specs.OneByOneReply.{lastReply, comparedReply, one-by-one-reply}
 use Rattle.invariants.specs.Sound.{Good}
 use Rattle.invariants.specs.Fit.{Fit, fit-answered}
 use Rattle.demands.specs.Taken.{not-long, AllFit, none-left, next-fits, all-fit}
 
--- what the calls give: the last one's number, tables and file memory, and the replies in turn
+-- what the calls give: the last one's number, holder, tables and file memory, and the replies in turn
 pub record Calls : Type 0 where
   pub number : ℕ
+  pub holder : HeldBy
   pub tables : Tables
   pub memory : List ℕ
   pub replies : List (List ℕ)
@@ -50,10 +53,10 @@ unfoldable pub statusZero : List ℕ → Bool
 statusZero reply = eqb (byteAt reply 5) 0 && (eqb (byteAt reply 6) 0 && (eqb (byteAt reply 7) 0 && eqb (byteAt reply 8) 0))
 
 unfoldable pub lastCall : Taken → Calls
-lastCall r = record { number = r .number; tables = r .tables; memory = r .memory; replies = replyIn r ∷ [] }
+lastCall r = record { number = r .number; holder = r .holder; tables = r .tables; memory = r .memory; replies = replyIn r ∷ [] }
 
 unfoldable pub callThen : List ℕ → Calls → Calls
-callThen reply calls = record { number = calls .number; tables = calls .tables; memory = calls .memory; replies = reply ∷ calls .replies }
+callThen reply calls = record { number = calls .number; holder = calls .holder; tables = calls .tables; memory = calls .memory; replies = reply ∷ calls .replies }
 
 -- a message that was carried out: number 0 ("done; for a message, a reply of stated length was written") and Status 0
 unfoldable pub carriedOut : Taken → Bool
@@ -66,7 +69,7 @@ callOn r (b ∷ bs) rest = cond (carriedOut r) (callThen (replyIn r) (rest (r .t
 
 -- "each block in turn makes a message", taken by the definition: "The first gets the sound tables and files that the chain got, each next those the last one left"
 unfoldable pub callAll : ℕ → List ℕ → List ℕ → List Block → Tables → List ℕ → Calls
-callAll connection s room [] t memory = record { number = 0; tables = t; memory = memory; replies = [] }
+callAll connection s room [] t memory = record { number = 0; holder = Nobody; tables = t; memory = memory; replies = [] }
 callAll connection s room (b ∷ bs) t memory =
     callOn (take-message connection (alone s b) t memory room) bs (λ t′ m. callAll connection s room bs t′ m)
 
@@ -74,12 +77,14 @@ callAll connection s room (b ∷ bs) t memory =
 unfoldable pub chainReply : List ℕ → List (List ℕ) → List ℕ
 chainReply s replies = set (take 32 (lastReply replies)) 4 (headerCommand s) ++ joined FIRST replies
 
--- "Compared: the chain's number, tables and file memory, every byte, are the last message's", and the reply is written into the chain's room
+-- "Compared: the chain's number, tables and file memory, every byte, are the last message's", so is the holder, and the reply is written into the
+-- chain's room
 unfoldable pub comparedCall : List ℕ → List ℕ → Calls → Taken
 comparedCall s room calls =
     record {
       number = calls .number;
       length = length (chainReply s (calls .replies));
+      holder = calls .holder;
       tables = calls .tables;
       memory = calls .memory;
       room = put room 0 (chainReply s (calls .replies));
@@ -99,7 +104,7 @@ code-small NoAccess = omega arith
 code-small LockType = omega arith
 code-small NoSuchLock = omega arith
 code-small PassesEnd = omega arith
-code-small (Conflict place) = omega arith
+code-small (Conflict h) = omega arith
 code-small NoRecord = omega arith
 code-small NoSpace = omega arith
 
@@ -125,6 +130,34 @@ unfolding answered onlyStatus
 answered-small connection s t memory =
     cond-case (λ (r : Ran). r .status .code < 65536) (served (headerCommand s)) (runChain (callerOf connection s) s (blocks s) t memory)
     (onlyStatus (statusOf NotServed) t memory) (λ _. chain-small (callerOf connection s) s (blocks s) t memory) (λ _. code-small NotServed)
+
+-- a message that succeeds has no holder
+after-nobody : (g : Given) (bs : List Block) (place : ℕ) (t : Tables) (memory : List ℕ) (rest : ℕ → Tables → List ℕ → Ran)
+    → ((p : ℕ) (u : Tables) (m : List ℕ) → succeeded (rest p u m .status) ≡ true → rest p u m .holder ≡ Nobody)
+    → succeeded (afterGiven g bs place t memory rest .status) ≡ true → afterGiven g bs place t memory rest .holder ≡ Nobody
+unfolding afterGiven after
+after-nobody (refused why) bs place t memory rest f e = absurd (not-decided-twice (succeeded (statusOf why)) e (refusal-fails why))
+after-nobody (done u m said) bs place t memory rest f e = f _ u m e
+
+run-nobody : (c : Caller) (s : List ℕ) (bs : List Block) (place : ℕ) (t : Tables) (memory : List ℕ)
+    → succeeded (run c s bs place t memory .status) ≡ true → run c s bs place t memory .holder ≡ Nobody
+unfolding run
+run-nobody c s [] place t memory e = refl
+run-nobody c s (b ∷ bs) place t memory e =
+    after-nobody (perform c t memory (b .body) (areaOf s b) (dataOf s b)) bs place t memory _ (λ p u m. run-nobody c s bs p u m) e
+
+chain-nobody : (c : Caller) (s : List ℕ) (o : Option (List Block)) (t : Tables) (memory : List ℕ)
+    → succeeded (runChain c s o t memory .status) ≡ true → runChain c s o t memory .holder ≡ Nobody
+unfolding runChain onlyStatus
+chain-nobody c s none t memory e = refl
+chain-nobody c s (some bs) t memory e = run-nobody c s bs FIRST t memory e
+
+pub answered-nobody : (connection : ℕ) (s : List ℕ) (t : Tables) (memory : List ℕ)
+    → succeeded (answered connection s t memory .status) ≡ true → answered connection s t memory .holder ≡ Nobody
+unfolding answered onlyStatus
+answered-nobody connection s t memory =
+    cond-case (λ (r : Ran). succeeded (r .status) ≡ true → r .holder ≡ Nobody) (served (headerCommand s)) (runChain (callerOf connection s) s (blocks s) t memory)
+    (onlyStatus (statusOf NotServed) t memory) (λ _ e. chain-nobody (callerOf connection s) s (blocks s) t memory e) (λ _ e. refl)
 
 -- a code's two bytes are 0 exactly if it is
 zero-code : (class code : ℕ) → code < 65536
@@ -156,25 +189,27 @@ reply-read message room r = take-append-seam (replyOf message r) _
 -- ---- the calls are the messages sent
 
 unfoldable callsOf : Sent → Calls
-callsOf sent = record { number = 0; tables = sent .tables; memory = sent .memory; replies = sent .replies }
+callsOf sent = record { number = 0; holder = sent .holder; tables = sent .tables; memory = sent .memory; replies = sent .replies }
 
-last-sent : (b : Bool) (reply : List ℕ) (u : Tables) (m : List ℕ) (why : Status)
-    → _≡_ {A = Calls} (record { number = 0; tables = u; memory = m; replies = reply ∷ [] })
-    (callsOf (cond b (replyThen reply (record { status = status 0 0; tables = u; memory = m; replies = [] })) (record { status = why; tables = u; memory = m; replies = reply ∷ [] })))
+last-sent : (b : Bool) (reply : List ℕ) (h : HeldBy) (u : Tables) (m : List ℕ) (why : Status) → (b ≡ true → h ≡ Nobody)
+    → _≡_ {A = Calls} (record { number = 0; holder = h; tables = u; memory = m; replies = reply ∷ [] })
+    (callsOf (cond b (replyThen reply (record { status = status 0 0; holder = Nobody; tables = u; memory = m; replies = [] }))
+    (record { status = why; holder = h; tables = u; memory = m; replies = reply ∷ [] })))
 unfolding callsOf replyThen
-last-sent true reply u m why = refl
-last-sent false reply u m why = refl
+last-sent true reply h u m why nobody = rw (nobody refl)
+last-sent false reply h u m why nobody = refl
 
-more-sent : (b : Bool) (reply : List ℕ) (calls : Calls) (sent : Sent) (u : Tables) (m : List ℕ) (why : Status) → calls ≡ callsOf sent
-    → cond b (callThen reply calls) (record { number = 0; tables = u; memory = m; replies = reply ∷ [] })
-    ≡ callsOf (cond b (replyThen reply sent) (record { status = why; tables = u; memory = m; replies = reply ∷ [] }))
+more-sent : (b : Bool) (reply : List ℕ) (calls : Calls) (sent : Sent) (h : HeldBy) (u : Tables) (m : List ℕ) (why : Status) → calls ≡ callsOf sent
+    → cond b (callThen reply calls) (record { number = 0; holder = h; tables = u; memory = m; replies = reply ∷ [] })
+    ≡ callsOf (cond b (replyThen reply sent) (record { status = why; holder = h; tables = u; memory = m; replies = reply ∷ [] }))
 unfolding callsOf replyThen callThen
-more-sent true reply calls sent u m why e = rw e
-more-sent false reply calls sent u m why e = refl
+more-sent true reply calls sent h u m why e = rw e
+more-sent false reply calls sent h u m why e = refl
 
 -- with no block, none is sent
 nothing-called : (t : Tables) (memory : List ℕ)
-    → _≡_ {A = Calls} (record { number = 0; tables = t; memory = memory; replies = [] }) (callsOf (record { status = status 0 0; tables = t; memory = memory; replies = [] }))
+    → _≡_ {A = Calls} (record { number = 0; holder = Nobody; tables = t; memory = memory; replies = [] })
+    (callsOf (record { status = status 0 0; holder = Nobody; tables = t; memory = memory; replies = [] }))
 unfolding callsOf
 nothing-called t memory = refl
 
@@ -187,13 +222,14 @@ step : (connection : ℕ) (s room : List ℕ) (b : Block) (bs : List Block) (t :
 unfolding callOn carriedOut lastCall sendOn sendAll replied
 step connection s room b [] t memory e =
     rw (reply-read (alone s b) room (answered connection (alone s b) t memory))
-    (last-sent (succeeded (answered connection (alone s b) t memory .status)) (replyOf (alone s b) (answered connection (alone s b) t memory)) _ _ _)
+    (last-sent (succeeded (answered connection (alone s b) t memory .status)) (replyOf (alone s b) (answered connection (alone s b) t memory)) _ _ _ _
+    (answered-nobody connection (alone s b) t memory))
 step connection s room b (d ∷ bs) t memory e =
     rw (
       reply-read (alone s b) room (answered connection (alone s b) t memory),
       status-read (alone s b) (answered connection (alone s b) t memory) (answered-small connection (alone s b) t memory),
     )
-    (more-sent (succeeded (answered connection (alone s b) t memory .status)) (replyOf (alone s b) (answered connection (alone s b) t memory)) _ _ _ _ _ e)
+    (more-sent (succeeded (answered connection (alone s b) t memory .status)) (replyOf (alone s b) (answered connection (alone s b) t memory)) _ _ _ _ _ _ e)
 
 -- all of them
 calls-sent : (connection : ℕ) (s room : List ℕ) → 12292 ≤ length room → {bs : List Block} {t : Tables} {memory : List ℕ} → AllFit connection s bs t memory

@@ -231,16 +231,16 @@ module _ (c : Caller) (t : Tables) (memory : List ℕ) (ok : sound t ≡ true) w
     unfolding doRead
     read-refused e = with-open c t (f .fid) k _ may ∙ rw e
 
-    read-is : eqb (read-open .access) 1 ≡ false → doRead c t memory f ≡ unlessBarred (barring t (askBy c (f .fid) (f .offset) (f .max) Reading)) read-end
+    read-is : eqb (read-open .access) 1 ≡ false → doRead c t memory f ≡ unlessBarred t (barring t (askBy c (f .fid) (f .offset) (f .max) Reading)) read-end
     unfolding doRead
     read-is e = with-open c t (f .fid) k _ may ∙ rw e
 
     module _ (e : eqb (read-open .access) 1 ≡ false) where
       -- a lock is in the way, or the read is done
-      read-ends : (x : Found) → doRead c t memory f ≡ unlessBarred x read-end → (BarsRead c t f read-open × (statusIn (doRead c t memory f) ≡ status 1 33))
+      read-ends : (x : Found) → doRead c t memory f ≡ unlessBarred t x read-end → (BarsRead c t f read-open × (statusIn (doRead c t memory f) ≡ status 1 33))
           ⊎ ((BarsRead c t f read-open → ⊥) × (statusIn (doRead c t memory f) ≡ status 0 0))
       unfolding unlessBarred statusIn status
-      read-ends (At j) g = inl (read-exact c t memory k ok f may e .0 (j, g), conflicts-status (doRead c t memory f) (j, g))
+      read-ends (At j) g = inl (read-exact c t memory k ok f may e .0 (_, g), conflicts-status (doRead c t memory f) (_, g))
       read-ends Nothing g =
           inr (λ w. other-status (doRead c t memory f) (read-other g) (read-exact c t memory k ok f may e .1 w), ap statusIn g)
         where
@@ -310,17 +310,17 @@ module _ (c : Caller) (t : Tables) (memory : List ℕ) (ok : sound t ≡ true) w
 
       write-is : eqb (write-open .access) 0 ≡ false
           → doWrite c t memory f bytes
-          ≡ unlessBarred (barring t (askBy c (f .fid) (f .offset) (f .count) Writing)) (cond (endsPast (f .offset) (f .count)) (refused NoSpace) (write-end write-open))
+          ≡ unlessBarred t (barring t (askBy c (f .fid) (f .offset) (f .count) Writing)) (cond (endsPast (f .offset) (f .count)) (refused NoSpace) (write-end write-open))
       unfolding doWrite
       write-is e = with-open c t (f .fid) k _ may ∙ rw e
 
       module _ (e : eqb (write-open .access) 0 ≡ false) where
         -- a lock is in the way, or the write's end decides
-        write-ends : (x : Found) → doWrite c t memory f bytes ≡ unlessBarred x (cond (endsPast (f .offset) (f .count)) (refused NoSpace) (write-end write-open))
+        write-ends : (x : Found) → doWrite c t memory f bytes ≡ unlessBarred t x (cond (endsPast (f .offset) (f .count)) (refused NoSpace) (write-end write-open))
             → (BarsWrite c t f write-open × (statusIn (doWrite c t memory f bytes) ≡ status 1 33))
             ⊎ ((BarsWrite c t f write-open → ⊥) × (statusIn (doWrite c t memory f bytes) ≡ cond (endsPast (f .offset) (f .count)) (status 3 39) (status 0 0)))
         unfolding unlessBarred
-        write-ends (At j) g = inl (write-exact c t memory k ok f bytes may e .0 (j, g), conflicts-status (doWrite c t memory f bytes) (j, g))
+        write-ends (At j) g = inl (write-exact c t memory k ok f bytes may e .0 (_, g), conflicts-status (doWrite c t memory f bytes) (_, g))
         write-ends Nothing g =
             inr (
               λ w. other-status (doWrite c t memory f bytes) (λ q. end-code (endsPast (f .offset) (f .count)) (sym (ap (λ (s : Status). s .code) (ap statusIn g ∙ end-status (endsPast (f .offset) (f .count)) _ _ _)) ∙ q)) (write-exact c t memory k ok f bytes may e .1 w),
@@ -422,7 +422,7 @@ module _ (c : Caller) (t : Tables) (memory : List ℕ) (ok : sound t ≡ true) w
             | inl e ↦ rw e (locking-done a bits r low g (leb-true (length last) 128 e))
             | inr e ↦ rw e (locking-full a bits r low g (leb-false (length last) 128 e))
           ]
-      grants-reason r low (blocked k) (one-blocked b) = locking-blocked a bits r low b
+      grants-reason r low (blocked h) (one-blocked b) = locking-blocked a bits r low b
 
       releases-reason : (x : Option (List Lock)) → Releasing (f .fid) (unlocksIn f area) (locksOf t) x → LockingStatus c t f area (after-unlocks x)
       unfolding afterReleases settle lockingAfter lockingEnd statusIn statusOf

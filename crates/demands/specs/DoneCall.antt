@@ -22,6 +22,7 @@ use Rattle.message.specs.Caller.{callerOf}
 use Rattle.message.specs.declared.caller.Caller.{Caller}
 use Rattle.message.specs.Refusal.{status, statusOf}
 use Rattle.message.specs.declared.refusal.Status.{Status}
+use Rattle.message.specs.declared.refusal.HeldBy.the-variants.{Nobody}
 use Rattle.message.specs.declared.refusal.Refusal.{Refusal}
 use Rattle.message.specs.declared.refusal.Refusal.the-variants.{NotServed, NotSentence, NoSession, NoTree, NoOpen, NoAccess, LockType, NoSuchLock, PassesEnd, Conflict, NoRecord, NoSpace}
 use Rattle.message.specs.declared.link.Link.the-variants.{None as noLink}
@@ -67,13 +68,14 @@ pub record Carried (c : Caller) (s : List ℕ) (b : Block) (t : Tables) (memory 
   pub given : gives c s b t memory ≡ done (call .tables) (call .memory) said
   pub reply : call .room ≡ put room 0 (replyHeader s (status 0 0) ++ replyBlock said FIRST noLink)
   pub reply-length : call .length ≡ 32 + replySize said
+  pub nobody-holds : call .holder ≡ Nobody
 
 -- commands of which the one was done
 run-one : (c : Caller) (s : List ℕ) (b : Block) (t : Tables) (memory : List ℕ) {u : Tables} {m : List ℕ} {said : Said} → gives c s b t memory ≡ done u m said
-    → run c s (b ∷ []) FIRST t memory ≡ record { status = status 0 0; tables = u; memory = m; blocks = replyBlock said FIRST noLink }
+    → run c s (b ∷ []) FIRST t memory ≡ record { status = status 0 0; holder = Nobody; tables = u; memory = m; blocks = replyBlock said FIRST noLink }
 unfolding run afterGiven after linkTo
 run-one c s b t memory {u} {m} {said} e =
-    rw e (ap (λ (l : List ℕ). record { status = status 0 0; tables = u; memory = m; blocks = l }) (append-nil (replyBlock said FIRST noLink)))
+    rw e (ap (λ (l : List ℕ). record { status = status 0 0; holder = Nobody; tables = u; memory = m; blocks = l }) (append-nil (replyBlock said FIRST noLink)))
 
 module _ (connection : ℕ) (s : List ℕ) (b : Block) (e : blocks s ≡ some (b ∷ [])) (t : Tables) (memory room : List ℕ) (fit : Fit s t memory room) where
   carried-by : (g : Given) → gives (callerOf connection s) s b t memory ≡ g → statusRead (take-message connection s t memory room .room) ≡ status 0 0
@@ -93,6 +95,7 @@ module _ (connection : ℕ) (s : List ℕ) (b : Block) (e : blocks s ≡ some (b
             ap (λ (x : Taken). x .length) k
             ∙ length-append (replyHeader s (status 0 0)) (replyBlock said FIRST noLink)
             ∙ rw (length-header s (status 0 0) (long-enough s (fit .not-dropped)), length-block said FIRST noLink) refl;
+        nobody-holds = ap (λ (x : Taken). x .holder) k;
       }
 
   -- Status 0/0 says that it was

@@ -14,13 +14,14 @@ use borrow.Author.Tests.{eqb-true, eq-eqb}
 use Rattle.lists.specs.Truth.{decided, both-hold}
 use Rattle.host.specs.declared.answer.Returned.{Returned}
 use Rattle.host.specs.HostCall.{refused, done, addSession, addTree, addOpen, loadFile, loadMemory, dropConnection}
+use Rattle.message.specs.declared.refusal.HeldBy.{HeldBy}
 use Rattle.message.specs.Message.{Taken, notTaken, take-message}
 use Rattle.invariants.specs.GivenCases.{cond-case}
 use Rattle.invariants.specs.HostCases.{loadFile-either, dropConnection-either}
 use Rattle.tables.specs.Words.{inUseFit, tablesOf}
-use Rattle.boundary.specs.Boundary.{ready, ForNext, numberOf, isDone, idAfter, sessionAdded, treeAdded, openAdded, connectionDropped, fileLoaded, loadNumberOf, memoryAfter, wrongRoom, messageTaken, lengthAfter}
+use Rattle.boundary.specs.Boundary.{ready, ForNext, numberOf, isDone, idAfter, sessionAdded, treeAdded, openAdded, connectionDropped, fileLoaded, loadNumberOf, memoryAfter, wrongRoom, messageTaken, lengthAfter, holderWords, holderAfter}
 use Rattle.boundary.specs.BoundaryLaws.{words-shaped, wrong-number, wrong-memory, unfit-memory, fit-memory}
-use Rattle.boundary.specs.MessageLaws.{room-short, memory-wrong, room-right, row-room, message-fit, message-unfit, length-stands, length-given}
+use Rattle.boundary.specs.MessageLaws.{room-short, memory-wrong, room-right, row-room, message-fit, message-unfit, length-stands, length-given, holder-stands, holder-given}
 use Rattle.claims.specs.HostAnswer.{loadMemory-refused}
 use Rattle.claims.specs.HostFrames.{SessionAdded, TreeAdded, OpenAdded, FileLoaded, ConnectionDropped, addSession-frame, addTree-frame, addOpen-frame, loadFile-frame, dropConnection-frame}
 use Rattle.demands.specs.RoomKept.{refused-writes-nothing}
@@ -55,18 +56,20 @@ pub record LoadSeen (w : List ℕ) (file : ℕ) (contents memory : List ℕ) (r 
   pub kept : (r ≡ 0 → ⊥) → (out ≡ w) × (after ≡ memory)
   pub again : ready w ≡ true → ready out ≡ true
 
--- what the host reads off after a message
-abbrev pub readTaken : ℕ → ℕ → List ℕ → List ℕ → List ℕ → Taken
-readTaken r long out memory room = record { number = r; length = long; tables = tablesOf out; memory = memory; room = room }
+-- what the host reads off after a message, with the holder h
+abbrev pub readTaken : ℕ → ℕ → HeldBy → List ℕ → List ℕ → List ℕ → Taken
+readTaken r long h out memory room = record { number = r; length = long; holder = h; tables = tablesOf out; memory = memory; room = room }
 
--- a message of a connection: words, file memory, reply room and the length's out-parameter, before it and after it
-pub record MessageSeen (connection : ℕ) (s w memory room : List ℕ) (long r : ℕ) (out memory′ room′ : List ℕ) (long′ : ℕ) : Type 0 where
+-- a message of a connection: words, file memory, reply room and the out-parameters of the length and the holder, before it and after it
+pub record MessageSeen (connection : ℕ) (s w memory room : List ℕ) (long : ℕ) (held : List ℕ) (r : ℕ) (out memory′ room′ : List ℕ) (long′ : ℕ) (held′ : List ℕ) : Type 0 where
   pub wrong-room : (length room < 12292) ⊎ (length memory ≡ 65536 → ⊥) → r ≡ 2
   pub number : inUseFit w ≡ true → r ≡ take-message connection s (tablesOf w) memory room .number
   pub unfit : 12292 ≤ length room → length memory ≡ 65536 → inUseFit w ≡ false → r ≡ 4
-  -- done: number, length, tables, file memory and reply room are demand 2's definition
-  pub same : r ≡ 0 → readTaken r long′ out memory′ room′ ≡ take-message connection s (tablesOf w) memory room
-  pub kept : (r ≡ 0 → ⊥) → (out ≡ w) × (memory′ ≡ memory) × (room′ ≡ room) × (long′ ≡ long)
+  -- done: number, length, tables, file memory and reply room are demand 2's definition, and the holder's words are those of its holder
+  pub same : r ≡ 0
+      → readTaken r long′ (take-message connection s (tablesOf w) memory room .holder) out memory′ room′ ≡ take-message connection s (tablesOf w) memory room
+  pub same-holder : r ≡ 0 → held′ ≡ holderWords (take-message connection s (tablesOf w) memory room .holder)
+  pub kept : (r ≡ 0 → ⊥) → (out ≡ w) × (memory′ ≡ memory) × (room′ ≡ room) × (long′ ≡ long) × (held′ ≡ held)
   pub again : ready w ≡ true → ready out ≡ true
 
 -- ---- a host call
@@ -210,7 +213,7 @@ module _ (w : List ℕ) (r : ℕ) (out : List ℕ) where
 
 -- ---- a message
 
-module _ (connection : ℕ) (s w memory room : List ℕ) (long r : ℕ) (out memory′ room′ : List ℕ) (long′ : ℕ) where
+module _ (connection : ℕ) (s w memory room : List ℕ) (long : ℕ) (held : List ℕ) (r : ℕ) (out memory′ room′ : List ℕ) (long′ : ℕ) (held′ : List ℕ) where
   abbrev given : Taken
   given = messageTaken connection s w memory room
 
@@ -247,10 +250,10 @@ module _ (connection : ℕ) (s w memory room : List ℕ) (long r : ℕ) (out mem
   unfit-four h e f = rw (message-unfit connection s w memory room f, room-right memory room h e)
 
   -- `gateway_take_message`
-  pub message-seen : r ≡ given .number → memory′ ≡ given .memory → room′ ≡ given .room → long′ ≡ lengthAfter long given → ForNext w out r (given .tables)
-      → MessageSeen connection s w memory room long r out memory′ room′ long′
+  pub message-seen : r ≡ given .number → memory′ ≡ given .memory → room′ ≡ given .room → long′ ≡ lengthAfter long given → held′ ≡ holderAfter held given
+      → ForNext w out r (given .tables) → MessageSeen connection s w memory room long held r out memory′ room′ long′ held′
   unfolding notTaken
-  message-seen number bytes reply length-out next =
+  message-seen number bytes reply length-out holder-out next =
       record {
         wrong-room = ⊎-elim (λ h. number ∙ wrong-two (room-short memory room h)) (λ n. number ∙ wrong-two (memory-wrong memory room n));
         number = λ e. number ∙ ap (λ (k : Taken). k .number) (core e);
@@ -260,12 +263,21 @@ module _ (connection : ℕ) (s w memory room : List ℕ) (long r : ℕ) (out mem
             λ i. record {
               number = (number ∙ ap (λ (k : Taken). k .number) c) i;
               length = (length-out ∙ sym (length-given long given (sym number ∙ z)) ∙ ap (λ (k : Taken). k .length) c) i;
+              holder = take-message connection s (tablesOf w) memory room .holder;
               tables = (next .held z ∙ ap (λ (k : Taken). k .tables) c) i;
               memory = (bytes ∙ ap (λ (k : Taken). k .memory) c) i;
               room = (reply ∙ ap (λ (k : Taken). k .room) c) i;
             };
+        same-holder = λ z.
+            holder-out ∙ sym (holder-given held given (sym number ∙ z)) ∙ ap (λ (k : Taken). holderWords (k .holder)) (core (taken-fits (sym number ∙ z)));
         kept = λ n.
-            let b = refused-given-back (λ z. n (number ∙ z)) in
-            (next .kept n, bytes ∙ ap (λ (k : Taken). k .memory) b, reply ∙ ap (λ (k : Taken). k .room) b, length-out ∙ sym (length-stands long given (λ z. n (number ∙ z))));
+            let refused-so : given .number ≡ 0 → ⊥ = λ z. n (number ∙ z) in
+            let b = refused-given-back refused-so in (
+              next .kept n,
+              bytes ∙ ap (λ (k : Taken). k .memory) b,
+              reply ∙ ap (λ (k : Taken). k .room) b,
+              length-out ∙ sym (length-stands long given refused-so),
+              holder-out ∙ sym (holder-stands held given refused-so),
+            );
         again = next .again;
       }

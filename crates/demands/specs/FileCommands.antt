@@ -54,10 +54,10 @@ not-refused : (b : Bool) (why : Refusal) (g : Given) {u : Tables} {m : List ℕ}
 not-refused true why g e = never cc
 not-refused false why g e = (refl, e)
 
-not-barred : (x : Found) (g : Given) {u : Tables} {m : List ℕ} {said : Said} → unlessBarred x g ≡ done u m said → g ≡ done u m said
+not-barred : (t : Tables) (x : Found) (g : Given) {u : Tables} {m : List ℕ} {said : Said} → unlessBarred t x g ≡ done u m said → g ≡ done u m said
 unfolding unlessBarred
-not-barred (At k) g e = never cc
-not-barred Nothing g e = e
+not-barred t (At k) g e = never cc
+not-barred t Nothing g e = e
 
 same-bytes : {x y : List ℕ} → read x ≡ read y → x ≡ y
 same-bytes e = cc
@@ -72,7 +72,7 @@ module _ (c : Caller) (t : Tables) (memory : List ℕ) (full : length memory ≡
   read-left {said} f o a e =
       let w = admitted-may c t (f .fid) (g .sound) o a in
       let h = not-refused (eqb (getD (opensOf t) (w .0) noOpen .access) 1) NoAccess _ (sym (with-open c t (f .fid) (w .0) _ (w .1)) ∙ e) in
-      let d : done t memory (read (readBytes t memory (getD (opensOf t) (w .0) noOpen .file) (f .offset) (f .max))) ≡ done u m said = not-barred _ _ (h .1) in
+      let d : done t memory (read (readBytes t memory (getD (opensOf t) (w .0) noOpen .file) (f .offset) (f .max))) ≡ done u m said = not-barred t _ _ (h .1) in
       let d′ : done t memory (read (readBytes t memory (o .file) (f .offset) (f .max))) ≡ done u m said = rw (w .2) at d in
       (cc, cc, cc)
 
@@ -93,7 +93,7 @@ module _ (c : Caller) (t : Tables) (memory : List ℕ) (full : length memory ≡
   write-left f bytes o a e =
       let w = admitted-may c t (f .fid) (g .sound) o a in
       let h = not-refused (eqb (getD (opensOf t) (w .0) noOpen .access) 0) NoAccess _ (sym (with-open c t (f .fid) (w .0) _ (w .1)) ∙ e) in
-      let s = not-refused (endsPast (f .offset) (f .count)) NoSpace _ (not-barred _ _ (h .1)) in
+      let s = not-refused (endsPast (f .offset) (f .count)) NoSpace _ (not-barred t _ _ (h .1)) in
       let d = rw (w .2) at (s .1) in
       (s .0, cc, cc, cc)
 

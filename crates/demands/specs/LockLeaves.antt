@@ -100,7 +100,7 @@ module _ (c : Caller) (t : Tables) (memory : List ℕ) (ok : sound t ≡ true) {
         | inl b ↦ list-left r g (leb-true (length last) 128 b) (rw b at e)
         | inr b ↦ let z = rw b at e in never cc
       ]
-  grants-left r (blocked k) (one-blocked b) e = never cc
+  grants-left r (blocked h) (one-blocked b) e = never cc
 
   releases-left : (x : Option (List Lock)) → Releasing (f .fid) (unlocksIn f area) (locksOf t) x
       → ends t memory (afterReleases (file-of t) (f .fid) (sharedIn f) (locksIn f area) x) ≡ done u m said → LocksLeft t memory f area o u m said

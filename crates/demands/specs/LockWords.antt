@@ -24,6 +24,7 @@ use Rattle.locks.specs.Range.{overlaps, passesEnd, overlap-iff}
 use Rattle.locks.specs.Answer.{owns, bars, inWay, named, answersFor, answers}
 use Rattle.locks.specs.Request.{askOf, lockOf, removeAt, afterFind, releaseAll, Grants, granted, blocked, afterWalk, grantAll, rangePasses}
 use Rattle.locks.specs.declared.types.LockRange.{LockRange}
+use Rattle.locks.specs.declared.types.Holder.{Holder}
 use Rattle.locks.specs.declared.types.Purpose.the-variants.{Grant, Release}
 use Rattle.soundness.specs.File.{fileOf}
 use Rattle.soundness.specs.Sound.{sound}
@@ -228,7 +229,7 @@ Opened t list = (l : Lock) → In l list → (p : Open) × In p (opensOf t) × (
 -- what the walk over all locks gives, and what that means
 pub data Granting (t : Tables) (o : Open) (fid : ℕ) (shared : Bool) (rs : List LockRange) (list : List Lock) : Grants → Type 0 where
   all-granted : {last : List Lock} → AllGranted t o fid shared rs list last → Granting t o fid shared rs list (granted last)
-  one-blocked : {k : ℕ} → OneBlocked t o fid shared rs list → Granting t o fid shared rs list (blocked k)
+  one-blocked : {h : Holder} → OneBlocked t o fid shared rs list → Granting t o fid shared rs list (blocked h)
 
 module _ (t : Tables) (ok : sound t ≡ true) (o : Open) (fid : ℕ) (there-is : In o (opensOf t)) (of : o .fid ≡ fid) (shared : Bool) where
   abbrev file-of : ℕ → ℕ
@@ -285,21 +286,21 @@ module _ (t : Tables) (ok : sound t ≡ true) (o : Open) (fid : ℕ) (there-is :
         ]
 
     walk-granting : (rs : List LockRange) (list : List Lock) → Opened t list → (x : Found) → found in-way list ≡ x → (next : Grants)
-        → Granting t o fid shared rs (list ++ (lockOf fid shared r ∷ [])) next → Granting t o fid shared (r ∷ rs) list (afterWalk x next)
+        → Granting t o fid shared rs (list ++ (lockOf fid shared r ∷ [])) next → Granting t o fid shared (r ∷ rs) list (afterWalk x list next)
     unfolding afterWalk
     walk-granting rs list opened (At k) e next g = one-blocked (blocked-here (found-bars list opened k e))
     walk-granting rs list opened Nothing e (granted last) (all-granted a) = all-granted (grant-then (none-bars list e) a)
-    walk-granting rs list opened Nothing e (blocked k) (one-blocked a) = one-blocked (blocked-later (none-bars list e) a)
+    walk-granting rs list opened Nothing e (blocked h) (one-blocked a) = one-blocked (blocked-later (none-bars list e) a)
 
     -- none is in the way: the walk finds nothing
-    bars-none : (list : List Lock) → Opened t list → (x : Found) → found in-way list ≡ x → (BarsLock t o list shared r → ⊥) → (next : Grants) → afterWalk x next ≡ next
+    bars-none : (list : List Lock) → Opened t list → (x : Found) → found in-way list ≡ x → (BarsLock t o list shared r → ⊥) → (next : Grants) → afterWalk x list next ≡ next
     unfolding afterWalk
     bars-none list opened (At k) e h next = absurd (h (found-bars list opened k e))
     bars-none list opened Nothing e h next = refl
 
-    bars-some : (list : List Lock) (x : Found) → found in-way list ≡ x → BarsLock t o list shared r → (next : Grants) → (k : ℕ) × (afterWalk x next ≡ blocked k)
+    bars-some : (list : List Lock) (x : Found) → found in-way list ≡ x → BarsLock t o list shared r → (next : Grants) → (h : Holder) × (afterWalk x list next ≡ blocked h)
     unfolding afterWalk
-    bars-some list (At k) e s next = (k, refl)
+    bars-some list (At k) e s next = (_, refl)
     bars-some list Nothing e s next = absurd (none-bars list e s)
 
   pub grant-means : (rs : List LockRange) (list : List Lock) → Opened t list → Granting t o fid shared rs list (grantAll file-of fid shared rs list)
@@ -316,7 +317,7 @@ module _ (t : Tables) (ok : sound t ≡ true) (o : Open) (fid : ℕ) (there-is :
       bars-none r list opened (found (in-way r) list) refl h (grantAll file-of fid shared rs (list ++ (lockOf fid shared r ∷ [])))
       ∙ granted-is (opened-more r list opened) a
 
-  pub blocked-is : {rs : List LockRange} {list : List Lock} → Opened t list → OneBlocked t o fid shared rs list → (k : ℕ) × (grantAll file-of fid shared rs list ≡ blocked k)
+  pub blocked-is : {rs : List LockRange} {list : List Lock} → Opened t list → OneBlocked t o fid shared rs list → (h : Holder) × (grantAll file-of fid shared rs list ≡ blocked h)
   unfolding grantAll
   blocked-is opened (blocked-here {r} {rs} {list} s) = bars-some r list (found (in-way r) list) refl s (grantAll file-of fid shared rs (list ++ (lockOf fid shared r ∷ [])))
   blocked-is opened (blocked-later {r} {rs} {list} h b) =

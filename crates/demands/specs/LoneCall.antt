@@ -76,7 +76,7 @@ conflict-status NoAccess e = never _ _ e (λ q. omega arith)
 conflict-status LockType e = never _ _ e (λ q. omega arith)
 conflict-status NoSuchLock e = never _ _ e (λ q. omega arith)
 conflict-status PassesEnd e = never _ _ e (λ q. omega arith)
-conflict-status (Conflict k) e = (k, refl)
+conflict-status (Conflict h) e = (h, refl)
 conflict-status NoRecord e = never _ _ e (λ q. omega arith)
 conflict-status NoSpace e = never _ _ e (λ q. omega arith)
 

@@ -23,6 +23,7 @@ use Rattle.locks.specs.Answer.{owns, bars, inWay, answersFor, answers}
 use Rattle.locks.specs.Request.{askOf as askFor, lockOf, releaseAll, granted, afterWalk, grantAll, afterGrants, rangePasses, afterReleases, request, settle, locking, Result, done as doneWith, refused as refusedBy}
 use Rattle.locks.specs.declared.types.Ask.{Ask}
 use Rattle.locks.specs.declared.types.LockRange.{LockRange}
+use Rattle.locks.specs.declared.types.Holder.{Holder}
 use Rattle.locks.specs.declared.types.Outcome.the-variants.{NoRecord as NoRoom}
 use Rattle.locks.specs.declared.types.Purpose.the-variants.{Grant, Read as Reading, Write as Writing}
 use Rattle.soundness.specs.File.{fileOf}
@@ -43,7 +44,7 @@ use Rattle.invariants.specs.Sound.{open-hit, open-fid}
 
 -- the command's refusal is 1/33
 abbrev pub Conflicts : Given → Type 0
-Conflicts g = (k : ℕ) × (g ≡ refused (Conflict k))
+Conflicts g = (h : Holder) × (g ≡ refused (Conflict h))
 
 -- the caller has a session, a tree and the open that stands k-th
 pub record May (c : Caller) (t : Tables) (fid k : ℕ) : Type 0 where
@@ -163,10 +164,10 @@ module _ (c : Caller) (t : Tables) (fid k : ℕ) (may : May c t fid k) where
 
 -- ---- reading and writing
 
-unless-exact : (f : Found) (next : Given) → (Conflicts next → ⊥) → Conflicts (unlessBarred f next) ↔ ((k : ℕ) × (f ≡ At k))
+unless-exact : (t : Tables) (f : Found) (next : Given) → (Conflicts next → ⊥) → Conflicts (unlessBarred t f next) ↔ ((k : ℕ) × (f ≡ At k))
 unfolding unlessBarred
-unless-exact (At k) next n = (λ h. (k, refl), λ h. (k, refl))
-unless-exact Nothing next n = (λ h. absurd (n h), λ h. let f = h .1 in let z : _≡_ {A = ℕ} 0 1 = cc in absurd (omega arith))
+unless-exact t (At k) next n = (λ h. (k, refl), λ h. (_, refl))
+unless-exact t Nothing next n = (λ h. absurd (n h), λ h. let f = h .1 in let z : _≡_ {A = ℕ} 0 1 = cc in absurd (omega arith))
 
 done-not : (u : Tables) (m : List ℕ) (said : Said) → Conflicts (done u m said) → ⊥
 done-not u m said h = let e = h .1 in let z : _≡_ {A = ℕ} 0 1 = cc in omega arith
@@ -182,9 +183,9 @@ module _ (c : Caller) (t : Tables) (memory : List ℕ) (k : ℕ) (ok : sound t �
   unfolding doRead barring askBy answers answersFor bars
   read-conflict f may access =
       rw (with-open c t (f .fid) k may, access) (
-        λ h. let e = unless-exact _ _ (done-not _ _ _) .0 h in
+        λ h. let e = unless-exact _ _ _ (done-not _ _ _) .0 h in
             hit-way c t (f .fid) k may ok (askBy c (f .fid) (f .offset) (f .max) Reading) refl _ (read-bars (askBy c (f .fid) (f .offset) (f .max) Reading)) (λ l. refl) (e .0) (e .1) noLock,
-        λ w. unless-exact _ _ (done-not _ _ _) .1
+        λ w. unless-exact _ _ _ (done-not _ _ _) .1
             (way-hit c t (f .fid) k may ok (askBy c (f .fid) (f .offset) (f .max) Reading) refl _ (read-bars (askBy c (f .fid) (f .offset) (f .max) Reading)) (λ l. refl) w),
       )
 
@@ -198,20 +199,20 @@ module _ (c : Caller) (t : Tables) (memory : List ℕ) (k : ℕ) (ok : sound t �
       (done (resized t (asked c t (f .fid) k may .file) (f .offset) (f .count)) (written t memory (asked c t (f .fid) k may .file) (f .offset) bytes) (wrote (f .count)))) → ⊥ =
       cond-case (λ (g : Given). Conflicts g → ⊥) (endsPast (f .offset) (f .count)) (refused NoSpace) _ (λ _. space-not) (λ _. done-not _ _ _) in
       rw (with-open c t (f .fid) k may, access) (
-        λ h. let e = unless-exact _ _ n .0 h in
+        λ h. let e = unless-exact _ _ _ n .0 h in
             hit-way c t (f .fid) k may ok (askBy c (f .fid) (f .offset) (f .count) Writing) refl _ (write-bars (askBy c (f .fid) (f .offset) (f .count) Writing)) (λ l. refl) (e .0) (e .1) noLock,
-        λ w. unless-exact _ _ n .1
+        λ w. unless-exact _ _ _ n .1
             (way-hit c t (f .fid) k may ok (askBy c (f .fid) (f .offset) (f .count) Writing) refl _ (write-bars (askBy c (f .fid) (f .offset) (f .count) Writing)) (λ l. refl) w),
       )
 
 -- ---- a lone lock
 
 -- what a lone range's walk found decides
-lone-exact : (t : Tables) (memory : List ℕ) (f : Found) (list : List Lock)
-    → Conflicts (lockingAfter t memory (settle (t .locks) (t .nlocks) (afterGrants (afterWalk f (granted list))))) ↔ ((k : ℕ) × (f ≡ At k))
+lone-exact : (t : Tables) (memory : List ℕ) (f : Found) (before list : List Lock)
+    → Conflicts (lockingAfter t memory (settle (t .locks) (t .nlocks) (afterGrants (afterWalk f before (granted list))))) ↔ ((k : ℕ) × (f ≡ At k))
 unfolding afterGrants afterWalk settle lockingAfter lockingEnd
-lone-exact t memory (At k) list = (λ h. (k, refl), λ h. (k, refl))
-lone-exact t memory Nothing list = (
+lone-exact t memory (At k) before list = (λ h. (k, refl), λ h. (_, refl))
+lone-exact t memory Nothing before list = (
   λ h. absurd (cond-case (λ (r : Result). Conflicts (lockingAfter t memory (settle (t .locks) (t .nlocks) r)) → ⊥) (leb (length list) 128) (doneWith list) (refusedBy NoRoom)
       (λ _. done-not _ _ _) (λ _ h. let e = h .1 in let z : _≡_ {A = ℕ} 0 1 = cc in omega arith) h),
   λ h. let f = h .1 in let z : _≡_ {A = ℕ} 0 1 = cc in absurd (omega arith),
@@ -228,7 +229,7 @@ module _ (c : Caller) (t : Tables) (memory : List ℕ) (k : ℕ) (ok : sound t �
   -- a request with no unlocks and one range within 2^64 is the walk of that range
   lone-is : f .unlocks ≡ 0 → f .locks ≡ 1 → servedType (f .kind) ≡ true → length area ≡ 1 * rangeSize (eqb (f .kind / 16 % 2) 1) → rangePasses (loneRange f area) ≡ false
       → doLocking c t memory f area
-      ≡ lockingAfter t memory (settle (t .locks) (t .nlocks) (afterGrants (afterWalk (found (answers (fileOf (opensOf t)) (askFor (f .fid) (Grant (sharedIn f)) (loneRange f area))) (locksOf t))
+      ≡ lockingAfter t memory (settle (t .locks) (t .nlocks) (afterGrants (afterWalk (found (answers (fileOf (opensOf t)) (askFor (f .fid) (Grant (sharedIn f)) (loneRange f area))) (locksOf t)) (locksOf t)
       (granted (locksOf t ++ (lockOf (f .fid) (sharedIn f) (loneRange f area) ∷ []))))))
   unfolding doLocking requestOf locking request releaseAll afterReleases grantAll rangesAt any
   lone-is u l s n low =
@@ -243,7 +244,7 @@ module _ (c : Caller) (t : Tables) (memory : List ℕ) (k : ℕ) (ok : sound t �
   unfolding askFor answers answersFor bars
   lock-conflict u l s n low =
       rw (lone-is u l s n low) (
-        λ h. let e = lone-exact t memory _ _ .0 h in
+        λ h. let e = lone-exact t memory _ _ _ .0 h in
             hit-way c t (f .fid) k may ok (askFor (f .fid) (Grant (sharedIn f)) (loneRange f area)) refl _ (grant-bars (sharedIn f)) (λ m. refl) (e .0) (e .1) noLock,
-        λ w. lone-exact t memory _ _ .1 (way-hit c t (f .fid) k may ok (askFor (f .fid) (Grant (sharedIn f)) (loneRange f area)) refl _ (grant-bars (sharedIn f)) (λ m. refl) w),
+        λ w. lone-exact t memory _ _ _ .1 (way-hit c t (f .fid) k may ok (askFor (f .fid) (Grant (sharedIn f)) (loneRange f area)) refl _ (grant-bars (sharedIn f)) (λ m. refl) w),
       )

@@ -17,6 +17,7 @@ use Rattle.records.specs.Held.{opensOf}
 use Rattle.locks.specs.Wire.{rangeSize, rangesAt}
 use Rattle.locks.specs.Request.{Result, settle, locking}
 use Rattle.locks.specs.declared.types.Request.{Request}
+use Rattle.locks.specs.declared.types.Holder.{Holder}
 use Rattle.soundness.specs.File.{fileOf}
 use Rattle.chain.specs.Layout.{headerCommand, FIRST, byteArea, byteCount, blockEnd, lockType}
 use Rattle.chain.specs.Grammar.{IsBlock, locking-10, locking-20, read-10, read-12, write-12, write-14, close, logoff, tree-disconnect, process-exit, Sentence}
@@ -78,9 +79,9 @@ other-past : Other (refused PassesEnd)
 unfolding statusOf status
 other-past = other-code PassesEnd (λ e. omega arith)
 
-other-conflict : (k : ℕ) → Other (refused (Conflict k))
+other-conflict : (h : Holder) → Other (refused (Conflict h))
 unfolding statusOf status
-other-conflict k = other-code (Conflict k) (λ e. omega arith)
+other-conflict h = other-code (Conflict h) (λ e. omega arith)
 
 other-record : Other (refused NoRecord)
 unfolding statusOf status
@@ -112,14 +113,14 @@ module _ (c : Caller) (t : Tables) (memory : List ℕ) where
   unfolding doRead
   do-read-other f =
       open-case Other c t (f .fid) _ other-session other-tree other-open
-      (λ k _. cond-case Other (eqb (getD (opensOf t) k noOpen .access) 1) (refused NoAccess) _ (λ _. other-access) (λ _. barred-case Other _ _ other-conflict (λ _. no-refusal)))
+      (λ k _. cond-case Other (eqb (getD (opensOf t) k noOpen .access) 1) (refused NoAccess) _ (λ _. other-access) (λ _. barred-case Other t _ _ other-conflict (λ _. no-refusal)))
 
   do-write-other : (f : WriteFields) (bytes : List ℕ) → Other (doWrite c t memory f bytes)
   unfolding doWrite
   do-write-other f bytes =
       open-case Other c t (f .fid) _ other-session other-tree other-open
       (λ k _. cond-case Other (eqb (getD (opensOf t) k noOpen .access) 0) (refused NoAccess) _ (λ _. other-access)
-      (λ _. barred-case Other _ _ other-conflict (λ _. cond-case Other (endsPast (f .offset) (f .count)) (refused NoSpace) _ (λ _. other-space) (λ _. no-refusal))))
+      (λ _. barred-case Other t _ _ other-conflict (λ _. cond-case Other (endsPast (f .offset) (f .count)) (refused NoSpace) _ (λ _. other-space) (λ _. no-refusal))))
 
 -- "The byte area of a block is handed on as a part of the message": it has just the announced length
 pub length-area : {s : List ℕ} {at command : ℕ} → IsBlock s at command → (next : Next) → length (areaOf s (blockAt s command at next)) ≡ byteCount s at

@@ -80,7 +80,7 @@ module _ (c : Caller) (t : Tables) (memory : List ℕ) (full : length memory ≡
       cond-case (λ (r : Result). Leaves (lockingAfter t memory (settle (t .locks) (t .nlocks) r))) (eqb (length area) ((q .unlocks + q .locks) * rangeSize (q .large)))
       (request (fileOf (opensOf t)) (q .fid) (q .shared) (rangesAt (q .large) area 0 (q .unlocks)) (rangesAt (q .large) area (q .unlocks) (q .locks)) (locksOf t))
       (refusedBy Malformed)
-      (λ _. request-case (λ (r : Result). Leaves (lockingAfter t memory (settle (t .locks) (t .nlocks) r))) leaves-refused leaves-refused (λ k. leaves-refused) leaves-refused
+      (λ _. request-case (λ (r : Result). Leaves (lockingAfter t memory (settle (t .locks) (t .nlocks) r))) leaves-refused leaves-refused (λ h. leaves-refused) leaves-refused
       (fileOf (opensOf t)) (q .fid) (q .shared) (rangesAt (q .large) area (q .unlocks) (q .locks)) (rangesAt (q .large) area 0 (q .unlocks)) (locksOf t)
       (λ left list _ _ _ _. leaves-done full))
       (λ _. leaves-refused)
@@ -96,14 +96,14 @@ module _ (c : Caller) (t : Tables) (memory : List ℕ) (full : length memory ≡
   read-leaves f =
       open-case Leaves c t (f .fid) _ leaves-refused leaves-refused leaves-refused
       (λ k _. cond-case Leaves (eqb (getD (opensOf t) k noOpen .access) 1) (refused NoAccess) _ (λ _. leaves-refused)
-      (λ _. barred-case Leaves _ _ (λ j. leaves-refused) (λ _. leaves-done full)))
+      (λ _. barred-case Leaves t _ _ (λ h. leaves-refused) (λ _. leaves-done full)))
 
   write-leaves : (f : WriteFields) (bytes : List ℕ) → Good t → length bytes ≤ f .count → Leaves (doWrite c t memory f bytes)
   unfolding doWrite
   write-leaves f bytes g few =
       open-case Leaves c t (f .fid) _ leaves-refused leaves-refused leaves-refused
       (λ k o. cond-case Leaves (eqb (getD (opensOf t) k noOpen .access) 0) (refused NoAccess) _ (λ _. leaves-refused)
-      (λ _. barred-case Leaves _ _ (λ j. leaves-refused)
+      (λ _. barred-case Leaves t _ _ (λ h. leaves-refused)
       (λ _. cond-case Leaves (endsPast (f .offset) (f .count)) (refused NoSpace) _ (λ _. leaves-refused)
       (λ e. leaves-done (length-written t memory (getD (opensOf t) k noOpen .file) (f .offset) (f .count) bytes full
       (open-file c t (f .fid) k o (sound-says t (g .sound))) (size-most t (getD (opensOf t) k noOpen .file) (sound-says t (g .sound))) e few)))))

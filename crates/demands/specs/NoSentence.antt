@@ -1,5 +1,5 @@
--- "2/22 header command not served", "2/1": a message fit to be answered that is no sentence, whatever its command, changes no table and no file byte, and its reply is the
--- header and one refused block. Assumes nothing.
+-- "2/22 header command not served", "2/1": a message fit to be answered that is no sentence, whatever its command, changes no table and no file byte, its reply is the
+-- header and one refused block, and there is no holder. Assumes nothing.
 use mathlib.Core.Path.{_≡_, ap, _∙_}
 use Prim.Native.Nat.{ℕ, _+_}
 use mathlib.Core.Bool.{true, false}
@@ -12,6 +12,7 @@ use Rattle.chain.specs.Layout.{headerCommand}
 use Rattle.chain.specs.Grammar.{Sentence}
 use Rattle.message.specs.Reply.{refusedBlock}
 use Rattle.message.specs.declared.refusal.Status.{Status}
+use Rattle.message.specs.declared.refusal.HeldBy.the-variants.{Nobody}
 use Rattle.message.specs.Message.{Ran, served, onlyStatus, answered, Taken, replied, take-message}
 use Rattle.invariants.specs.Fit.{Fit, fit-answered}
 use Rattle.demands.specs.Malformed.{malformed-nothing, not-served}
@@ -22,14 +23,17 @@ module _ (connection : ℕ) (s : List ℕ) (t : Tables) (memory room : List ℕ)
   -- the message is answered with a status alone
   only-status : (n : Status) → answered connection s t memory ≡ onlyStatus n t memory
       → Untouched t memory (take-message connection s t memory room) × (take-message connection s t memory room .length ≡ 35)
+      × (take-message connection s t memory room .holder ≡ Nobody)
   unfolding replied onlyStatus refusedBlock
   only-status n e =
       let given = fit-answered connection s t memory room fit ∙ ap (replied s room) e in (
         record { same-tables = ap (λ (k : Taken). k .tables) given; same-memory = ap (λ (k : Taken). k .memory) given },
         length-call connection s t memory room fit ∙ ap (λ (r : Ran). 32 + length (r .blocks)) e,
+        ap (λ (k : Taken). k .holder) given,
       )
 
   pub no-sentence-taken : (Sentence s → ⊥) → Untouched t memory (take-message connection s t memory room) × (take-message connection s t memory room .length ≡ 35)
+      × (take-message connection s t memory room .holder ≡ Nobody)
   no-sentence-taken none =
       elim (decided (served (headerCommand s))) [
         | inl v ↦ only-status _ (malformed-nothing connection s t memory v none)

@@ -105,7 +105,7 @@ module _ (c : Caller) (t : Tables) (memory : List ℕ) where
       cond-case (λ (r : Result). Begun (lockingAfter t memory (settle (t .locks) (t .nlocks) r))) (eqb (length area) ((q .unlocks + q .locks) * rangeSize (q .large)))
       (request (fileOf (opensOf t)) (q .fid) (q .shared) (rangesAt (q .large) area 0 (q .unlocks)) (rangesAt (q .large) area (q .unlocks) (q .locks)) (locksOf t))
       (refusedBy Malformed)
-      (λ _. request-case (λ (r : Result). Begun (lockingAfter t memory (settle (t .locks) (t .nlocks) r))) (λ e. omega arith) (λ e. omega arith) (λ k e. omega arith) (λ e. omega arith)
+      (λ _. request-case (λ (r : Result). Begun (lockingAfter t memory (settle (t .locks) (t .nlocks) r))) (λ e. omega arith) (λ e. omega arith) (λ h e. omega arith) (λ e. omega arith)
       (fileOf (opensOf t)) (q .fid) (q .shared) (rangesAt (q .large) area (q .unlocks) (q .locks)) (rangesAt (q .large) area 0 (q .unlocks)) (locksOf t)
       (λ left list _ _ _ _ e. omega arith))
       (λ _ e. omega arith)
@@ -121,14 +121,14 @@ module _ (c : Caller) (t : Tables) (memory : List ℕ) where
   read-begun f =
       open-case Begun c t (f .fid) _ (λ e. omega arith) (λ e. omega arith) (λ e. omega arith)
       (λ k _. cond-case Begun (eqb (getD (opensOf t) k noOpen .access) 1) (refused NoAccess) _ (λ _ e. omega arith)
-      (λ _. barred-case Begun _ _ (λ j e. omega arith) (λ _ e. omega arith)))
+      (λ _. barred-case Begun t _ _ (λ h e. omega arith) (λ _ e. omega arith)))
 
   write-begun : (f : WriteFields) (bytes : List ℕ) → Begun (doWrite c t memory f bytes)
   unfolding doWrite codeOf statusOf status
   write-begun f bytes =
       open-case Begun c t (f .fid) _ (λ e. omega arith) (λ e. omega arith) (λ e. omega arith)
       (λ k _. cond-case Begun (eqb (getD (opensOf t) k noOpen .access) 0) (refused NoAccess) _ (λ _ e. omega arith)
-      (λ _. barred-case Begun _ _ (λ j e. omega arith)
+      (λ _. barred-case Begun t _ _ (λ h e. omega arith)
       (λ _. cond-case Begun (endsPast (f .offset) (f .count)) (refused NoSpace) _ (λ _ e. omega arith) (λ _ e. omega arith))))
 
   -- no command ends with 2/22

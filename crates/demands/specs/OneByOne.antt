@@ -27,8 +27,10 @@ use Rattle.readings.specs.ReaderComplete.{reader-complete}
 use Rattle.invariants.specs.Chained.{Chained, chained-end, chained-more, read-chained}
 use Rattle.message.specs.Caller.{callerOf}
 use Rattle.message.specs.declared.caller.Caller.{Caller}
-use Rattle.message.specs.Refusal.{status, statusOf}
+use Rattle.message.specs.Refusal.{status, statusOf, holderOf}
 use Rattle.message.specs.declared.refusal.Status.{Status}
+use Rattle.message.specs.declared.refusal.HeldBy.{HeldBy}
+use Rattle.message.specs.declared.refusal.HeldBy.the-variants.{Nobody}
 use Rattle.message.specs.Command.{Said, locked, loggedOff, read, wrote, plain, Given, refused, done, perform}
 use Rattle.message.specs.Reply.{two, replyHeader, linkWords, replyBlock, refusedBlock, replySize}
 use Rattle.message.specs.declared.link.Link.{Link}
@@ -42,9 +44,10 @@ use Rattle.demands.specs.Alone.{alone, alone-command, alone-header, leng
 
 -- ---- sending
 
--- what the messages sent leave: the last one's status, tables and file memory, and the replies, each whole, in turn
+-- what the messages sent leave: the last one's status, holder, tables and file memory, and the replies, each whole, in turn
 pub record Sent : Type 0 where
   pub status : Status
+  pub holder : HeldBy
   pub tables : Tables
   pub memory : List ℕ
   pub replies : List (List ℕ)
@@ -55,17 +58,17 @@ succeeded s = eqb (s .class) 0 && eqb (s .code) 0
 
 -- a reply before those of the messages sent after it
 unfoldable pub replyThen : List ℕ → Sent → Sent
-replyThen reply sent = record { status = sent .status; tables = sent .tables; memory = sent .memory; replies = reply ∷ sent .replies }
+replyThen reply sent = record { status = sent .status; holder = sent .holder; tables = sent .tables; memory = sent .memory; replies = reply ∷ sent .replies }
 
 -- a message and what it gave: "It stops after the first one refused", else "each next" gets "those the last one left"
 unfoldable pub sendOn : List ℕ → Ran → (Tables → List ℕ → Sent) → Sent
 sendOn message r rest =
     cond (succeeded (r .status)) (replyThen (replyOf message r) (rest (r .tables) (r .memory)))
-    (record { status = r .status; tables = r .tables; memory = r .memory; replies = replyOf message r ∷ [] })
+    (record { status = r .status; holder = r .holder; tables = r .tables; memory = r .memory; replies = replyOf message r ∷ [] })
 
 -- "each block in turn makes a message": the messages of these blocks, taken by the definition, on the same connection
 unfoldable pub sendAll : ℕ → List ℕ → List Block → Tables → List ℕ → Sent
-sendAll connection s [] t memory = record { status = status 0 0; tables = t; memory = memory; replies = [] }
+sendAll connection s [] t memory = record { status = status 0 0; holder = Nobody; tables = t; memory = memory; replies = [] }
 sendAll connection s (b ∷ bs) t memory =
     sendOn (alone s b) (answered connection (alone s b) t memory) (λ t′ m. sendAll connection s bs t′ m)
 
@@ -91,7 +94,7 @@ joined place (reply ∷ replies) =
 
 -- what the chain is compared with
 unfoldable pub compared : ℕ → Sent → Ran
-compared place sent = record { status = sent .status; tables = sent .tables; memory = sent .memory; blocks = joined place (sent .replies) }
+compared place sent = record { status = sent .status; holder = sent .holder; tables = sent .tables; memory = sent .memory; blocks = joined place (sent .replies) }
 
 -- ---- one step
 
@@ -107,7 +110,7 @@ refusal-fails NoAccess = refl
 refusal-fails LockType = refl
 refusal-fails NoSuchLock = refl
 refusal-fails PassesEnd = refl
-refusal-fails (Conflict place) = refl
+refusal-fails (Conflict h) = refl
 refusal-fails NoRecord = refl
 refusal-fails NoSpace = refl
 
@@ -142,22 +145,22 @@ module _ (message : List ℕ) (long : 32 ≤ length message) where
 
   -- a command given in a message of its own, and in the chain
   step : (g : Given) (bs : List Block) (place : ℕ) (t : Tables) (memory : List ℕ) (rest : Tables → List ℕ → Sent) (chain only : ℕ → Tables → List ℕ → Ran)
-      → ((p : ℕ) (u : Tables) (m : List ℕ) → only p u m ≡ record { status = status 0 0; tables = u; memory = m; blocks = [] })
+      → ((p : ℕ) (u : Tables) (m : List ℕ) → only p u m ≡ record { status = status 0 0; holder = Nobody; tables = u; memory = m; blocks = [] })
       → ((p : ℕ) (u : Tables) (m : List ℕ) → linkOf (rest u m .replies) p ≡ linkTo bs p)
       → ((p : ℕ) (u : Tables) (m : List ℕ) → chain p u m ≡ compared p (rest u m))
       → afterGiven g bs place t memory chain ≡ compared place (sendOn message (afterGiven g [] FIRST t memory only) rest)
   unfolding afterGiven after sendOn compared refusedBlock linkTo status succeeded replyThen joined
   step (refused why) bs place t memory rest chain only ends links same =
-      let e : joined place (replyOf message (record { status = statusOf why; tables = t; memory = memory; blocks = refusedBlock }) ∷ []) ≡ refusedBlock =
-      joined-one place (record { status = statusOf why; tables = t; memory = memory; blocks = refusedBlock }) [] refusedBlock refl
+      let e : joined place (replyOf message (record { status = statusOf why; holder = holderOf why; tables = t; memory = memory; blocks = refusedBlock }) ∷ []) ≡ refusedBlock =
+      joined-one place (record { status = statusOf why; holder = holderOf why; tables = t; memory = memory; blocks = refusedBlock }) [] refusedBlock refl
       ∙ rw (relinked-refused place (linkOf [] (place + length refusedBlock))) refl in
       rw (refusal-fails why, e)
   step (done u m said) bs place t memory rest chain only ends links same =
       let b : replyBlock said FIRST none ++ [] ≡ replyBlock said FIRST none = append-nil (replyBlock said FIRST none) in
       let n : length (replyBlock said FIRST none) ≡ replySize said = length-block said FIRST none in
-      let e : joined place (replyOf message (record { status = status 0 0; tables = u; memory = m; blocks = replyBlock said FIRST none ++ [] }) ∷ rest u m .replies)
+      let e : joined place (replyOf message (record { status = status 0 0; holder = Nobody; tables = u; memory = m; blocks = replyBlock said FIRST none ++ [] }) ∷ rest u m .replies)
       ≡ replyBlock said place (linkTo bs (place + replySize said)) ++ joined (place + replySize said) (rest u m .replies) =
-      joined-one place (record { status = status 0 0; tables = u; memory = m; blocks = replyBlock said FIRST none ++ [] }) (rest u m .replies) (replyBlock said FIRST none) b
+      joined-one place (record { status = status 0 0; holder = Nobody; tables = u; memory = m; blocks = replyBlock said FIRST none ++ [] }) (rest u m .replies) (replyBlock said FIRST none) b
       ∙ rw (n, links (place + replySize said) u m, relinked-block said place FIRST (linkTo bs (place + replySize said))) in
       rw (ends (FIRST + replySize said) u m, same (place + replySize said) u m, e)
 
@@ -182,7 +185,7 @@ alone-caller connection s b long =
     rw (n 28 (omega arith) (omega arith), n 29 (omega arith) (omega arith), n 24 (omega arith) (omega arith), n 25 (omega arith) (omega arith), n 26 (omega arith) (omega arith), n 27 (omega arith) (omega arith))
 
 -- nothing follows
-only-ends : (c : Caller) (s : List ℕ) (p : ℕ) (u : Tables) (m : List ℕ) → run c s [] p u m ≡ record { status = status 0 0; tables = u; memory = m; blocks = [] }
+only-ends : (c : Caller) (s : List ℕ) (p : ℕ) (u : Tables) (m : List ℕ) → run c s [] p u m ≡ record { status = status 0 0; holder = Nobody; tables = u; memory = m; blocks = [] }
 unfolding run
 only-ends c s p u m = refl
 
@@ -211,11 +214,11 @@ alone-answered {s} {command} {at} connection nx t memory h from small =
 -- ---- the whole list of blocks
 
 -- the head of the replies is the first message's
-send-head : (t : Bool) (reply : List ℕ) (sent : Sent) (why : Status) (u : Tables) (m : List ℕ) (p : ℕ)
-    → linkOf (cond t (replyThen reply sent) (record { status = why; tables = u; memory = m; replies = reply ∷ [] }) .replies) p ≡ next (byteAt reply 4) p
+send-head : (t : Bool) (reply : List ℕ) (sent : Sent) (why : Status) (h : HeldBy) (u : Tables) (m : List ℕ) (p : ℕ)
+    → linkOf (cond t (replyThen reply sent) (record { status = why; holder = h; tables = u; memory = m; replies = reply ∷ [] }) .replies) p ≡ next (byteAt reply 4) p
 unfolding linkOf replyThen
-send-head true reply sent why u m p = refl
-send-head false reply sent why u m p = refl
+send-head true reply sent why h u m p = refl
+send-head false reply sent why h u m p = refl
 
 -- a reply has its message's command
 reply-command : (message : List ℕ) (r : Ran) → byteAt (replyOf message r) 4 ≡ headerCommand message
@@ -228,7 +231,7 @@ links-same : (connection : ℕ) (s : List ℕ) → 32 ≤ length s → (bs : Lis
 unfolding sendAll linkTo sendOn linkOf
 links-same connection s long [] p t memory = refl
 links-same connection s long (b ∷ bs) p t memory =
-    send-head (succeeded (answered connection (alone s b) t memory .status)) (replyOf (alone s b) (answered connection (alone s b) t memory)) _ _ _ _ p
+    send-head (succeeded (answered connection (alone s b) t memory .status)) (replyOf (alone s b) (answered connection (alone s b) t memory)) _ _ _ _ _ p
     ∙ ap (λ (c : ℕ). next c p) (reply-command (alone s b) (answered connection (alone s b) t memory) ∙ alone-command s b long)
 
 -- the message of a block of the table has a header
@@ -241,7 +244,7 @@ alone-long {s} {command} {at} nx h from =
 
 -- with no blocks left, nothing is sent
 nothing-sent : (p : ℕ) (u : Tables) (m : List ℕ)
-    → _≡_ {A = Ran} (record { status = status 0 0; tables = u; memory = m; blocks = [] }) (compared p (record { status = status 0 0; tables = u; memory = m; replies = [] }))
+    → _≡_ {A = Ran} (record { status = status 0 0; holder = Nobody; tables = u; memory = m; blocks = [] }) (compared p (record { status = status 0 0; holder = Nobody; tables = u; memory = m; replies = [] }))
 unfolding compared joined
 nothing-sent p u m = refl
 
@@ -271,7 +274,7 @@ pub chained-served : {s : List ℕ} {command at : ℕ} {bs : List Block} → Cha
 chained-served (chained-end h l) = served-true (block-served h)
 chained-served (chained-more h l r) = served-true (block-served h)
 
--- "This is a single claim about the whole list of blocks": the chain's status, tables, file memory and reply blocks are what its blocks give, each
+-- "This is a single claim about the whole list of blocks": the chain's status, holder, tables, file memory and reply blocks are what its blocks give, each
 -- sent in a message of its own
 pub one-by-one : (connection : ℕ) (s : List ℕ) (bs : List Block) → blocks s ≡ some bs → length s ≤ 8192 → (t : Tables) (memory : List ℕ)
     → answered connection s t memory ≡ compared FIRST (sendAll connection s bs t memory)

@@ -14,6 +14,7 @@ use Rattle.wire.specs.LittleEndian.{byteAt}
 use Rattle.records.specs.declared.Tables.{Tables}
 use Rattle.message.specs.Refusal.{status}
 use Rattle.message.specs.declared.refusal.Status.{Status}
+use Rattle.message.specs.declared.refusal.HeldBy.{HeldBy}
 use Rattle.chain.specs.Layout.{headerCommand, FIRST, blockEnd}
 use Rattle.chain.specs.Chain.{blocks}
 use Rattle.chain.specs.declared.block.Block.{Block}
@@ -67,35 +68,35 @@ status-done x e =
     ap (λ (k : ℕ). record { class = k; code = x .code }) a ∙ ap (λ (k : ℕ). record { class = 0; code = k }) c
 
 -- a reply before others is not the last
-last-more : (t : Bool) (first reply : List ℕ) (sent : Sent) (why : Status) (u : Tables) (m : List ℕ)
-    → lastReply (first ∷ cond t (replyThen reply sent) (record { status = why; tables = u; memory = m; replies = reply ∷ [] }) .replies)
-    ≡ lastReply (cond t (replyThen reply sent) (record { status = why; tables = u; memory = m; replies = reply ∷ [] }) .replies)
+last-more : (t : Bool) (first reply : List ℕ) (sent : Sent) (why : Status) (h : HeldBy) (u : Tables) (m : List ℕ)
+    → lastReply (first ∷ cond t (replyThen reply sent) (record { status = why; holder = h; tables = u; memory = m; replies = reply ∷ [] }) .replies)
+    ≡ lastReply (cond t (replyThen reply sent) (record { status = why; holder = h; tables = u; memory = m; replies = reply ∷ [] }) .replies)
 unfolding lastReply replyThen
-last-more true first reply sent why u m = refl
-last-more false first reply sent why u m = refl
+last-more true first reply sent why h u m = refl
+last-more false first reply sent why h u m = refl
 
 -- the last header of what is sent, where something is
 abbrev LastHeader : List ℕ → Sent → Type 0
 LastHeader s sent = set (take 32 (lastReply (sent .replies))) 4 (headerCommand s) ≡ replyHeader s (sent .status)
 
-send-last : (t : Bool) (s reply : List ℕ) (sent : Sent) (why : Status) (u : Tables) (m : List ℕ)
-    → (t ≡ true → LastHeader s (replyThen reply sent)) → (t ≡ false → LastHeader s (record { status = why; tables = u; memory = m; replies = reply ∷ [] }))
-    → LastHeader s (cond t (replyThen reply sent) (record { status = why; tables = u; memory = m; replies = reply ∷ [] }))
-send-last true s reply sent why u m f g = f refl
-send-last false s reply sent why u m f g = g refl
+send-last : (t : Bool) (s reply : List ℕ) (sent : Sent) (why : Status) (h : HeldBy) (u : Tables) (m : List ℕ)
+    → (t ≡ true → LastHeader s (replyThen reply sent)) → (t ≡ false → LastHeader s (record { status = why; holder = h; tables = u; memory = m; replies = reply ∷ [] }))
+    → LastHeader s (cond t (replyThen reply sent) (record { status = why; holder = h; tables = u; memory = m; replies = reply ∷ [] }))
+send-last true s reply sent why h u m f g = f refl
+send-last false s reply sent why h u m f g = g refl
 
 last-header : (connection : ℕ) (s : List ℕ) → 32 ≤ length s → (b : Block) (bs : List Block) (t : Tables) (memory : List ℕ)
     → LastHeader s (sendAll connection s (b ∷ bs) t memory)
 unfolding sendAll sendOn lastReply replyThen
 last-header connection s long b [] t memory =
-    send-last (succeeded (answered connection (alone s b) t memory .status)) s (replyOf (alone s b) (answered connection (alone s b) t memory)) _ _ _ _
+    send-last (succeeded (answered connection (alone s b) t memory .status)) s (replyOf (alone s b) (answered connection (alone s b) t memory)) _ _ _ _ _
     (λ e. header-of s b long (answered connection (alone s b) t memory) ∙ ap (replyHeader s) (status-done (answered connection (alone s b) t memory .status) e))
     (λ e. header-of s b long (answered connection (alone s b) t memory))
 last-header connection s long b (d ∷ bs) t memory =
     let r : Ran = answered connection (alone s b) t memory in
-    send-last (succeeded (answered connection (alone s b) t memory .status)) s (replyOf (alone s b) (answered connection (alone s b) t memory)) _ _ _ _
+    send-last (succeeded (answered connection (alone s b) t memory .status)) s (replyOf (alone s b) (answered connection (alone s b) t memory)) _ _ _ _ _
     (λ e. ap (λ (l : List ℕ). set (take 32 l) 4 (headerCommand s))
-    (last-more (succeeded (answered connection (alone s d) (r .tables) (r .memory) .status)) (replyOf (alone s b) r) (replyOf (alone s d) (answered connection (alone s d) (r .tables) (r .memory))) _ _ _ _)
+    (last-more (succeeded (answered connection (alone s d) (r .tables) (r .memory) .status)) (replyOf (alone s b) r) (replyOf (alone s d) (answered connection (alone s d) (r .tables) (r .memory))) _ _ _ _ _)
     ∙ last-header connection s long d bs (r .tables) (r .memory))
     (λ e. header-of s b long (answered connection (alone s b) t memory))
 

@@ -18,7 +18,7 @@ use Rattle.chain.specs.declared.block.Block.{Block}
 use Rattle.readings.specs.ReaderComplete.{no-sentence}
 use Rattle.message.specs.Caller.{callerOf}
 use Rattle.message.specs.declared.caller.Caller.{Caller}
-use Rattle.message.specs.Refusal.{status, statusOf}
+use Rattle.message.specs.Refusal.{status, statusOf, holderOf}
 use Rattle.message.specs.declared.refusal.Refusal.{Refusal}
 use Rattle.message.specs.Command.{Said, Given, refused, done, perform}
 use Rattle.message.specs.Reply.{replyHeader, replyBlock, refusedBlock, replySize}
@@ -44,6 +44,7 @@ record Stopped (c : Caller) (s : List ℕ) (bs : List Block) (place : ℕ) (t : 
   why : Refusal
   command-refused : gives c s command (run c s front place t memory .tables) (run c s front place t memory .memory) ≡ refused why
   status-left : last .status ≡ statusOf why
+  holder-left : last .holder ≡ holderOf why
   tables-left : last .tables ≡ run c s front place t memory .tables
   memory-left : last .memory ≡ run c s front place t memory .memory
   blocks-left : length (last .blocks) ≡ length (run c s front place t memory .blocks) + 3
@@ -58,7 +59,7 @@ module _ (c : Caller) (s : List ℕ) (b : Block) (bs : List Block) (place : ℕ)
 
   -- one that is refused
   pub step-refused : (why : Refusal) → gives c s b t memory ≡ refused why
-      → run c s (b ∷ bs) place t memory ≡ record { status = statusOf why; tables = t; memory = memory; blocks = refusedBlock }
+      → run c s (b ∷ bs) place t memory ≡ record { status = statusOf why; holder = holderOf why; tables = t; memory = memory; blocks = refusedBlock }
   unfolding run afterGiven
   step-refused why e = rw e
 
@@ -93,6 +94,7 @@ stopped-by c s b bs place t memory (refused why) e f =
       why = why;
       command-refused = e;
       status-left = ap (λ (x : Ran). x .status) r;
+      holder-left = ap (λ (x : Ran). x .holder) r;
       tables-left = ap (λ (x : Ran). x .tables) r;
       memory-left = ap (λ (x : Ran). x .memory) r;
       blocks-left = ap (λ (x : Ran). length (x .blocks)) r;
@@ -113,6 +115,7 @@ stopped-by c s b bs place t memory (done u m said) e f =
       why = q .why;
       command-refused = rw part (q .command-refused);
       status-left = ap (λ (x : Ran). x .status) whole ∙ q .status-left;
+      holder-left = ap (λ (x : Ran). x .holder) whole ∙ q .holder-left;
       tables-left = ap (λ (x : Ran). x .tables) whole ∙ q .tables-left ∙ sym (ap (λ (x : Ran). x .tables) part);
       memory-left = ap (λ (x : Ran). x .memory) whole ∙ q .memory-left ∙ sym (ap (λ (x : Ran). x .memory) part);
       blocks-left = n ∙ more (replySize said) _ _ _ k (q .blocks-left);
@@ -146,6 +149,7 @@ pub record RefusedCall (c : Caller) (s : List ℕ) (bs : List Block) (t : Tables
   pub why : Refusal
   pub command-refused : gives c s command (run c s front FIRST t memory .tables) (run c s front FIRST t memory .memory) ≡ refused why
   pub status-given : statusRead (call .room) ≡ statusOf why
+  pub holder-given : call .holder ≡ holderOf why
   -- "A command refused changes no table and no file byte": what they left stands
   pub tables-left : call .tables ≡ run c s front FIRST t memory .tables
   pub memory-left : call .memory ≡ run c s front FIRST t memory .memory
@@ -172,6 +176,10 @@ module _ (connection : ℕ) (s : List ℕ) (bs : List Block) (e : blocks s ≡ s
   call-memory : take-message connection s t memory room .memory ≡ run (callerOf connection s) s bs FIRST t memory .memory
   unfolding replied
   call-memory = ap (λ (k : Taken). k .memory) (fit-answered connection s t memory room fit) ∙ ap (λ (r : Ran). r .memory) (sentence-answered connection s t memory bs e)
+
+  call-holder : take-message connection s t memory room .holder ≡ run (callerOf connection s) s bs FIRST t memory .holder
+  unfolding replied
+  call-holder = ap (λ (k : Taken). k .holder) (fit-answered connection s t memory room fit) ∙ ap (λ (r : Ran). r .holder) (sentence-answered connection s t memory bs e)
 
   pub call-status : statusRead (take-message connection s t memory room .room) ≡ run (callerOf connection s) s bs FIRST t memory .status
   call-status = status-call connection s t memory room fit ∙ ap (λ (r : Ran). r .status) (sentence-answered connection s t memory bs e)
@@ -206,6 +214,7 @@ module _ (connection : ℕ) (s : List ℕ) (bs : List Block) (e : blocks s ≡ s
         why = q .why;
         command-refused = q .command-refused;
         status-given = call-status ∙ q .status-left;
+        holder-given = call-holder ∙ q .holder-left;
         tables-left = call-tables ∙ q .tables-left;
         memory-left = call-memory ∙ q .memory-left;
         block-left = call-block _ (q .blocks-left) (q .block-behind);
@@ -251,10 +260,12 @@ module _ (connection : ℕ) (s : List ℕ) (t : Tables) (memory room : List ℕ)
 
   -- "those after it aren't begun": where the first command is refused, whatever comes after it
   pub first-refused : (b : Block) (bs : List Block) → blocks s ≡ some (b ∷ bs) → (why : Refusal) → gives (callerOf connection s) s b t memory ≡ refused why
-      → (statusRead (take-message connection s t memory room .room) ≡ statusOf why) × Untouched t memory (take-message connection s t memory room)
+      → (statusRead (take-message connection s t memory room .room) ≡ statusOf why) × (take-message connection s t memory room .holder ≡ holderOf why)
+      × Untouched t memory (take-message connection s t memory room)
   first-refused b bs e why g =
       let r = step-refused (callerOf connection s) s b bs FIRST t memory why g in (
         call-status connection s (b ∷ bs) e t memory room fit ∙ ap (λ (x : Ran). x .status) r,
+        call-holder connection s (b ∷ bs) e t memory room fit ∙ ap (λ (x : Ran). x .holder) r,
         record {
           same-tables = call-tables connection s (b ∷ bs) e t memory room fit ∙ ap (λ (x : Ran). x .tables) r;
           same-memory = call-memory connection s (b ∷ bs) e t memory room fit ∙ ap (λ (x : Ran). x .memory) r;

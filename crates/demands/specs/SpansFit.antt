@@ -154,8 +154,8 @@ spans-carried connection s r t memory room small g fit n z =
 -- what those before it left
 pub refused-reason : (connection : ℕ) (s : List ℕ) {spans : List Span} → Reading s spans → (t : Tables) (memory room small : List ℕ) → Good t → Fit s t memory room
     → length small ≡ 12292
-    → (q : RefusedAt connection s small spans t memory (statusRead (take-message connection s t memory room .room)) (take-message connection s t memory room .tables)
-    (take-message connection s t memory room .memory))
+    → (q : RefusedAt connection s small spans t memory (statusRead (take-message connection s t memory room .room)) (take-message connection s t memory room .holder)
+    (take-message connection s t memory room .tables) (take-message connection s t memory room .memory))
     → Reason (callerOf connection (aloneSpan s (q .command))) (take-message connection s t memory room .tables) (lockingArea (aloneSpan s (q .command)))
     (bodyAt (aloneSpan s (q .command)) (headerCommand (aloneSpan s (q .command))) FIRST) (statusRead (take-message connection s t memory room .room))
 refused-reason connection s {spans} r t memory room small g fit n q =

@@ -12,6 +12,7 @@ use Rattle.chain.specs.declared.block.Block.{Block}
 use Rattle.invariants.specs.ReaderSound.{spanOf}
 use Rattle.invariants.specs.Sound.{Good}
 use Rattle.invariants.specs.Fit.{Fit}
+use Rattle.message.specs.declared.refusal.HeldBy.the-variants.{Nobody}
 use Rattle.message.specs.Message.{Taken, take-message}
 use Rattle.demands.specs.Alone.{endSet, dataSet, aloneBlock, alone}
 use Rattle.demands.specs.CallsOneByOne.{Calls, replyIn, lastCall, callThen, carriedOut, callOn, callAll, comparedCall}
@@ -36,7 +37,7 @@ callSpanOn r (b ∷ bs) rest = cond (carriedOut r) (callThen (replyIn r) (rest (
 
 -- the messages of these blocks, one by one: "The first gets the sound tables and files that the chain got, each next those the last one left"
 unfoldable pub callSpans : ℕ → List ℕ → List ℕ → List Span → Tables → List ℕ → Calls
-callSpans connection s room [] t memory = record { number = 0; tables = t; memory = memory; replies = [] }
+callSpans connection s room [] t memory = record { number = 0; holder = Nobody; tables = t; memory = memory; replies = [] }
 callSpans connection s room (b ∷ bs) t memory =
     callSpanOn (take-message connection (aloneSpan s b) t memory room) bs (λ u m. callSpans connection s room bs u m)
 

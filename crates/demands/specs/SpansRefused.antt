@@ -26,6 +26,7 @@ use Rattle.readings.specs.Alone.{movedAlone, alone-blocks}
 use Rattle.readings.specs.ReaderComplete.{reader-complete}
 use Rattle.message.specs.Refusal.{status}
 use Rattle.message.specs.declared.refusal.Status.{Status}
+use Rattle.message.specs.declared.refusal.HeldBy.{HeldBy}
 use Rattle.message.specs.Message.{Ran, answered, Taken, replied, take-message}
 use Rattle.demands.specs.Alone.{alone, alone-command, alone-moved, alone-ends}
 use Rattle.demands.specs.OneByOne.{Sent, succeeded, replyThen, sendOn, sendAll, compared, one-by-one}
@@ -51,8 +52,8 @@ module _ (connection : ℕ) (s small : List ℕ) where
     carried-then : {b : Span} {bs : List Span} {t : Tables} {memory : List ℕ} → carriedOut (sent b t memory) ≡ true
         → AllCarried bs (sent b t memory .tables) (sent b t memory .memory) → AllCarried (b ∷ bs) t memory
 
-  -- how a chain of these blocks was refused with status n, and which tables and file memory it left
-  pub record RefusedAt (spans : List Span) (t : Tables) (memory : List ℕ) (n : Status) (tables : Tables) (left : List ℕ) : Type 0 where
+  -- how a chain of these blocks was refused with status n, who holds the lock in its way, and which tables and file memory it left
+  pub record RefusedAt (spans : List Span) (t : Tables) (memory : List ℕ) (n : Status) (holder : HeldBy) (tables : Tables) (left : List ℕ) : Type 0 where
     -- the blocks: those before the one refused, this one, those after it
     pub front : List Span
     pub command : Span
@@ -62,9 +63,10 @@ module _ (connection : ℕ) (s small : List ℕ) where
     pub front-carried : AllCarried front t memory
     pub tables-left : tables ≡ calls front t memory .tables
     pub memory-left : left ≡ calls front t memory .memory
-    -- its message, sent on these, is answered with the chain's Status
+    -- its message, sent on these, is answered with the chain's Status, and has the chain's holder
     pub number-so : sent command (calls front t memory .tables) (calls front t memory .memory) .number ≡ 0
     pub status-so : statusRead (sent command (calls front t memory .tables) (calls front t memory .memory) .room) ≡ n
+    pub holder-so : sent command (calls front t memory .tables) (calls front t memory .memory) .holder ≡ holder
     -- "A command refused changes no table and no file byte"
     pub untouched : Untouched (calls front t memory .tables) (calls front t memory .memory) (sent command (calls front t memory .tables) (calls front t memory .memory))
     -- "those after it aren't begun": the messages sent are those up to it
@@ -139,11 +141,11 @@ module _ (connection : ℕ) (s small : List ℕ) where
   refused-last b (d ∷ bs) t memory e = rw e
 
   -- a refusal behind a message that is carried out
-  refused-later : (b : Span) (bs : List Span) (t : Tables) (memory : List ℕ) (n : Status) (tables : Tables) (left : List ℕ)
+  refused-later : (b : Span) (bs : List Span) (t : Tables) (memory : List ℕ) (n : Status) (holder : HeldBy) (tables : Tables) (left : List ℕ)
       → carriedOut (sent connection s small b t memory) ≡ true
-      → RefusedAt connection s small bs (sent connection s small b t memory .tables) (sent connection s small b t memory .memory) n tables left
-      → RefusedAt connection s small (b ∷ bs) t memory n tables left
-  refused-later b bs t memory n tables left e q =
+      → RefusedAt connection s small bs (sent connection s small b t memory .tables) (sent connection s small b t memory .memory) n holder tables left
+      → RefusedAt connection s small (b ∷ bs) t memory n holder tables left
+  refused-later b bs t memory n holder tables left e q =
       let k = carried-calls b (q .front) t memory e in
       record {
         front = b ∷ q .front;
@@ -155,6 +157,7 @@ module _ (connection : ℕ) (s small : List ℕ) where
         memory-left = q .memory-left ∙ sym (k .1);
         number-so = rw (k .0, k .1) (q .number-so);
         status-so = rw (k .0, k .1) (q .status-so);
+        holder-so = rw (k .0, k .1) (q .holder-so);
         untouched = rw (k .0, k .1) (q .untouched);
         not-begun =
             ap (λ (l : List Span). calls connection s small (b ∷ l) t memory) (q .split)
@@ -194,6 +197,10 @@ module _ (connection : ℕ) (s small : List ℕ) where
     unfolding replied
     number-is = ap (λ (x : Taken). x .number) taken-is
 
+    holder-is : taken .holder ≡ ran .holder
+    unfolding replied
+    holder-is = ap (λ (x : Taken). x .holder) taken-is
+
     status-is : statusRead (taken .room) ≡ ran .status
     status-is = ap (λ (x : Taken). statusRead (x .room)) taken-alone ∙ status-call connection (alone s b) t memory small fits
 
@@ -208,7 +215,7 @@ module _ (connection : ℕ) (s small : List ℕ) where
 
     -- and is the one refused
     refused-here : (d : Block) → blocks (alone s b) ≡ some (d ∷ []) → succeeded (ran .status) ≡ false → (bs : List Span)
-        → RefusedAt connection s small (spanOf b ∷ bs) t memory (ran .status) (ran .tables) (ran .memory)
+        → RefusedAt connection s small (spanOf b ∷ bs) t memory (ran .status) (ran .holder) (ran .tables) (ran .memory)
     unfolding callSpans
     refused-here d one e bs =
         let u = refused-same d one e in
@@ -222,6 +229,7 @@ module _ (connection : ℕ) (s small : List ℕ) where
           memory-left = sym memory-is ∙ u .same-memory;
           number-so = number-is;
           status-so = status-is;
+          holder-so = holder-is;
           untouched = u;
           not-begun = refused-last (spanOf b) bs t memory (carried-is ∙ e);
         }
@@ -241,34 +249,36 @@ module _ (connection : ℕ) (s small : List ℕ) where
 
     -- what the messages leave is what those behind one carried out leave, or what the one refused does
     pub send-on : succeeded (gave .status) ≡ true
-        → (whole .status ≡ sendAll connection s bs (gave .tables) (gave .memory) .status) × (whole .tables ≡ sendAll connection s bs (gave .tables) (gave .memory) .tables)
+        → (whole .status ≡ sendAll connection s bs (gave .tables) (gave .memory) .status) × (whole .holder ≡ sendAll connection s bs (gave .tables) (gave .memory) .holder)
+        × (whole .tables ≡ sendAll connection s bs (gave .tables) (gave .memory) .tables)
         × (whole .memory ≡ sendAll connection s bs (gave .tables) (gave .memory) .memory)
     unfolding sendAll sendOn replyThen
-    send-on e = rw e (refl, refl, refl)
+    send-on e = rw e (refl, refl, refl, refl)
 
-    pub send-off : succeeded (gave .status) ≡ false → (whole .status ≡ gave .status) × (whole .tables ≡ gave .tables) × (whole .memory ≡ gave .memory)
+    pub send-off : succeeded (gave .status) ≡ false → (whole .status ≡ gave .status) × (whole .holder ≡ gave .holder) × (whole .tables ≡ gave .tables) × (whole .memory ≡ gave .memory)
     unfolding sendAll sendOn
-    send-off e = rw e (refl, refl, refl)
+    send-off e = rw e (refl, refl, refl, refl)
 
     -- so one of them is the one refused
     stopped-by : Fit (alone s b) t memory small → (d : Block) → blocks (alone s b) ≡ some (d ∷ []) → (whole .status ≡ status 0 0 → ⊥)
         → ((sendAll connection s bs (gave .tables) (gave .memory) .status ≡ status 0 0 → ⊥)
         → RefusedAt connection s small (map spanOf bs) (gave .tables) (gave .memory) (sendAll connection s bs (gave .tables) (gave .memory) .status)
-        (sendAll connection s bs (gave .tables) (gave .memory) .tables) (sendAll connection s bs (gave .tables) (gave .memory) .memory))
-        → RefusedAt connection s small (spanOf b ∷ map spanOf bs) t memory (whole .status) (whole .tables) (whole .memory)
+        (sendAll connection s bs (gave .tables) (gave .memory) .holder) (sendAll connection s bs (gave .tables) (gave .memory) .tables) (sendAll connection s bs (gave .tables) (gave .memory) .memory))
+        → RefusedAt connection s small (spanOf b ∷ map spanOf bs) t memory (whole .status) (whole .holder) (whole .tables) (whole .memory)
     stopped-by fits d one n later =
         elim (decided (succeeded (gave .status))) [
           | inl e ↦
               let k = send-on e in
-              rw (k .0, k .1, k .2)
-              (refused-later (spanOf b) (map spanOf bs) t memory _ _ _ (carried-is b t memory fits ∙ e)
+              rw (k .0, k .1, k .2, k .3)
+              (refused-later (spanOf b) (map spanOf bs) t memory _ _ _ _ (carried-is b t memory fits ∙ e)
               (rw (tables-is b t memory fits, memory-is b t memory fits) (later (λ z. n (k .0 ∙ z)))))
-          | inr e ↦ let k = send-off e in rw (k .0, k .1, k .2) (refused-here b t memory fits d one e (map spanOf bs))
+          | inr e ↦ let k = send-off e in rw (k .0, k .1, k .2, k .3) (refused-here b t memory fits d one e (map spanOf bs))
         ]
 
   stopped : {bs : List Block} {t : Tables} {memory : List ℕ} → 12292 ≤ length small → AllFit connection s bs t memory → AllLone s bs
       → (sendAll connection s bs t memory .status ≡ status 0 0 → ⊥)
-      → RefusedAt connection s small (map spanOf bs) t memory (sendAll connection s bs t memory .status) (sendAll connection s bs t memory .tables) (sendAll connection s bs t memory .memory)
+      → RefusedAt connection s small (map spanOf bs) t memory (sendAll connection s bs t memory .status) (sendAll connection s bs t memory .holder)
+      (sendAll connection s bs t memory .tables) (sendAll connection s bs t memory .memory)
   stopped {t = t} {memory = memory} enough none-left lone-none n = absurd (n (send-none t memory))
   stopped {t = t} {memory = memory} enough (next-fits {b} {bs} fit more) (lone-then {d = d} one there rest) n =
       stopped-by b bs t memory (fit small enough) d one n (λ z. stopped enough more rest z)
@@ -277,8 +287,8 @@ module _ (connection : ℕ) (s small : List ℕ) where
 -- reading of a message fit to be answered whose reply's Status is not 0/0
 pub spans-refused : (connection : ℕ) (s : List ℕ) {spans : List Span} → Reading s spans → (t : Tables) (memory room small : List ℕ) → Good t → Fit s t memory room
     → length small ≡ 12292 → (statusRead (take-message connection s t memory room .room) ≡ status 0 0 → ⊥)
-    → RefusedAt connection s small spans t memory (statusRead (take-message connection s t memory room .room)) (take-message connection s t memory room .tables)
-    (take-message connection s t memory room .memory)
+    → RefusedAt connection s small spans t memory (statusRead (take-message connection s t memory room .room)) (take-message connection s t memory room .holder)
+    (take-message connection s t memory room .tables) (take-message connection s t memory room .memory)
 unfolding replied compared blocks
 spans-refused connection s r t memory room small g fit n nonzero =
     let a = reader-complete r in
@@ -287,10 +297,12 @@ spans-refused connection s r t memory room small g fit n nonzero =
     let one = fit-answered connection s t memory room fit in
     let status-same : statusRead (take-message connection s t memory room .room) ≡ sendAll connection s (a .0) t memory .status =
     status-call connection s t memory room fit ∙ ap (λ (x : Ran). x .status) same in
+    let holder-same : take-message connection s t memory room .holder ≡ sendAll connection s (a .0) t memory .holder =
+    ap (λ (x : Taken). x .holder) one ∙ ap (λ (x : Ran). x .holder) same in
     let tables-same : take-message connection s t memory room .tables ≡ sendAll connection s (a .0) t memory .tables =
     ap (λ (x : Taken). x .tables) one ∙ ap (λ (x : Ran). x .tables) same in
     let memory-same : take-message connection s t memory room .memory ≡ sendAll connection s (a .0) t memory .memory =
     ap (λ (x : Taken). x .memory) one ∙ ap (λ (x : Ran). x .memory) same in
     let q = stopped connection s small (omega arith) (all-fit connection s (a .0) (a .1) (fit .not-dropped) t memory g (fit .memory-whole))
     (all-lone (read-chained s (headerCommand s) FIRST (a .0) (a .1)) (omega arith) short) (λ z. nonzero (status-same ∙ z)) in
-    rw (status-same, tables-same, memory-same) (rw (a .2) at q)
+    rw (status-same, holder-same, tables-same, memory-same) (rw (a .2) at q)

@@ -18,6 +18,7 @@ use Rattle.stream.specs.Writer.{framed, writtenOf, write}
 use Rattle.stream.specs.StateLaws.{is-left-stopped}
 use Rattle.stream.specs.ReaderLaws.{read-not-left, read-stopped, read-going}
 use Rattle.boundary.specs.StreamWords.{stateIn, wordsOf, stepWords, pieceRead, stepAfter, writtenAfter}
+use Rattle.boundary.specs.OutParameter.{onDone}
 use Rattle.boundary.specs.StreamWordsLaws.{step-stands, step-given, written-stands}
 use Rattle.claims.specs.StreamCut.{stopped-words, stops-number}
 use Rattle.claims.specs.StreamStates.{LeftBySome, left-passes, passes-left, left-not-five}
@@ -192,7 +193,7 @@ module _ (message room : List ℕ) (long r : ℕ) (room′ : List ℕ) (long′ 
       (rw (e, f) at number, rw (e, f) at bytes)
 
   fits : length message ≤ 12292 → length message + 4 ≤ length room → (r ≡ 0) × (room′ ≡ put room 0 (framed message)) × (long′ ≡ length message + 4)
-  unfolding write writtenOf writtenAfter
+  unfolding write writtenOf writtenAfter onDone
   fits h k =
       let e = le-ltb 12292 (length message) h in
       let f = le-ltb (length room) (length message + 4) k in

@@ -7,6 +7,7 @@ use mathlib.Core.Bool.{true}
 use mathlib.Core.List.{List, [], _∷_, _++_, flatten}
 use lib.ListN.{length, take, drop}
 use Rattle.records.specs.declared.Tables.{Tables}
+use Rattle.message.specs.declared.refusal.HeldBy.{HeldBy}
 use Rattle.message.specs.Message.{Taken, take-message}
 use Rattle.invariants.specs.Sound.{Good}
 use Rattle.invariants.specs.Fit.{take-message-good}
@@ -30,9 +31,10 @@ pub record Lent : Type 0 where
   pub memory : List ℕ
   pub room : List ℕ
 
--- the number and the reply of each message, in turn, and what the last one left
+-- the number, the holder and the reply of each message, in turn, and what the last one left
 pub record TakenAll : Type 0 where
   pub numbers : List ℕ
+  pub holders : List HeldBy
   pub replies : List (List ℕ)
   pub lent : Lent
 
@@ -43,10 +45,10 @@ unfoldable pub lentAfter : Taken → Lent
 lentAfter k = record { tables = k .tables; memory = k .memory; room = k .room }
 
 unfoldable pub nothingTaken : Lent → TakenAll
-nothingTaken l = record { numbers = []; replies = []; lent = l }
+nothingTaken l = record { numbers = []; holders = []; replies = []; lent = l }
 
 unfoldable pub withTaken : Taken → TakenAll → TakenAll
-withTaken k a = record { numbers = k .number ∷ a .numbers; replies = replyIn k ∷ a .replies; lent = a .lent }
+withTaken k a = record { numbers = k .number ∷ a .numbers; holders = k .holder ∷ a .holders; replies = replyIn k ∷ a .replies; lent = a .lent }
 
 -- each message by `take-message`, demand 2's definition, on what the one before it left
 unfoldable pub takenAll : ℕ → List (List ℕ) → Lent → TakenAll
@@ -54,7 +56,7 @@ takenAll connection [] l = nothingTaken l
 takenAll connection (s ∷ ss) l = withTaken (takeOne connection s l) (takenAll connection ss (lentAfter (takeOne connection s l)))
 
 unfoldable pub takenThen : TakenAll → TakenAll → TakenAll
-takenThen a b = record { numbers = a .numbers ++ b .numbers; replies = a .replies ++ b .replies; lent = b .lent }
+takenThen a b = record { numbers = a .numbers ++ b .numbers; holders = a .holders ++ b .holders; replies = a .replies ++ b .replies; lent = b .lent }
 
 -- ---- a host with a reader
 
@@ -137,7 +139,7 @@ module _ (connection : ℕ) where
 
 -- ---- however the stream is cut
 
--- the host has the numbers, replies, tables, file memory and room that the messages carried give; and the reader's number and state are what is left
+-- the host has the numbers, holders, replies, tables, file memory and room that the messages carried give; and the reader's number and state are what is left
 pub record AsInOne (connection : ℕ) (l : Lent) (h : Hosted) (c : Carried) : Type 0 where
   pub taken : h .taken ≡ takenAll connection (c .messages) l
   pub number : h .number ≡ numberOf (c .left)
