@@ -8,17 +8,19 @@ use Rattle.lists.specs.Walk.{any, all, allTails, keep}
 use Rattle.records.specs.declared.Lock.{Lock}
 use Rattle.records.specs.declared.Tables.{Tables}
 use Rattle.locks.specs.Range.{overlaps, passesEnd}
+use Rattle.locks.specs.declared.types.Holder.{Holder}
 use Rattle.numbers.specs.Number.{contains, numberOk, numbered, freeFrom, smallestFree}
 use Rattle.soundness.specs.File.{fileOf}
 use Rattle.soundness.specs.Lookup.{isTree}
 use Rattle.soundness.specs.Sound.{withinRoom, fileOk, treeOk, permits, holdsOpen, openOk, soundRecords, lockOk, agree, agreeAll, soundLocks, sound}
 use Rattle.host.specs.HostCall.{refused, done, newSession, addSession, newTree, addTree, newOpen, addOpen, isOf, loadNumber, loadFile, dropConnection}
 use Rattle.chain.specs.Header.{startsSmb, isReply, dropped}
-use Rattle.message.specs.Refusal.{status, statusOf}
+use Rattle.message.specs.Refusal.{status, statusOf, holderOf}
 use Rattle.message.specs.Command.{servedType}
 use Rattle.message.specs.Message.{served, notTaken, take-message}
 use Rattle.message.specs.declared.refusal.Refusal.the-variants.{NotServed, NotSentence, NoSession, NoTree, NoOpen, NoAccess, LockType, NoSuchLock, PassesEnd, Conflict, NoRecord, NoSpace}
 use Rattle.message.specs.declared.refusal.Status.{Status}
+use Rattle.message.specs.declared.refusal.HeldBy.the-variants.{Nobody, Holder as held-by}
 use Rattle.literals.specs.Counting.{countFrom}
 use Rattle.literals.specs.State.{session, tree, open-of, sizes, tablesWith, fewRecords, memory}
 
@@ -28,8 +30,8 @@ use Rattle.literals.specs.State.{session, tree, open-of, sizes, tablesWi
 unfoldable pub class-code : ℕ → ℕ → Status
 class-code class code = record { class = class; code = code }
 
-pub codes : (place : ℕ)
-    → map statusOf (NotServed ∷ NotSentence ∷ NoSession ∷ NoTree ∷ NoOpen ∷ NoAccess ∷ LockType ∷ NoSuchLock ∷ PassesEnd ∷ Conflict place ∷ NoRecord ∷ NoSpace ∷ [])
+pub codes : (h : Holder)
+    → map statusOf (NotServed ∷ NotSentence ∷ NoSession ∷ NoTree ∷ NoOpen ∷ NoAccess ∷ LockType ∷ NoSuchLock ∷ PassesEnd ∷ Conflict h ∷ NoRecord ∷ NoSpace ∷ [])
     ≡ class-code 2 22
     ∷ class-code 2 1
     ∷ class-code 2 91
@@ -44,7 +46,14 @@ pub codes : (place : ℕ)
     ∷ class-code 3 39
     ∷ []
 unfolding statusOf status class-code
-codes place = refl
+codes h = refl
+
+-- document 02, CR 2: only 1/33 has a holder
+pub holders : (h : Holder)
+    → map holderOf (NotServed ∷ NotSentence ∷ NoSession ∷ NoTree ∷ NoOpen ∷ NoAccess ∷ LockType ∷ NoSuchLock ∷ PassesEnd ∷ Conflict h ∷ NoRecord ∷ NoSpace ∷ [])
+    ≡ Nobody ∷ Nobody ∷ Nobody ∷ Nobody ∷ Nobody ∷ Nobody ∷ Nobody ∷ Nobody ∷ Nobody ∷ held-by h ∷ Nobody ∷ Nobody ∷ []
+unfolding holderOf
+holders h = refl
 
 -- "Requests served: CLOSE 0x04, PROCESS_EXIT 0x11, LOCKING_ANDX 0x24, READ_ANDX 0x2E, WRITE_ANDX 0x2F, TREE_DISCONNECT 0x71, LOGOFF_ANDX 0x74": of all
 -- 256 header commands just these are not 2/22

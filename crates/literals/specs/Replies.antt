@@ -1,7 +1,8 @@
--- One whole reply of each kind, byte for byte (document 01, "Header" and "Reply blocks"), from a whole message on fewRecords tables. Assumes nothing.
+-- One whole reply of each kind, byte for byte (document 01, "Header" and "Reply blocks"), and the holder beside it (document 02, CR 2), from a whole message on tables
+-- with few records. Assumes nothing.
 use mathlib.Core.Path.{_≡_, refl}
 use Prim.Native.Nat.{ℕ}
-use mathlib.Core.Bool.{true, false}
+use mathlib.Core.Bool.{Bool, true, false}
 use mathlib.Core.List.{List, [], _∷_, _++_, map}
 use lib.ListN.{take, drop, replicate}
 use Rattle.lists.specs.Walk.{any, all, allTails, keep, foundFrom, found}
@@ -14,7 +15,7 @@ use Rattle.records.specs.Held.{withSessions, withTrees, withOpens, withLocks, w
 use Rattle.locks.specs.Range.{overlaps, passesEnd}
 use Rattle.locks.specs.Wire.{rangeSize, numberAt, rangeFrom, rangeAt, rangesAt}
 use Rattle.locks.specs.Answer.{owns, bars, inWay, named, answersFor, answers}
-use Rattle.locks.specs.Request.{askOf, lockOf, removeAt, afterFind, releaseAll, afterWalk, grantAll, afterGrants, rangePasses, afterReleases, request, settle, locking}
+use Rattle.locks.specs.Request.{holderAt, askOf, lockOf, removeAt, afterFind, releaseAll, afterWalk, grantAll, afterGrants, rangePasses, afterReleases, request, settle, locking}
 use Rattle.numbers.specs.Number.{contains, numberOk, numbered}
 use Rattle.soundness.specs.File.{fileOf}
 use Rattle.soundness.specs.Lookup.{isTree}
@@ -24,7 +25,9 @@ use Rattle.chain.specs.Header.{startsSmb, isReply, dropped}
 use Rattle.chain.specs.Parse.{shaped, bare, isLarge, lockingFits, readFits, dataInside, writeFits, mayFollow, linkFits, linkAt, answer, wideOffset, parseLocking, parseRead, parseWrite, parseClose, parseLogoff, parseEmpty, parse}
 use Rattle.chain.specs.Chain.{before, afterBlock, afterParse, blocksWithin, blocksFrom, blocks}
 use Rattle.message.specs.Caller.{callerOf}
-use Rattle.message.specs.Refusal.{status, statusOf}
+use Rattle.message.specs.Refusal.{status, statusOf, holderOf}
+use Rattle.message.specs.declared.refusal.HeldBy.{HeldBy}
+use Rattle.message.specs.declared.refusal.HeldBy.the-variants.{Nobody, Holder as held-by}
 use Rattle.message.specs.Contents.{sizeOf, contents, readBytes, written, resized}
 use Rattle.message.specs.Command.{isSession, withSession, withTree, isOpen, openAt, withOpen, servedType, requestOf, withLockList, lockingEnd, lockingAfter, doLocking, askBy, unlessBarred, barring, doRead, endsPast, doWrite, perform}
 use Rattle.message.specs.Reply.{two, replyHeader, linkWords, replyBlock, refusedBlock, replySize}
@@ -72,22 +75,24 @@ closeBlock fid = 3 ∷ fid ∷ 0 ∷ 0 ∷ 0 ∷ 0 ∷ 0 ∷ 0 ∷ 0 ∷ []
 unfoldable pub taken : Tables → List ℕ → Taken
 taken t s = take-message 5 s t memory (replicate 12292 0xEE)
 
--- what it gives: the number, the reply's length, and the reply
+-- what it gives: the number, the reply's length, the holder, and the reply
 pub record Given : Type 0 where
   pub number : ℕ
   pub size : ℕ
+  pub holder : HeldBy
   pub reply : List ℕ
 
 unfoldable pub given : Tables → List ℕ → Given
-given t s = record { number = taken t s .number; size = taken t s .length; reply = take (taken t s .length) (taken t s .room) }
+given t s = record { number = taken t s .number; size = taken t s .length; holder = taken t s .holder; reply = take (taken t s .length) (taken t s .room) }
 
 -- "A reply copies Command, PIDHigh, TID, PIDLow, UID and MID; Flags is 0x80 plus the request's 0x08; Flags2 keeps only 0x0001; the rest is 0 but for
--- Status." "SMBSTATUS is class, 0, code": the reply of that length, Command, class, code (its two bytes), Flags and Flags2, and its blocks
+-- Status." "SMBSTATUS is class, 0, code": the reply of that length, Command, class, code (its two bytes), Flags and Flags2, and its blocks; with no holder
 unfoldable pub reply : ℕ → ℕ → ℕ → ℕ → ℕ → ℕ → ℕ → List ℕ → Given
 reply size command class low high flags flags2 bytes =
     record {
       number = 0;
       size = size;
+      holder = Nobody;
       reply =
           (0xFF ∷ 0x53 ∷ 0x4D ∷ 0x42 ∷ command ∷ class ∷ 0x00 ∷ low ∷ high ∷ flags ∷ flags2 ∷ 0x00 ∷ 0x0C ∷ 0x0D ∷ 0x00 ∷ 0x00 ∷ [])
           ++ ((0x00 ∷ 0x00 ∷ 0x00 ∷ 0x00 ∷ 0x00 ∷ 0x00 ∷ 0x00 ∷ 0x00 ∷ 0x02 ∷ 0x00 ∷ 0x1A ∷ 0x1B ∷ 0x03 ∷ 0x00 ∷ 0x1E ∷ 0x1F ∷ [])
@@ -289,10 +294,6 @@ passesTop =
       said = refusal 0x24 1 0x57 0x00;
     }
 
--- "1/33 lock conflict": an exclusive lock of another process from 4 on is in the way of a read of 2 to 5
-unfoldable pub conflict : Row
-conflict = record { tables = opened 2 (lock 7 4 1 ∷ []); request = message 0x2E 0x7F 0xFF (readBlock 4); said = refusal 0x2E 1 0x21 0x00 }
-
 -- "1/8 no lock record free": 128 are held
 unfoldable pub noRecord : Row
 noRecord = record { tables = opened 2 (replicate 128 (lock 7 0 0)); request = message 0x24 0x7F 0xFF (lock100 0xFF); said = refusal 0x24 1 0x08 0x00 }
@@ -346,7 +347,6 @@ table =
     ∷ lockType
     ∷ noSuchLock
     ∷ passesTop
-    ∷ conflict
     ∷ noRecord
     ∷ lastRecord
     ∷ noSpace
@@ -355,8 +355,102 @@ table =
 
 -- what the definitions give is what the document says, in every row
 pub replies : map (λ r. given (r .tables) (r .request)) table ≡ map (λ r. r .said) table
-unfolding table lockingReply readReply writeReply closeReply logoffReply disconnectReply exitReply noFlags otherFlags justFlags lockReadReply writeCloseReply lockRefusedReply unserved malformed noSession noTree noOpen noRead noWrite lockType noSuchLock passesTop conflict noRecord lastRecord noSpace lastBytes message fewRecords tablesWith session tree open-of sizes memory given taken take-message dropped startsSmb isReply answered served replied replyOf replyHeader put runChain onlyStatus blocks blocksFrom blocksWithin afterParse afterBlock before parse answer linkFits linkAt mayFollow shaped bare le16At le32At callerOf run afterGiven after linkTo perform areaOf dataOf status statusOf replyBlock refusedBlock replySize linkWords two withSession isSession withTree withOpen isOpen openAt found foundFrom sound withinRoom fileOk treeOk permits holdsOpen openOk soundRecords lockOk agree agreeAll soundLocks fileOf isTree contains numberOk numbered any all allTails overlaps passesEnd reply success closeBlock lock100 lockBlock range100 parseLocking lockingFits isLarge rangeSize doLocking servedType requestOf locking request releaseAll afterFind removeAt named afterReleases grantAll afterWalk afterGrants settle rangesAt rangeAt rangeFrom numberAt rangePasses askOf lockOf answers answersFor inWay bars owns lockingAfter lockingEnd withLockList stored readBlock parseRead readFits wideOffset doRead unlessBarred barring askBy readBytes contents sizeOf writeBlock parseWrite writeFits dataInside doWrite endsPast resized written withFiles parseClose parseLogoff parseEmpty remove sweepSessions sweepTrees sweepOpens sweepLocks sessionNamed treeNamed openNamed sessionStays treeStays openStays lockStays keep withSessions withTrees withOpens withLocks refusal opened lock
+unfolding table lockingReply readReply writeReply closeReply logoffReply disconnectReply exitReply noFlags otherFlags justFlags lockReadReply writeCloseReply lockRefusedReply unserved malformed noSession noTree noOpen noRead noWrite lockType noSuchLock passesTop noRecord lastRecord noSpace lastBytes holderOf message fewRecords tablesWith session tree open-of sizes memory given taken take-message dropped startsSmb isReply answered served replied replyOf replyHeader put runChain onlyStatus blocks blocksFrom blocksWithin afterParse afterBlock before parse answer linkFits linkAt mayFollow shaped bare le16At le32At callerOf run afterGiven after linkTo perform areaOf dataOf status statusOf replyBlock refusedBlock replySize linkWords two withSession isSession withTree withOpen isOpen openAt found foundFrom sound withinRoom fileOk treeOk permits holdsOpen openOk soundRecords lockOk agree agreeAll soundLocks fileOf isTree contains numberOk numbered any all allTails overlaps passesEnd reply success closeBlock lock100 lockBlock range100 parseLocking lockingFits isLarge rangeSize doLocking servedType requestOf locking request releaseAll afterFind removeAt named afterReleases grantAll afterWalk afterGrants settle rangesAt rangeAt rangeFrom numberAt rangePasses askOf lockOf answers answersFor inWay bars owns lockingAfter lockingEnd withLockList stored readBlock parseRead readFits wideOffset doRead unlessBarred barring askBy readBytes contents sizeOf writeBlock parseWrite writeFits dataInside doWrite endsPast resized written withFiles parseClose parseLogoff parseEmpty remove sweepSessions sweepTrees sweepOpens sweepLocks sessionNamed treeNamed openNamed sessionStays treeStays openStays lockStays keep withSessions withTrees withOpens withLocks refusal opened lock
 replies = refl
+
+-- ---- "1/33 lock conflict", and who holds the lock
+
+-- an answer with the lock of that FID and process, at that place, that starts there and has that many bytes, shared or not
+unfoldable pub heldAt : ℕ → ℕ → ℕ → ℕ → ℕ → Bool → Given → Given
+heldAt fid process place offset size shared g =
+    record {
+      number = g .number;
+      size = g .size;
+      holder = held-by (record { lock = record { fid = fid; process = process; offset = offset; length = size; shared = shared }; place = place });
+      reply = g .reply;
+    }
+
+-- an exclusive lock of another process from 4 on is in the way of a read of 2 to 5
+unfoldable pub conflict : Row
+conflict =
+    record { tables = opened 2 (lock 7 4 1 ∷ []); request = message 0x2E 0x7F 0xFF (readBlock 4); said = heldAt 4 7 0 4 1 false (refusal 0x2E 1 0x21 0x00) }
+
+-- FID 4 and FID 9 are opens of file 1, FID 6 of file 2. In order of grant: a lock of file 2; of file 1 a shared lock of FID 9 on 0 to 3, FID 4's own one on 3 to 4, FID
+-- 9's on 4 to 10, FID 4's own one on 109 to 120.
+unfoldable pub contested : Tables
+contested =
+    tablesWith (session 3 5 ∷ []) (tree 2 3 1 ∷ []) (open-of 4 3 2 0x1B1A 1 2 ∷ open-of 6 3 2 0x1B1A 2 2 ∷ open-of 9 3 2 8 1 2 ∷ [])
+    (record { fid = 6; process = 7; offset = 0; length = 200; shared = false }
+    ∷ record { fid = 9; process = 8; offset = 0; length = 3; shared = true }
+    ∷ lock 0x1B1A 3 1
+    ∷ record { fid = 9; process = 8; offset = 4; length = 6; shared = false }
+    ∷ lock 0x1B1A 109 11
+    ∷ [])
+
+-- a read of 2 to 5 passes a shared lock and one of its own
+unfoldable pub readHeld : Row
+readHeld =
+    record { tables = contested; request = message 0x2E 0x7F 0xFF (readBlock 4); said = heldAt 9 8 3 4 6 false (refusal 0x2E 1 0x21 0x00) }
+
+-- a write to 2 to 4 meets a shared lock
+unfoldable pub writeHeld : Row
+writeHeld =
+    record { tables = contested; request = message 0x2F 0x7F 0xFF (writeBlock 0xFF 2 0); said = heldAt 9 8 1 0 3 true (refusal 0x2F 1 0x21 0x00) }
+
+-- and one of its own, where it is shared
+unfoldable pub writeOwnShared : Row
+writeOwnShared =
+    record {
+      tables = opened 2 (record { fid = 4; process = 0x1B1A; offset = 2; length = 1; shared = true } ∷ []);
+      request = message 0x2F 0x7F 0xFF (writeBlock 0xFF 2 0);
+      said = heldAt 4 0x1B1A 0 2 1 true (refusal 0x2F 1 0x21 0x00);
+    }
+
+-- a lock of 100 to 110 meets one of "the asker's own locks"
+unfoldable pub lockHeld : Row
+lockHeld =
+    record { tables = contested; request = message 0x24 0x7F 0xFF (lock100 0xFF); said = heldAt 4 0x1B1A 4 109 11 false (refusal 0x24 1 0x21 0x00) }
+
+-- the range of that process, 10 bytes from there on
+unfoldable pub rangeOf : ℕ → ℕ → List ℕ
+rangeOf process offset = process ∷ 0 ∷ offset ∷ 0 ∷ 0 ∷ 0 ∷ 10 ∷ 0 ∷ 0 ∷ 0 ∷ []
+
+-- "A lock granted earlier in the same request may be the answer, though it is undone": 200 to 210 of process 0x51, then 205 to 215 of process 0x61; five are listed
+unfoldable pub ownRangeHeld : Row
+ownRangeHeld =
+    record {
+      tables = contested;
+      request = message 0x24 0x7F 0xFF (lockBlock 0xFF 0 0 2 20 (rangeOf 0x51 200 ++ rangeOf 0x61 205));
+      said = heldAt 4 0x51 5 200 10 false (refusal 0x24 1 0x21 0x00);
+    }
+
+-- "the list as it then stands": the request unlocks 3 to 4, the third in the list, and the lock of 109 to 120 is then the fourth
+unfoldable pub unlockHeld : Row
+unlockHeld =
+    record {
+      tables = contested;
+      request = message 0x24 0x7F 0xFF (lockBlock 0xFF 0 1 1 20 ((0x1A ∷ 0x1B ∷ 3 ∷ 0 ∷ 0 ∷ 0 ∷ 1 ∷ 0 ∷ 0 ∷ 0 ∷ []) ++ range100));
+      said = heldAt 4 0x1B1A 3 109 11 false (refusal 0x24 1 0x21 0x00);
+    }
+
+-- in a chain: LOCKING is done, and its lock, of process 0x51 on 2 to 12, is in the way of the READ_ANDX
+unfoldable pub chainHeld : Row
+chainHeld =
+    record {
+      tables = fewRecords;
+      request = message 0x24 0x7F 0xFF (lockBlock 0x2E 0 0 1 10 (rangeOf 0x51 2) ++ readBlock 4);
+      said =
+          heldAt 4 0x51 0 2 10 false
+          (reply 42 0x24 1 0x21 0 0x88 0x01 ((0x02 ∷ 0x2E ∷ 0x00 ∷ 0x27 ∷ 0x00 ∷ 0x00 ∷ 0x00 ∷ []) ++ (0x00 ∷ 0x00 ∷ 0x00 ∷ [])));
+    }
+
+-- each reply has the holder that document 02 says, beside the bytes that document 01 says
+unfoldable pub conflicts : List Row
+conflicts = conflict ∷ readHeld ∷ writeHeld ∷ writeOwnShared ∷ lockHeld ∷ ownRangeHeld ∷ unlockHeld ∷ chainHeld ∷ []
+
+pub held : map (λ r. given (r .tables) (r .request)) conflicts ≡ map (λ r. r .said) conflicts
+unfolding conflicts conflict readHeld writeHeld writeOwnShared lockHeld ownRangeHeld unlockHeld chainHeld heldAt contested rangeOf holderAt holderOf opened lock refusal reply message fewRecords tablesWith session tree open-of sizes memory given taken take-message dropped startsSmb isReply answered served replied replyOf replyHeader put runChain onlyStatus blocks blocksFrom blocksWithin afterParse afterBlock before parse answer linkFits linkAt mayFollow shaped bare le16At le32At callerOf run afterGiven after linkTo perform areaOf dataOf status statusOf replyBlock refusedBlock replySize linkWords two withSession isSession withTree withOpen isOpen openAt found foundFrom sound withinRoom fileOk treeOk permits holdsOpen openOk soundRecords lockOk agree agreeAll soundLocks fileOf isTree contains numberOk numbered any all allTails overlaps passesEnd lock100 lockBlock range100 parseLocking lockingFits isLarge rangeSize doLocking servedType requestOf locking request releaseAll afterFind removeAt named afterReleases grantAll afterWalk afterGrants settle rangesAt rangeAt rangeFrom numberAt rangePasses askOf lockOf answers answersFor inWay bars owns lockingAfter lockingEnd withLockList stored readBlock parseRead readFits wideOffset doRead unlessBarred barring askBy readBytes contents sizeOf writeBlock parseWrite writeFits dataInside doWrite endsPast resized written withFiles
+held = refl
 
 -- ---- what else the call leaves
 

@@ -1,4 +1,4 @@
--- The words of include/gateway.h's struct, a second time, as numbers: each word is its own place. Assumes nothing.
+-- The words of include/gateway.h's structs, a second time, as numbers: each word of the tables is its own place. Assumes nothing.
 use mathlib.Core.Path.{_≡_, refl}
 use Prim.Native.Nat.{ℕ, _+_}
 use mathlib.Core.Bool.{Bool, true, false, not, _&&_}
@@ -8,6 +8,8 @@ use Rattle.lists.specs.Walk.{all}
 use Rattle.records.specs.declared.Tables.{Tables}
 use Rattle.records.specs.Empty.{noSession, noTree, noOpen, noLock, noFile}
 use Rattle.tables.specs.Words.{upTo, sessionOf, treeOf, openOf, lockOf, arrayOf, sessionArray, treeArray, openArray, lockArray, fileArray, tablesOf, within, recordsFit, inUseFit}
+use Rattle.message.specs.declared.refusal.HeldBy.the-variants.{Nobody, Holder as held-by}
+use Rattle.boundary.specs.Boundary.{holderWords}
 use Rattle.literals.specs.Counting.{countFrom}
 
 -- 1172 words, the word at each place the place itself; but the last open's file (513) and access (514), which fit up to 255, are 213 and 214, and of the
@@ -96,3 +98,11 @@ fits at = inUseFit (set oneEach at 18446744073709551615)
 pub free-words : all fits (518 ∷ 519 ∷ 3 ∷ 4 ∷ 37 ∷ 38 ∷ 39 ∷ 137 ∷ 138 ∷ 139 ∷ 140 ∷ 141 ∷ 142 ∷ 521 ∷ 522 ∷ 523 ∷ 524 ∷ 525 ∷ []) ≡ true
 unfolding fits oneEach inUseFit recordsFit within all upTo
 free-words = refl
+
+-- ---- the holder
+
+-- held, fid, process, place, offset, length; all zero where there is none
+pub holder-words : (holderWords Nobody ≡ 0 ∷ 0 ∷ 0 ∷ 0 ∷ 0 ∷ 0 ∷ [])
+    × (holderWords (held-by (record { lock = record { fid = 31; process = 32; offset = 34; length = 35; shared = true }; place = 33 })) ≡ 1 ∷ 31 ∷ 32 ∷ 33 ∷ 34 ∷ 35 ∷ [])
+unfolding holderWords
+holder-words = (refl, refl)
