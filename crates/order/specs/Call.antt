@@ -25,7 +25,7 @@ pub record Call : Type 0 where
   pub memory : List ℕ
   pub room : List ℕ
 
--- what it gives back: number, reply length, tables, file memory, room (message/specs/Message.antt). The contract of the code is an equation with it.
+-- what it gives back: number, reply length, holder, tables, file memory, room (message/specs/Message.antt). The contract of the code is an equation with it.
 abbrev pub gives : Call → Taken
 gives c = take-message (c .connection) (c .message) (c .tables) (c .memory) (c .room)
 

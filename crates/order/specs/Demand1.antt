@@ -11,6 +11,7 @@ use Rattle.chain.specs.Layout.{LOCKING, READ, WRITE, CLOSE, LOGOFF, TREE_DISCON
 use Rattle.chain.specs.Grammar.{Span, Reading, Sentence}
 use Rattle.message.specs.Message.{Taken, notTaken, take-message}
 use Rattle.message.specs.declared.refusal.Status.{Status}
+use Rattle.message.specs.declared.refusal.HeldBy.the-variants.{Nobody}
 use Rattle.invariants.specs.Sound.{Good}
 use Rattle.claims.specs.HostReasons.{SessionReason, TreeReason, OpenReason, LoadReason, DropReason, addSession-reason, addSession-given, addTree-reason, addTree-given, addOpen-reason, addOpen-given, loadFile-reason, loadFile-given, dropConnection-reason, dropConnection-given}
 use Rattle.claims.specs.HostAnswer.{Unchanged, addSession-refused, addTree-refused, addOpen-refused, loadFile-refused, loadMemory-refused, dropConnection-refused}
@@ -64,17 +65,18 @@ pub record RefusedByNumber : Type 0 where
       → Unchanged t (loadFile t file bytes memory) × (loadMemory t file bytes memory ≡ memory)
   pub drop : (t : Tables) (connection : ℕ) → (dropConnection t connection .number ≡ 0 → ⊥) → Unchanged t (dropConnection t connection)
 
--- nor does a message change anything that is no sentence, whatever its command (2/1, 2/22): its reply is the header and one refused block
+-- nor does a message change anything that is no sentence, whatever its command (2/1, 2/22): its reply is the header and one refused block, with no holder
 abbrev pub NoSentence : Type 0
 NoSentence =
     (c : Call) → Answerable c → (Sentence (c .message) → ⊥) → (gives c .tables ≡ c .tables) × (gives c .memory ≡ c .memory) × (gives c .length ≡ 35)
+    × (gives c .holder ≡ Nobody)
 
 -- what the commands of some blocks leave, sent one to a message up to the first refused
 abbrev pub leftBy : Call → List Span → Calls
 leftBy c spans = callSpans (c .connection) (c .message) someRoom spans (c .tables) (c .memory)
 
 -- and a command refused in the reply (Status not 0), alone or in a chain, leaves what the commands before it have left; its own message, sent on that, is answered with
--- the same Status; those after it aren't begun
+-- the same Status and has the same holder; those after it aren't begun
 pub record CommandRefused (c : Call) (spans : List Span) : Type 0 where
   pub front : List Span
   pub command : Span
@@ -84,6 +86,7 @@ pub record CommandRefused (c : Call) (spans : List Span) : Type 0 where
   pub tables-left : gives c .tables ≡ leftBy c front .tables
   pub memory-left : gives c .memory ≡ leftBy c front .memory
   pub refused-alone : statusRead (take-message (c .connection) (aloneSpan (c .message) command) (leftBy c front .tables) (leftBy c front .memory) someRoom .room) ≡ statusGiven c
+  pub holder-alone : take-message (c .connection) (aloneSpan (c .message) command) (leftBy c front .tables) (leftBy c front .memory) someRoom .holder ≡ gives c .holder
   pub later-not-begun : leftBy c spans ≡ leftBy c (front ++ (command ∷ []))
 
 abbrev pub RefusedInReply : Type 0
@@ -143,7 +146,7 @@ demand-1 =
         drop = dropConnection-refused;
       };
       no-sentence = λ c a none.
-          let q = no-sentence-taken (c .connection) (c .message) (c .tables) (c .memory) (c .room) (a .fit) none in (q .0 .same-tables, q .0 .same-memory, q .1);
+          let q = no-sentence-taken (c .connection) (c .message) (c .tables) (c .memory) (c .room) (a .fit) none in (q .0 .same-tables, q .0 .same-memory, q .1, q .2);
       refused-in-reply = λ c spans a r n.
           let q = spans-refused (c .connection) (c .message) r (c .tables) (c .memory) (c .room) someRoom (a .good) (a .fit) (length-replicate {A = ℕ} 12292 0) n in
           record {
@@ -155,6 +158,7 @@ demand-1 =
             tables-left = q .tables-left;
             memory-left = q .memory-left;
             refused-alone = q .status-so;
+            holder-alone = q .holder-so;
             later-not-begun = q .not-begun;
           };
       sound-stays = record { one-call = λ t after memory left call g. call-good call g; for-ever = λ t r. reached-good r };

@@ -53,8 +53,9 @@ UnreadBytes =
     → ((x : Span) → In x spans → (k : ℕ) → k < x .size → (Unread (c .message) (x .place) (x .command) k → ⊥) → byteAt other (x .place + k) ≡ byteAt (c .message) (x .place + k))
     → Answerable c → Answerable (sending c other) → gives (sending c other) ≡ gives c
 
--- "A sentence's commands sent one to a message, up to the first refused, give the chain's reply blocks, status, tables and files, every byte": the calls one by one
--- are demands/specs/SpansOneByOne.antt's `callSpans`, and what is compared CallsOneByOne.antt's `comparedCall`
+-- "A sentence's commands sent one to a message, up to the first refused, give the chain's reply blocks, status, tables and files, every byte"; and its holder
+-- (document 02, CR 2), the last message's. The calls one by one are demands/specs/SpansOneByOne.antt's `callSpans`, and what is compared
+-- CallsOneByOne.antt's `comparedCall`
 abbrev pub OneToAMessage : Type 0
 OneToAMessage =
     (c : Call) (spans : List Span) → Reading (c .message) spans → Answerable c

@@ -20,7 +20,7 @@ use Rattle.numbers.specs.Column.{uidOf, tidOf, fidOf}
 use Rattle.locks.specs.Range.{overlaps, passesEnd}
 use Rattle.locks.specs.Wire.{rangeSize, numberAt, rangeFrom, rangeAt, rangesAt}
 use Rattle.locks.specs.Answer.{owns, bars, inWay, named, answersFor, answers}
-use Rattle.locks.specs.Request.{askOf, lockOf, removeAt, afterFind, releaseAll, afterWalk, grantAll, afterGrants, rangePasses, afterReleases, request, settle, locking}
+use Rattle.locks.specs.Request.{holderAt, askOf, lockOf, removeAt, afterFind, releaseAll, afterWalk, grantAll, afterGrants, rangePasses, afterReleases, request, settle, locking}
 use Rattle.soundness.specs.File.{fileOf}
 use Rattle.soundness.specs.Lookup.{isTree}
 use Rattle.soundness.specs.Sound.{withinRoom, fileOk, treeOk, permits, holdsOpen, openOk, soundRecords, lockOk, agree, agreeAll, soundLocks, sound}
@@ -30,12 +30,15 @@ use Rattle.chain.specs.Header.{startsSmb, isReply, dropped}
 use Rattle.chain.specs.Parse.{shaped, bare, isLarge, lockingFits, readFits, mayFollow, linkFits, linkAt, answer, wideOffset, parseLocking, parseRead, parse}
 use Rattle.chain.specs.Chain.{before, afterBlock, afterParse, blocksWithin, blocksFrom, blocks}
 use Rattle.message.specs.Caller.{callerOf}
-use Rattle.message.specs.Refusal.{status, statusOf}
+use Rattle.message.specs.Refusal.{status, statusOf, holderOf}
+use Rattle.message.specs.declared.refusal.HeldBy.{HeldBy}
+use Rattle.message.specs.declared.refusal.HeldBy.the-variants.{Nobody, Holder as held-by}
 use Rattle.message.specs.Command.{isSession, withSession, withTree, isOpen, openAt, withOpen, servedType, requestOf, withLockList, lockingEnd, lockingAfter, doLocking, askBy, unlessBarred, barring, doRead, perform}
 use Rattle.message.specs.Contents.{sizeOf, contents, readBytes}
 use Rattle.message.specs.Reply.{two, linkWords, replySize, replyBlock, refusedBlock}
-use Rattle.message.specs.Message.{areaOf, dataOf, after, linkTo, afterGiven, run, served, runChain, answered}
+use Rattle.message.specs.Message.{areaOf, dataOf, after, linkTo, afterGiven, run, served, runChain, answered, Taken, replied}
 use Rattle.invariants.specs.Sound.{Good}
+use Rattle.invariants.specs.Fit.{fit-answered}
 use Rattle.invariants.specs.ReaderSound.{spanOf, reader-sound}
 use Rattle.claims.specs.Cases.{message}
 use Rattle.demands.specs.NotServed.{Known, known-locking}
@@ -127,32 +130,42 @@ no-chain = (answerable (message 60 []) (plant 2 0) (plant-good .0) kept-60, know
 
 -- ---- carried out, refused at its second command, refused for conflict
 
-answer-to : List ℕ → Tables → ℕ → ℕ → ℕ → Type 0
-answer-to s t class code size =
+answer-to : List ℕ → Tables → ℕ → ℕ → ℕ → HeldBy → Type 0
+answer-to s t class code size held =
     (answered 5 s t (replicate 65536 0) .status ≡ status class code) × (length (answered 5 s t (replicate 65536 0) .blocks) ≡ size)
+    × (answered 5 s t (replicate 65536 0) .holder ≡ held)
 
--- on an open for both LOCKING and READ are done; on one for writing READ is refused (1/5) behind LOCKING's block; beside the shared lock LOCKING is (1/33)
-answers-given : answer-to (message 61 []) (plant 2 0) 0 0 34 × answer-to (message 61 []) (plant 1 0) 1 5 10 × answer-to (message 61 []) (plant 2 1) 1 33 3
-unfolding asked message blocks blocksFrom blocksWithin afterParse afterBlock before parse parseLocking parseRead answer lockingFits readFits linkFits linkAt mayFollow shaped bare isLarge le16At le32At wideOffset rangeSize answered served runChain run afterGiven after perform doLocking withOpen withTree withSession isSession isTree isOpen openAt found foundFrom any servedType requestOf lockingAfter lockingEnd withLockList locking rangesAt rangeFrom rangeAt numberAt request afterReleases afterGrants grantAll afterWalk releaseAll afterFind removeAt rangePasses passesEnd askOf lockOf answers answersFor inWay bars named owns overlaps settle stored doRead unlessBarred barring askBy fileOf callerOf areaOf dataOf status statusOf plant answer-to readBytes contents sizeOf replySize replyBlock refusedBlock linkTo linkWords two
-answers-given = ((refl, refl), (refl, refl), (refl, refl))
+-- the lock of process 9, the first in the list
+unfoldable pub processNine : HeldBy
+processNine = held-by (record { lock = record { fid = 1; process = 9; offset = 105; length = 20; shared = true }; place = 0 })
 
-call-says : (t : Tables) (ok : Good t) (class code size : ℕ) → answer-to (message 61 []) t class code size
-    → Says (asked (message 61 []) t) class code × (gives (asked (message 61 []) t) .length ≡ 32 + size)
-unfolding asked answer-to
-call-says t ok class code size h =
+-- on an open for both LOCKING and READ are done; on one for writing READ is refused (1/5) behind LOCKING's block; beside the shared lock LOCKING is (1/33), and has
+-- its holder
+answers-given : answer-to (message 61 []) (plant 2 0) 0 0 34 Nobody × answer-to (message 61 []) (plant 1 0) 1 5 10 Nobody × answer-to (message 61 []) (plant 2 1) 1 33 3 processNine
+unfolding asked message blocks blocksFrom blocksWithin afterParse afterBlock before parse parseLocking parseRead answer lockingFits readFits linkFits linkAt mayFollow shaped bare isLarge le16At le32At wideOffset rangeSize answered served runChain run afterGiven after perform doLocking withOpen withTree withSession isSession isTree isOpen openAt found foundFrom any servedType requestOf lockingAfter lockingEnd withLockList locking rangesAt rangeFrom rangeAt numberAt request afterReleases afterGrants grantAll afterWalk holderAt holderOf processNine releaseAll afterFind removeAt rangePasses passesEnd askOf lockOf answers answersFor inWay bars named owns overlaps settle stored doRead unlessBarred barring askBy fileOf callerOf areaOf dataOf status statusOf plant answer-to readBytes contents sizeOf replySize replyBlock refusedBlock linkTo linkWords two
+answers-given = ((refl, refl, refl), (refl, refl, refl), (refl, refl, refl))
+
+call-says : (t : Tables) (ok : Good t) (class code size : ℕ) (held : HeldBy) → answer-to (message 61 []) t class code size held
+    → Says (asked (message 61 []) t) class code × (gives (asked (message 61 []) t) .length ≡ 32 + size) × (gives (asked (message 61 []) t) .holder ≡ held)
+unfolding asked answer-to replied
+call-says t ok class code size held h =
     let fit = answerable (message 61 []) t ok kept-61 .fit in (
       status-call 5 (message 61 []) t (replicate 65536 0) (replicate 12292 0) fit ∙ h .0,
       length-call 5 (message 61 []) t (replicate 65536 0) (replicate 12292 0) fit ∙ ap (λ (n : ℕ). 32 + n) (h .1),
+      ap (λ (k : Taken). k .holder) (fit-answered 5 (message 61 []) t (replicate 65536 0) (replicate 12292 0) fit) ∙ h .2,
     )
 
 pub chain-done : Says (asked (message 61 []) (plant 2 0)) 0 0 × (gives (asked (message 61 []) (plant 2 0)) .length ≡ 66)
-chain-done = call-says (plant 2 0) (plant-good .0) 0 0 34 (answers-given .0)
+    × (gives (asked (message 61 []) (plant 2 0)) .holder ≡ Nobody)
+chain-done = call-says (plant 2 0) (plant-good .0) 0 0 34 Nobody (answers-given .0)
 
 pub second-refused : Says (asked (message 61 []) (plant 1 0)) 1 5 × (gives (asked (message 61 []) (plant 1 0)) .length ≡ 42)
-second-refused = call-says (plant 1 0) (plant-good .1) 1 5 10 (answers-given .1)
+    × (gives (asked (message 61 []) (plant 1 0)) .holder ≡ Nobody)
+second-refused = call-says (plant 1 0) (plant-good .1) 1 5 10 Nobody (answers-given .1)
 
 pub lock-refused : Says (asked (message 61 []) (plant 2 1)) 1 33 × (gives (asked (message 61 []) (plant 2 1)) .length ≡ 35)
-lock-refused = call-says (plant 2 1) (plant-good .2) 1 33 3 (answers-given .2)
+    × (gives (asked (message 61 []) (plant 2 1)) .holder ≡ processNine)
+lock-refused = call-says (plant 2 1) (plant-good .2) 1 33 3 processNine (answers-given .2)
 
 -- its LOCKING is a lock alone in its request, of a served type, on a valid open and within range
 pub asks-one-lock : AsksOneLock (asked (message 61 []) (plant 2 1))

@@ -73,8 +73,8 @@ pub record WriterForItsReason : Type 0 where
   pub written : (message room : List ℕ) → length message ≤ 12292 → length message + 4 ≤ length room
       → write message room ≡ record { answer = record { number = 0; length = length message + 4 }; room = put room 0 (0 ∷ 0 ∷ length message / 256 ∷ length message % 256 ∷ message) }
 
--- "Demands 2 and 3 speak of the messages handed out": a host that takes each message handed out, on one connection, has for any cut the numbers, replies, tables and
--- files of the messages of the stream in one piece (calls of other connections between two pieces: by `HoweverCut`, the messages are the same)
+-- "Demands 2 and 3 speak of the messages handed out": a host that takes each message handed out, on one connection, has for any cut the numbers, holders, replies, tables
+-- and files of the messages of the stream in one piece (calls of other connections between two pieces: by `HoweverCut`, the messages are the same)
 abbrev pub HandedOutTaken : Type 0
 HandedOutTaken =
     (connection : ℕ) (lent : Lent) (pieces : List (List ℕ)) → AllBytes pieces → (buffer : List ℕ) → length buffer ≡ 8192
