@@ -78,10 +78,11 @@ pub fn seen_message(
     memory: &mut [u8],
     room: &mut [u8],
     written: &mut usize,
+    holder: &mut [u64; 6],
 ) -> u8
-    ensures { λ r. ⌜ MessageSeen connection (now (message .entry)) (now (tables .entry)) (now (memory .entry)) (now (room .entry)) (now (written .entry)) r (now (tables .exit)) (now (memory .exit)) (now (room .exit)) (now (written .exit)) ⌝ }
+    ensures { λ r. ⌜ MessageSeen connection (now (message .entry)) (now (tables .entry)) (now (memory .entry)) (now (room .entry)) (now (written .entry)) (now (holder .entry)) r (now (tables .exit)) (now (memory .exit)) (now (room .exit)) (now (written .exit)) (now (holder .exit)) ⌝ }
 {
-    gateway_take_message(tables, connection, message, memory, room, written)
+    gateway_take_message(tables, connection, message, memory, room, written, holder)
 }
 
 // A reader that has read nothing, whatever the words were: all are 0.

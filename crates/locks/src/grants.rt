@@ -113,9 +113,9 @@ pub(crate) fn holder_at(words: &[u64], held: usize, q: Request, area: &[u8], pla
             place,
         };
     }
-    let k = q.unlocks as usize + (place - held);
+    let own = q.unlocks as usize + (place - held);
     Holder {
-        lock: lock_of(q.fid, q.shared, range_at(area, q.large, k)),
+        lock: lock_of(q.fid, q.shared, range_at(area, q.large, own)),
         place,
     }
 }

@@ -15,9 +15,9 @@ same-length-2 c = search needs
 
 returns : tie.Need-returns
 returns c =
-    let args = c .before .before .before .before .before .before .before .before .before .before .before .before .args in
+    let args = c .before .before .before .before .before .before .before .before .before .before .before .before .before .args in
     let called = c .before .before .before .before .gateway-take-message in
-    message-seen (args .connection) (args .message .now) (args .tables .now) (args .memory .now) (args .room .now) (args .written .now) (called .result) (called .last .0) (called .last .1 .1 .1 .0) (called .last .1 .1 .1 .1 .0) (called .last .1 .1 .1 .1 .1 .0) (called .ensures .0) (called .ensures .1 .0) (called .ensures .1 .1 .0) (called .ensures .1 .1 .1 .0) (called .ensures .1 .1 .1 .1)
+    message-seen (args .connection) (args .message .now) (args .tables .now) (args .memory .now) (args .room .now) (args .written .now) (args .holder .now) (called .result) (called .last .0) (called .last .1 .1 .1 .0) (called .last .1 .1 .1 .1 .0) (called .last .1 .1 .1 .1 .1 .0) (called .last .1 .1 .1 .1 .1 .1 .0) (called .ensures .0) (called .ensures .1 .0) (called .ensures .1 .1 .0) (called .ensures .1 .1 .1 .0) (called .ensures .1 .1 .1 .1 .0) (called .ensures .1 .1 .1 .1 .1)
 
 pub seen-message-spec : {M : Type 1} → statement M
 seen-message-spec = tie.close (tie.spec gateway-take-message-requires same-length same-length-2 returns)

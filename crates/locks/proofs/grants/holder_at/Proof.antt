@@ -22,11 +22,11 @@ returns c =
     let held = c .before .before .before .before .pre .0 .1 in
     ap (λ (l : Lock). record { lock = l; place = args .place }) (c .lock-at .ensures ∙ sym (holder-listed (args .words .now) _ (args .place) (omega arith)))
 
-cast-k : tie.Need-cast-k
-cast-k c = search needs
+cast-own : tie.Need-cast-own
+cast-own c = search needs
 
-add-k : tie.Need-add-k
-add-k c = search needs
+add-own : tie.Need-add-own
+add-own c = search needs
 
 range-at-requires : tie.Need-range-at-requires
 range-at-requires c κs = search needs
@@ -48,4 +48,4 @@ returns-2 c =
 pub holder-at-spec : {M : Type 1} → statement M
 holder-at-spec =
     tie.close
-    (tie.spec lock-at-requires returns cast-k add-k range-at-requires lock-of-requires returns-2)
+    (tie.spec lock-at-requires returns cast-own add-own range-at-requires lock-of-requires returns-2)
