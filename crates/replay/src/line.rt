@@ -1,27 +1,53 @@
 // The line of a call.
 
+use message::refusal::HeldBy;
 use text::put_decimal;
 use text::put_hex_bytes;
 use text::put_text;
 ghost use Rattle.text.specs.Over.{Written};
-ghost use Rattle.replay.specs.Line.{callLine};
+ghost use Rattle.replay.specs.Line.{numberText, holderText, callLine};
 
-// Its number, the number given out or the reply's length, the reply in hex, and the digest of the state it left.
+// A space and a number.
+fn put_number(text: &mut [u8], at: usize, n: usize) -> usize
+    ensures { λ r. ⌜ Written (now (text .entry)) at (numberText n) (now (text .exit)) r ⌝ }
+{
+    let a1 = put_text(text, at, b" ");
+    put_decimal(text, a1, n)
+}
+
+// Who holds the lock in the way (document 02, CR 2): FID, process, place, offset and length, or nothing.
+fn put_holder(text: &mut [u8], at: usize, who: HeldBy) -> usize
+    ensures { λ r. ⌜ Written (now (text .entry)) at (holderText who) (now (text .exit)) r ⌝ }
+{
+    match who {
+        HeldBy::Nobody => at,
+        HeldBy::Holder(h) => {
+            let l = h.lock;
+            let a1 = put_number(text, at, l.fid as usize);
+            let a2 = put_number(text, a1, l.process as usize);
+            let a3 = put_number(text, a2, h.place);
+            let a4 = put_number(text, a3, l.offset as usize);
+            put_number(text, a4, l.length as usize)
+        }
+    }
+}
+
+// Its number, the number given out or the reply's length, the reply in hex, the digest of the state it left, and the holder.
 pub(crate) fn put_line(
     text: &mut [u8],
     number: u8,
     value: usize,
     reply: &[u8],
     digest: usize,
+    who: HeldBy,
 ) -> usize
-    ensures { λ r. ⌜ Written (now (text .entry)) 0 (callLine number value (now (reply .entry)) digest) (now (text .exit)) r ⌝ }
+    ensures { λ r. ⌜ Written (now (text .entry)) 0 (callLine number value (now (reply .entry)) digest who) (now (text .exit)) r ⌝ }
 {
     let a1 = put_decimal(text, 0, number as usize);
-    let a2 = put_text(text, a1, b" ");
-    let a3 = put_decimal(text, a2, value);
-    let a4 = put_text(text, a3, b" ");
-    let a5 = put_hex_bytes(text, a4, reply);
-    let a6 = put_text(text, a5, b" ");
-    let a7 = put_decimal(text, a6, digest);
-    put_text(text, a7, b"\n")
+    let a2 = put_number(text, a1, value);
+    let a3 = put_text(text, a2, b" ");
+    let a4 = put_hex_bytes(text, a3, reply);
+    let a5 = put_number(text, a4, digest);
+    let a6 = put_holder(text, a5, who);
+    put_text(text, a6, b"\n")
 }

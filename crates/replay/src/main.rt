@@ -1,6 +1,6 @@
 // The replay: standard input is a recorded history of host calls and messages (`play` says how they are written down), each played on
 // what the one before left, from empty tables on. For each a line is printed: the number, the number given out or the reply's length,
-// the reply in hex, and a digest of the tables and the file memory.
+// the reply in hex, a digest of the tables and the file memory, and, of a message refused 1/33, who holds the lock in its way.
 
 mod line;
 mod play;

@@ -15,6 +15,7 @@ use host::file::load_file;
 use host::open::add_open;
 use host::session::add_session;
 use host::tree::add_tree;
+use message::refusal::HeldBy;
 use numbers::number::at_most;
 use server::call::take_message;
 use wire::byte_at;
@@ -35,7 +36,7 @@ fn host_step(o: Row, next: usize, words: &[u64], memory: &[u8], text: &mut [u8])
     ensures { λ r. ⌜ (r .next ≡ next) × (r .length ≤ length (now (text .exit))) ⌝ }
 {
     let digest = state_digest(words, memory) as usize;
-    let length = put_line(text, o.number, o.id as usize, b"", digest);
+    let length = put_line(text, o.number, o.id as usize, b"", digest, HeldBy::Nobody);
     Step { next, length }
 }
 
@@ -77,7 +78,8 @@ fn message_step(
     let taken = take_message(le32_at(s, at + 1), &s[from..to], words, memory, room);
     let digest = state_digest(words, memory) as usize;
     let size = at_most(taken.length, room.len());
-    let length = put_line(text, taken.number, taken.length, &room[..size], digest);
+    let who = taken.holder;
+    let length = put_line(text, taken.number, taken.length, &room[..size], digest, who);
     Step { next, length }
 }
 

@@ -1,0 +1,31 @@
+-- `replay::line::put_number` meets its contract: one text behind the other.
+-- Assumes nothing.
+use borrow.Author.Needs.{needs}
+use Rattle.replay.proofs.line.put_number.Statement.{statement}
+use Rattle.replay.proofs.line.put_number.Tie as tie
+use Rattle.text.specs.Overlaid.{written-then}
+use Rattle.replay.specs.Line.{numberText}
+
+slice-aggregate-put-text : tie.Need-slice-aggregate-put-text
+slice-aggregate-put-text c = search needs
+
+put-text-requires : tie.Need-put-text-requires
+put-text-requires c κs = search needs
+
+put-decimal-requires : tie.Need-put-decimal-requires
+put-decimal-requires c κs = search needs
+
+same-length : tie.Need-same-length
+same-length c = search needs
+
+returns : tie.Need-returns
+unfolding numberText
+returns c =
+    let put-text = c .before .before .before .before .before .before .put-text in
+    written-then (put-text .ensures)
+    (c .before .before .put-decimal .ensures)
+
+pub put-number-spec : {M : Type 1} → statement M
+put-number-spec =
+    tie.close
+    (tie.spec slice-aggregate-put-text put-text-requires put-decimal-requires same-length returns)
