@@ -2,12 +2,9 @@
 -- a newline 10. Assumes nothing.
 use Prim.Native.Nat.{ℕ}
 use mathlib.Core.List.{List, [], _∷_, _++_}
-use Rattle.text.specs.Digits.{decimal, hexBytes}
+use Rattle.text.specs.Digits.{decimal, numberText, hexBytes}
 use Rattle.message.specs.declared.refusal.HeldBy.{HeldBy}
 use Rattle.message.specs.declared.refusal.HeldBy.the-variants.{Nobody, Holder as held-by}
-
-unfoldable pub numberText : ℕ → List ℕ
-numberText n = (32 ∷ []) ++ decimal n
 
 -- FID, process, place in the list as it then stood, offset and length of the lock in the way (document 02, CR 2); nothing where there is none
 unfoldable pub holderText : HeldBy → List ℕ

@@ -3,20 +3,13 @@
 use message::refusal::HeldBy;
 use text::put_decimal;
 use text::put_hex_bytes;
+use text::put_number;
 use text::put_text;
 ghost use Rattle.text.specs.Over.{Written};
-ghost use Rattle.replay.specs.Line.{numberText, holderText, callLine};
-
-// A space and a number.
-fn put_number(text: &mut [u8], at: usize, n: usize) -> usize
-    ensures { λ r. ⌜ Written (now (text .entry)) at (numberText n) (now (text .exit)) r ⌝ }
-{
-    let a1 = put_text(text, at, b" ");
-    put_decimal(text, a1, n)
-}
+ghost use Rattle.replay.specs.Line.{holderText, callLine};
 
 // Who holds the lock in the way (document 02, CR 2): FID, process, place, offset and length, or nothing.
-fn put_holder(text: &mut [u8], at: usize, who: HeldBy) -> usize
+fn put_held_by(text: &mut [u8], at: usize, who: HeldBy) -> usize
     ensures { λ r. ⌜ Written (now (text .entry)) at (holderText who) (now (text .exit)) r ⌝ }
 {
     match who {
@@ -48,6 +41,6 @@ pub(crate) fn put_line(
     let a3 = put_text(text, a2, b" ");
     let a4 = put_hex_bytes(text, a3, reply);
     let a5 = put_number(text, a4, digest);
-    let a6 = put_holder(text, a5, who);
+    let a6 = put_held_by(text, a5, who);
     put_text(text, a6, b"\n")
 }

@@ -1,10 +1,7 @@
 -- The lines of a replayed stream. A space is 32, a newline 10. Assumes nothing.
 use Prim.Native.Nat.{ℕ}
 use mathlib.Core.List.{List, [], _∷_, _++_}
-use Rattle.text.specs.Digits.{decimal}
-
-unfoldable pub numberText : ℕ → List ℕ
-numberText n = (32 ∷ []) ++ decimal n
+use Rattle.text.specs.Digits.{numberText}
 
 -- "message", its length, its number, its reply's length, the digest of the reply behind its header
 unfoldable pub messageLine : ℕ → ℕ → ℕ → ℕ → List ℕ

@@ -3,18 +3,10 @@
 use digest::digest_words;
 use libc::STDOUT_FILENO;
 use stream::state::State;
-use text::put_decimal;
+use text::put_number;
 use text::put_text;
 ghost use Rattle.text.specs.Over.{Written};
-ghost use Rattle.replay_stream.specs.Lines.{numberText, messageLine, endLine};
-
-// A space and a number.
-fn put_number(text: &mut [u8], at: usize, n: usize) -> usize
-    ensures { λ r. ⌜ Written (now (text .entry)) at (numberText n) (now (text .exit)) r ⌝ }
-{
-    let a1 = put_text(text, at, b" ");
-    put_decimal(text, a1, n)
-}
+ghost use Rattle.replay_stream.specs.Lines.{messageLine, endLine};
 
 // A message's length, its number, its reply's length and the digest of the reply behind its header.
 fn put_message(text: &mut [u8], size: usize, number: u8, length: usize, digest: usize) -> usize

@@ -12,6 +12,10 @@ digitsWithin (suc turns) n = cond (ltb n 10) ((48 + n) ∷ []) (digitsWithin tur
 unfoldable pub decimal : ℕ → List ℕ
 decimal n = digitsWithin (suc n) n
 
+-- a space and a number
+unfoldable pub numberText : ℕ → List ℕ
+numberText n = (32 ∷ []) ++ decimal n
+
 -- a digit in hex, in upper case, and a byte as two of them
 unfoldable pub hexDigit : ℕ → ℕ
 hexDigit d = cond (ltb d 10) (48 + d) (55 + d)

@@ -4,7 +4,7 @@
 ghost use mathlib.Core.Path.{_≡_};
 ghost use mathlib.Core.List.{_∷_, []};
 ghost use Prim.Native.Nat.{_≤_};
-ghost use Rattle.text.specs.Digits.{decimal, hexDigit, hexByte, hexBytes};
+ghost use Rattle.text.specs.Digits.{decimal, numberText, hexDigit, hexByte, hexBytes};
 ghost use Rattle.text.specs.Over.{Written};
 
 // A byte at a place, where the buffer has it; the next place.
@@ -40,6 +40,14 @@ pub fn put_decimal(out: &mut [u8], at: usize, n: usize) -> usize
     }
     let to = put_decimal(out, at, n / 10);
     put_byte(out, to, 48 + (n % 10) as u8)
+}
+
+// A space and a number.
+pub fn put_number(out: &mut [u8], at: usize, n: usize) -> usize
+    ensures { λ r. ⌜ Written (now (out .entry)) at (numberText n) (now (out .exit)) r ⌝ }
+{
+    let to = put_text(out, at, b" ");
+    put_decimal(out, to, n)
 }
 
 // A digit in hex.

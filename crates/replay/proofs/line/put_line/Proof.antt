@@ -24,8 +24,8 @@ put-hex-bytes-requires c κs = search needs
 put-number-requires-2 : tie.Need-put-number-requires-2
 put-number-requires-2 c κs = search needs
 
-put-holder-requires : tie.Need-put-holder-requires
-put-holder-requires c κs = search needs
+put-held-by-requires : tie.Need-put-held-by-requires
+put-held-by-requires c κs = search needs
 
 slice-aggregate-put-text-2 : tie.Need-slice-aggregate-put-text-2
 slice-aggregate-put-text-2 c = search needs
@@ -44,13 +44,13 @@ returns c =
     let put-text = c .before .before .before .before .before .before .before .before .before .before .before .before .before .before .before .before .before .before .before .put-text in
     let put-hex-bytes = c .before .before .before .before .before .before .before .before .before .before .before .before .before .before .before .put-hex-bytes in
     let put-number2 = c .before .before .before .before .before .before .before .before .before .before .before .put-number2 in
-    let put-holder = c .before .before .before .before .before .before .before .put-holder in
+    let put-held-by = c .before .before .before .before .before .before .before .put-held-by in
     written-then (put-decimal .ensures)
     (written-then (put-number .ensures)
     (written-then (put-text .ensures)
     (written-then (put-hex-bytes .ensures)
     (written-then (put-number2 .ensures)
-    (written-then (put-holder .ensures)
+    (written-then (put-held-by .ensures)
     (c .before .before .put-text2 .ensures))))))
 
 pub put-line-spec : {M : Type 1} → statement M
@@ -63,7 +63,7 @@ put-line-spec =
     put-text-requires
     put-hex-bytes-requires
     put-number-requires-2
-    put-holder-requires
+    put-held-by-requires
     slice-aggregate-put-text-2
     put-text-requires-2
     same-length

@@ -1,10 +1,10 @@
--- `replay_stream::show::put_number` meets its contract: one text behind the other.
+-- `text::put_number` meets its contract: one text behind the other.
 -- Assumes nothing.
 use borrow.Author.Needs.{needs}
-use Rattle.replay_stream.proofs.show.put_number.Statement.{statement}
-use Rattle.replay_stream.proofs.show.put_number.Tie as tie
+use Rattle.text.proofs.put_number.Statement.{statement}
+use Rattle.text.proofs.put_number.Tie as tie
 use Rattle.text.specs.Overlaid.{written-then}
-use Rattle.replay_stream.specs.Lines.{numberText}
+use Rattle.text.specs.Digits.{numberText}
 
 slice-aggregate-put-text : tie.Need-slice-aggregate-put-text
 slice-aggregate-put-text c = search needs

@@ -1,7 +1,7 @@
--- `replay::line::put_holder` meets its contract: nothing, or one number behind the other. Assumes nothing.
+-- `replay::line::put_held_by` meets its contract: nothing, or one number behind the other. Assumes nothing.
 use borrow.Author.Needs.{needs}
-use Rattle.replay.proofs.line.put_holder.Statement.{statement}
-use Rattle.replay.proofs.line.put_holder.Tie as tie
+use Rattle.replay.proofs.line.put_held_by.Statement.{statement}
+use Rattle.replay.proofs.line.put_held_by.Tie as tie
 use Rattle.text.specs.Overlaid.{written-nothing, written-then}
 use Rattle.replay.specs.Line.{holderText}
 
@@ -53,8 +53,8 @@ returns-2 c =
     (written-then (put-number4 .ensures)
     (c .before .before .put-number5 .ensures)))))
 
-pub put-holder-spec : {M : Type 1} → statement M
-put-holder-spec =
+pub put-held-by-spec : {M : Type 1} → statement M
+put-held-by-spec =
     tie.close
     (tie.spec
     enum-told
