@@ -43,3 +43,4 @@ pub mod StreamTaken
 pub mod StreamSeen
 pub mod NoSentence
 pub mod ReplyHeader
+pub mod HolderExactly
