@@ -277,7 +277,7 @@ module _ (t : Tables) (ok : sound t ≡ true) (o : Open) (fid : ℕ) (there-is :
     none-bars list e s = not-decided-twice (in-way (s .lock)) (bars-is list s) (found-miss in-way (s .listed) e)
 
     -- the list with the lock granted
-    opened-more : (list : List Lock) → Opened t list → Opened t (list ++ (lockOf fid shared r ∷ []))
+    pub opened-more : (list : List Lock) → Opened t list → Opened t (list ++ (lockOf fid shared r ∷ []))
     unfolding Opened lockOf
     opened-more list opened l m =
         elim (front-or-back list m) [

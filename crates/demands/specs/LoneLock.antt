@@ -81,7 +81,7 @@ some-at p xs Nothing e {x} m h = absurd (not-decided-twice (p x) h (found-miss p
 -- ---- what a lock in the way is
 
 -- the tests of the three purposes
-grant-bars : (shared : Bool) (l : Lock) → (not (l .shared && shared) ≡ true) ↔ ((l .shared ≡ true) × (shared ≡ true) → ⊥)
+pub grant-bars : (shared : Bool) (l : Lock) → (not (l .shared && shared) ≡ true) ↔ ((l .shared ≡ true) × (shared ≡ true) → ⊥)
 grant-bars shared l = (
   λ e b. let z : not (true && true) ≡ true = rw (b .0, b .1) at e in let n : _≡_ {A = ℕ} 0 1 = cc in omega arith,
   λ n. not-holds (l .shared && shared) (fails (l .shared && shared) (λ e. n (both-hold (l .shared) shared e))),
@@ -94,7 +94,7 @@ owns-exact q l = (
   λ o. hold-both (eqb (l .fid) (q .fid)) (eqb (l .process) (q .process)) (eq-eqb (l .fid) (q .fid) (o .0)) (eq-eqb (l .process) (q .process) (o .1)),
 )
 
-read-bars : (q : Ask) (l : Lock) → ((not (l .shared) && not (owns q l)) ≡ true) ↔ ((l .shared ≡ false) × (Owner (q .fid) (q .process) l → ⊥))
+pub read-bars : (q : Ask) (l : Lock) → ((not (l .shared) && not (owns q l)) ≡ true) ↔ ((l .shared ≡ false) × (Owner (q .fid) (q .process) l → ⊥))
 read-bars q l = (
   λ e. let b = both-hold (not (l .shared)) (not (owns q l)) e in
       (not-true (l .shared) (b .0), λ o. not-decided-twice (owns q l) (owns-exact q l .1 o) (not-true (owns q l) (b .1))),
@@ -102,7 +102,7 @@ read-bars q l = (
       (not-holds (owns q l) (fails (owns q l) (λ e. h .1 (owns-exact q l .0 e)))),
 )
 
-write-bars : (q : Ask) (l : Lock) → (not (not (l .shared) && owns q l) ≡ true) ↔ ((l .shared ≡ false) × Owner (q .fid) (q .process) l → ⊥)
+pub write-bars : (q : Ask) (l : Lock) → (not (not (l .shared) && owns q l) ≡ true) ↔ ((l .shared ≡ false) × Owner (q .fid) (q .process) l → ⊥)
 write-bars q l = (
   λ e h. not-decided-twice (not (l .shared) && owns q l)
       (hold-both (not (l .shared)) (owns q l) (not-holds (l .shared) (h .0)) (owns-exact q l .1 (h .1)))
