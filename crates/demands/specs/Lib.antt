@@ -44,3 +44,5 @@ pub mod StreamSeen
 pub mod NoSentence
 pub mod ReplyHeader
 pub mod HolderExactly
+pub mod HolderWords
+pub mod HolderWalk

@@ -1,0 +1,121 @@
+-- Who holds the lock, in plain words (document 02, CR 2: "the place of the first conflicting lock in the list as it then stands", for "locks, reads and writes"). What
+-- is in the way is said as for the refusal itself (LoneLock.antt, CommandReasons.antt). Assumes nothing.
+use mathlib.Core.Path.{_≡_, sym, ap, _∙_}
+use mathlib.Core.Logic.{inl, inr}
+use Prim.Native.Nat.{ℕ, min, _+_, _/_, _%_, _≤_, _<_}
+use native.Mathlib.Omega.{arith}
+use native.Mathlib.Decide.{decLt}
+use mathlib.Core.Bool.{Bool, true, false}
+use mathlib.Core.List.{List, _++_, map, List·Memᴰ as In}
+use lib.ListN.{length, take, getD, length-take}
+use lib.Seq.{getD-take}
+use lib.Dec.{eqb}
+use Rattle.lists.specs.PairLaws.{place-in}
+use Rattle.records.specs.declared.Open.{Open}
+use Rattle.records.specs.declared.Lock.{Lock}
+use Rattle.records.specs.declared.Tables.{Tables}
+use Rattle.records.specs.Empty.{noLock}
+use Rattle.records.specs.Held.{locksOf}
+use Rattle.locks.specs.Range.{Overlap}
+use Rattle.locks.specs.Wire.{rangeAt, rangesAt}
+use Rattle.locks.specs.Request.{lockOf}
+use Rattle.locks.specs.declared.types.LockRange.{LockRange}
+use Rattle.locks.specs.declared.types.Holder.{Holder}
+use Rattle.chain.specs.declared.block.LockingFields.{LockingFields}
+use Rattle.chain.specs.declared.block.ReadFields.{ReadFields}
+use Rattle.chain.specs.declared.block.WriteFields.{WriteFields}
+use Rattle.chain.specs.declared.block.Body.{Body}
+use Rattle.chain.specs.declared.block.Body.the-variants.{Locking as LockingBody, Read as ReadBody, Write as WriteBody}
+use Rattle.message.specs.declared.caller.Caller.{Caller}
+use Rattle.demands.specs.LoneLock.{OfFile, Owner, InWay, sharedIn}
+use Rattle.demands.specs.Admitted.{Admitted}
+use Rattle.demands.specs.LockWords.{Released, PastEnd, AllGranted}
+use Rattle.demands.specs.CommandReasons.{OnlyTwoBits, unlocksIn, locksIn}
+
+-- ---- the plain words
+
+-- the holder's lock stands at its place of the list and is in the way: of the open's file, overlapping the range, clashing with what is asked. None before it is.
+pub record FirstInWay (t : Tables) (o : Open) (list : List Lock) (offset size : ℕ) (Clash : Lock → Type 0) (h : Holder) : Type 0 where
+  pub in-list : h .place < length list
+  pub stands-there : getD list (h .place) noLock ≡ h .lock
+  pub of-file : OfFile t o (h .lock)
+  pub overlap : Overlap (h .lock .offset) (h .lock .length) offset size
+  pub clash : Clash (h .lock)
+  pub none-before : InWay t o (take (h .place) list) offset size Clash → ⊥
+
+-- a read, through an open that may be read: the first "exclusive lock of another owner" that "overlaps offset and max"
+pub record ReadHeld (c : Caller) (t : Tables) (f : ReadFields) (h : Holder) : Type 0 where
+  pub through : Open
+  pub admitted : Admitted c t (f .fid) through
+  pub access : through .access ≡ 1 → ⊥
+  pub first : FirstInWay t through (locksOf t) (f .offset) (f .max) (λ l. (l .shared ≡ false) × (Owner (f .fid) (c .process) l → ⊥)) h
+
+-- a write, through an open that may be written: the first of any that overlap it "save the writer's own exclusive ones"
+pub record WriteHeld (c : Caller) (t : Tables) (f : WriteFields) (h : Holder) : Type 0 where
+  pub through : Open
+  pub admitted : Admitted c t (f .fid) through
+  pub access : through .access ≡ 0 → ⊥
+  pub first : FirstInWay t through (locksOf t) (f .offset) (f .count) (λ l. (l .shared ≡ false) × Owner (f .fid) (c .process) l → ⊥) h
+
+-- "locks in order, each against the list as it stands": ranges of an area from the k-th on, `asked` of them, on a list. `granted` of them were granted, none having a
+-- lock in its way; their locks, of the request's FID and each range's process, stand behind the list; there the next one has a lock in its way.
+pub record RangeHeld (t : Tables) (o : Open) (fid : ℕ) (shared large : Bool) (area : List ℕ) (k asked : ℕ) (list : List Lock) (h : Holder) : Type 0 where
+  pub granted : ℕ
+  pub fewer : granted < asked
+  pub standing : List Lock
+  pub as-it-stands : standing ≡ list ++ map (lockOf fid shared) (rangesAt large area k granted)
+  pub earlier : AllGranted t o fid shared (rangesAt large area k granted) list standing
+  pub first : FirstInWay t o standing (rangeAt large area (k + granted) .offset) (rangeAt large area (k + granted) .length)
+      (λ l. (l .shared ≡ true) × (shared ≡ true) → ⊥) h
+
+-- a LOCKING of a served type with its ranges within 2^64: "this request's unlocks taken out, its own earlier ranges at the end"
+pub record LockHeld (c : Caller) (t : Tables) (f : LockingFields) (area : List ℕ) (h : Holder) : Type 0 where
+  pub through : Open
+  pub admitted : Admitted c t (f .fid) through
+  pub served : OnlyTwoBits (f .kind)
+  pub left : List Lock
+  pub unlocked : Released (f .fid) (unlocksIn f area) (locksOf t) left
+  pub within : PastEnd (locksIn f area) → ⊥
+  pub held : RangeHeld t through (f .fid) (sharedIn f) (eqb (f .kind / 16 % 2) 1) area (f .unlocks) (f .locks) left h
+
+-- the command with these fields and this byte area, begun on these tables, has the holder's lock in its way
+pub data Held (c : Caller) (t : Tables) (area : List ℕ) (body : Body) (h : Holder) : Type 0 where
+  read-held : (f : ReadFields) → body ≡ ReadBody f → ReadHeld c t f h → Held c t area body h
+  write-held : (f : WriteFields) → body ≡ WriteBody f → WriteHeld c t f h → Held c t area body h
+  lock-held : (f : LockingFields) → body ≡ LockingBody f → LockHeld c t f area h → Held c t area body h
+
+-- ---- places before another
+
+module _ {A : Type 0} (d : A) (xs : List A) (j k : ℕ) (below : j < k) (inside : j < length xs) where
+  -- an element before a place is among those before it
+  pub place-before : In (getD xs j d) (take k xs)
+  place-before =
+      let n : length (take k xs) ≡ min k (length xs) = length-take k xs in
+      let m : j < length (take k xs) = omega arith in
+      rw (getD-take k xs j d below) at (place-in d (take k xs) j m)
+
+-- ---- the words determine the holder
+
+module _ {t : Tables} {o : Open} {list : List Lock} {offset size : ℕ} {Clash : Lock → Type 0} where
+  -- a first one has no other before it
+  not-before : {h g : Holder} → FirstInWay t o list offset size Clash h → FirstInWay t o list offset size Clash g → h .place < g .place → ⊥
+  not-before {h} {g} a b below =
+      b .none-before
+      (record {
+        lock = h .lock;
+        listed = rw (a .stands-there) at (place-before noLock list (h .place) (g .place) below (a .in-list));
+        of-file = a .of-file;
+        overlap = a .overlap;
+        clash = a .clash;
+      })
+
+  -- there is only one first
+  pub first-one : {h g : Holder} → FirstInWay t o list offset size Clash h → FirstInWay t o list offset size Clash g → h ≡ g
+  first-one {h} {g} a b =
+      let same : h .place ≡ g .place =
+      elim (decLt (h .place) (g .place)) [
+        | yes l ↦ absurd (not-before a b l)
+        | no n ↦ elim (decLt (g .place) (h .place)) [ yes l ↦ absurd (not-before b a l) | no m ↦ omega arith ]
+      ] in
+      let lock : h .lock ≡ g .lock = sym (a .stands-there) ∙ ap (λ (k : ℕ). getD list k noLock) same ∙ b .stands-there in
+      λ i. record { lock = lock i; place = same i }
