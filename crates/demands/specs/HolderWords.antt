@@ -1,8 +1,7 @@
 -- Who holds the lock, in plain words (document 02, CR 2: "the place of the first conflicting lock in the list as it then stands", for "locks, reads and writes"). What
 -- is in the way is said as for the refusal itself (LoneLock.antt, CommandReasons.antt). Assumes nothing.
 use mathlib.Core.Path.{_≡_, sym, ap, _∙_}
-use mathlib.Core.Logic.{inl, inr}
-use Prim.Native.Nat.{ℕ, min, _+_, _/_, _%_, _≤_, _<_}
+use Prim.Native.Nat.{ℕ, min, _+_, _/_, _%_, _<_}
 use native.Mathlib.Omega.{arith}
 use native.Mathlib.Decide.{decLt}
 use mathlib.Core.Bool.{Bool, true, false}
@@ -19,7 +18,6 @@ use Rattle.records.specs.Held.{locksOf}
 use Rattle.locks.specs.Range.{Overlap}
 use Rattle.locks.specs.Wire.{rangeAt, rangesAt}
 use Rattle.locks.specs.Request.{lockOf}
-use Rattle.locks.specs.declared.types.LockRange.{LockRange}
 use Rattle.locks.specs.declared.types.Holder.{Holder}
 use Rattle.chain.specs.declared.block.LockingFields.{LockingFields}
 use Rattle.chain.specs.declared.block.ReadFields.{ReadFields}
@@ -43,19 +41,20 @@ pub record FirstInWay (t : Tables) (o : Open) (list : List Lock) (offset size : 
   pub clash : Clash (h .lock)
   pub none-before : InWay t o (take (h .place) list) offset size Clash → ⊥
 
--- a read, through an open that may be read: the first "exclusive lock of another owner" that "overlaps offset and max"
-pub record ReadHeld (c : Caller) (t : Tables) (f : ReadFields) (h : Holder) : Type 0 where
+-- a read or a write: through an open whose access is not the one denied, on the list of all locks held
+pub record TransferHeld (c : Caller) (t : Tables) (fid denied offset size : ℕ) (Clash : Lock → Type 0) (h : Holder) : Type 0 where
   pub through : Open
-  pub admitted : Admitted c t (f .fid) through
-  pub access : through .access ≡ 1 → ⊥
-  pub first : FirstInWay t through (locksOf t) (f .offset) (f .max) (λ l. (l .shared ≡ false) × (Owner (f .fid) (c .process) l → ⊥)) h
+  pub admitted : Admitted c t fid through
+  pub access : through .access ≡ denied → ⊥
+  pub first : FirstInWay t through (locksOf t) offset size Clash h
 
--- a write, through an open that may be written: the first of any that overlap it "save the writer's own exclusive ones"
-pub record WriteHeld (c : Caller) (t : Tables) (f : WriteFields) (h : Holder) : Type 0 where
-  pub through : Open
-  pub admitted : Admitted c t (f .fid) through
-  pub access : through .access ≡ 0 → ⊥
-  pub first : FirstInWay t through (locksOf t) (f .offset) (f .count) (λ l. (l .shared ≡ false) × Owner (f .fid) (c .process) l → ⊥) h
+-- of a read the first "exclusive lock of another owner" that "overlaps offset and max"; the owner asking is the FID with the header's process
+abbrev pub ReadHeld : Caller → Tables → ReadFields → Holder → Type 0
+ReadHeld c t f h = TransferHeld c t (f .fid) 1 (f .offset) (f .max) (λ l. (l .shared ≡ false) × (Owner (f .fid) (c .process) l → ⊥)) h
+
+-- of a write the first of any that overlap it "save the writer's own exclusive ones"
+abbrev pub WriteHeld : Caller → Tables → WriteFields → Holder → Type 0
+WriteHeld c t f h = TransferHeld c t (f .fid) 0 (f .offset) (f .count) (λ l. (l .shared ≡ false) × Owner (f .fid) (c .process) l → ⊥) h
 
 -- "locks in order, each against the list as it stands": ranges of an area from the k-th on, `asked` of them, on a list. `granted` of them were granted, none having a
 -- lock in its way; their locks, of the request's FID and each range's process, stand behind the list; there the next one has a lock in its way.

@@ -46,3 +46,4 @@ pub mod ReplyHeader
 pub mod HolderExactly
 pub mod HolderWords
 pub mod HolderWalk
+pub mod HolderCommand

@@ -1,0 +1,254 @@
+-- A command is refused for conflict with a holder exactly if that holder's lock is in its way in plain words (document 02, CR 2: "Locks, reads and writes pass it up").
+-- Assumes nothing.
+use mathlib.Core.Path.{_≡_, refl, sym, ap, _∙_}
+use mathlib.Core.Logic.{_↔_, inl, inr}
+use Prim.Native.Nat.{ℕ, _+_, _*_, _/_, _%_}
+use native.Mathlib.Omega.{arith}
+use mathlib.Core.Bool.{Bool, true, false, cond}
+use mathlib.Core.List.{List, List·Memᴰ as In}
+use mathlib.Core.Option.{Option, none, some}
+use lib.ListN.{length, getD}
+use lib.Dec.{leb, eqb}
+use borrow.Author.Tests.{eqb-true, eqb-false, eq-eqb, ne-eqb}
+use Rattle.lists.specs.Walk.{any}
+use Rattle.lists.specs.Truth.{fails, decided, not-decided-twice}
+use Rattle.lists.specs.declared.Found.{Found}
+use Rattle.lists.specs.declared.Found.the-variants.{At, Nothing}
+use Rattle.records.specs.declared.Open.{Open}
+use Rattle.records.specs.declared.Lock.{Lock}
+use Rattle.records.specs.declared.Tables.{Tables}
+use Rattle.records.specs.Empty.{noOpen}
+use Rattle.records.specs.Held.{opensOf, locksOf}
+use Rattle.locks.specs.Wire.{rangeSize}
+use Rattle.locks.specs.Answer.{bars, inWay, answersFor, answers}
+use Rattle.locks.specs.Request.{releaseAll, Grants, granted, blocked, grantAll, Result, afterGrants, rangePasses, afterReleases, request, settle, locking, holderAt}
+use Rattle.locks.specs.declared.types.Ask.{Ask}
+use Rattle.locks.specs.declared.types.LockRange.{LockRange}
+use Rattle.locks.specs.declared.types.Holder.{Holder}
+use Rattle.locks.specs.declared.types.Purpose.the-variants.{Read as Reading, Write as Writing}
+use Rattle.soundness.specs.File.{fileOf}
+use Rattle.soundness.specs.Sound.{sound}
+use Rattle.claims.specs.SoundPlain.{sound-plain}
+use Rattle.claims.specs.Cases.{statusIn}
+use Rattle.chain.specs.declared.block.LockingFields.{LockingFields}
+use Rattle.chain.specs.declared.block.ReadFields.{ReadFields}
+use Rattle.chain.specs.declared.block.WriteFields.{WriteFields}
+use Rattle.chain.specs.declared.block.Body.{Body}
+use Rattle.chain.specs.declared.block.Body.the-variants.{Locking as LockingBody, Read as ReadBody, Write as WriteBody, Close, Logoff, TreeDisconnect, ProcessExit}
+use Rattle.invariants.specs.GivenCases.{cond-case, session-case, tree-case, open-case}
+use Rattle.message.specs.declared.caller.Caller.{Caller}
+use Rattle.message.specs.Refusal.{status, statusOf}
+use Rattle.message.specs.declared.refusal.Status.{Status}
+use Rattle.message.specs.declared.refusal.Refusal.{Refusal}
+use Rattle.message.specs.declared.refusal.Refusal.the-variants.{NoAccess, LockType, NoSpace, Conflict}
+use Rattle.message.specs.Command.{Given, refused, done, withSession, withTree, withOpen, servedType, requestOf, lockingEnd, lockingAfter, doLocking, askBy, unlessBarred, barring, doRead, endsPast, doWrite, perform}
+use Rattle.demands.specs.LoneLock.{May, Owner, sharedIn, read-bars, write-bars}
+use Rattle.demands.specs.Admitted.{Admitted, NoSessionFor, no-session, NoTreeFor, before-tree, no-tree, NoOpenFor, before-open, no-open, admitted-may, open-or, with-open, open-given}
+use Rattle.demands.specs.LockWords.{Released, Releasing, all-released, one-unnamed, release-means, released-is, released-was, PastEnd, past-means, past-is, Opened}
+use Rattle.demands.specs.CommandReasons.{Announced, OnlyTwoBits, served-exact, unlocksIn, locksIn}
+use Rattle.demands.specs.HolderWords.{TransferHeld, ReadHeld, WriteHeld, LockHeld, Held, read-held, write-held, lock-held}
+use Rattle.demands.specs.HolderWalk.{Way, found-first, first-place, asked-exact, blocked-held, held-blocked}
+
+-- refused for that holder's lock
+abbrev pub Names : Given → Holder → Type 0
+Names g h = g ≡ refused (Conflict h)
+
+never : {P : Type 0} → _≡_ {A = ℕ} 0 1 → P
+never e = absurd (omega arith)
+
+-- one that is missing has another code
+open-code : {c : Caller} {t : Tables} {fid : ℕ} {n : Status} → NoOpenFor c t fid n → n .code ≡ 33 → ⊥
+unfolding status
+open-code (before-open (before-tree (no-session h))) e = omega arith
+open-code (before-open (no-tree s h)) e = omega arith
+open-code (no-open s r h) e = omega arith
+
+module _ (c : Caller) (t : Tables) (memory : List ℕ) (ok : sound t ≡ true) where
+  -- a caller that may not ask is not refused for conflict
+  not-asked : {P : Type 0} (fid : ℕ) (next : Open → Given) {n : Status} → NoOpenFor c t fid n → (h : Holder) → Names (withOpen c t fid next) h → P
+  unfolding statusIn statusOf status
+  not-asked fid next {n} no-one h e =
+      let same : n ≡ status 1 33 = sym (open-given c t fid next no-one) ∙ ap statusIn e in
+      absurd (open-code no-one (ap (λ (s : Status). s .code) same))
+
+  -- ---- reads and writes
+
+  -- each listed lock has an open
+  listed-opened : Opened t (locksOf t)
+  unfolding Opened
+  listed-opened l m = sound-plain t .0 ok .lock-open l m
+
+  -- what the walk found decides
+  barred-names : (q : Ask) (x : Found) (next : Given) (h : Holder) → (Names next h → ⊥) → barring t q ≡ x → Names (unlessBarred t x next) h
+      → (j : ℕ) × (barring t q ≡ At j) × (holderAt (locksOf t) j ≡ h)
+  unfolding unlessBarred
+  barred-names q (At j) next h n e f = let same : holderAt (locksOf t) j ≡ h = cc in (j, e, same)
+  barred-names q Nothing next h n e f = absurd (n f)
+
+  -- both are told by the access denied, by what is asked of the list and by what follows where nothing is in the way, which names nobody
+  module _ (denied : ℕ) (q : Ask) {Clash : Lock → Type 0} (clashes : (l : Lock) → (bars (q .purpose) q l ≡ true) ↔ Clash l)
+      (asks : (l : Lock) → answers (fileOf (opensOf t)) q l ≡ inWay (fileOf (opensOf t)) q l) (next : Open → Given) (h : Holder) (others : (o : Open) → Names (next o) h → ⊥) where
+    abbrev transfer : Open → Given
+    transfer o = cond (eqb (o .access) denied) (refused NoAccess) (unlessBarred t (barring t q) (next o))
+
+    way-exact : {o : Open} → Admitted c t (q .fid) o → (l : Lock) → In l (locksOf t) → (answers (fileOf (opensOf t)) q l ≡ true) ↔ Way t o (q .offset) (q .length) Clash l
+    way-exact {o} a = asked-exact t ok o (a .opened .listed) q (a .opened .of-fid) clashes asks (locksOf t) listed-opened
+
+    transfer-may : (o : Open) → Admitted c t (q .fid) o → (b : Bool) → eqb (o .access) denied ≡ b → Names (cond b (refused NoAccess) (unlessBarred t (barring t q) (next o))) h
+        → TransferHeld c t (q .fid) denied (q .offset) (q .length) Clash h
+    unfolding barring
+    transfer-may o a true z e = never cc
+    transfer-may o a false z e =
+        let v = barred-names q (barring t q) (next o) h (others o) refl e in
+        record {
+          through = o;
+          admitted = a;
+          access = eqb-false (o .access) denied z;
+          first = rw (v .2) at (found-first (answers (fileOf (opensOf t)) q) (locksOf t) (way-exact a) (v .0) (v .1));
+        }
+
+    transfer-exact : Names (withOpen c t (q .fid) transfer) h ↔ TransferHeld c t (q .fid) denied (q .offset) (q .length) Clash h
+    unfolding barring unlessBarred
+    transfer-exact = (
+      λ e. elim (open-or c t (q .fid)) [
+        | inl no-one ↦ not-asked (q .fid) transfer (no-one .1) h e
+        | inr (k, may, a) ↦
+            transfer-may (getD (opensOf t) k noOpen) a (eqb (getD (opensOf t) k noOpen .access) denied) refl (sym (with-open c t (q .fid) k transfer may) ∙ e)
+      ],
+      λ r. let m = admitted-may c t (q .fid) ok (r .through) (r .admitted) in
+          let p = first-place (answers (fileOf (opensOf t)) q) (locksOf t) (way-exact (r .admitted)) (r .first) in
+          with-open c t (q .fid) (m .0) transfer (m .1)
+          ∙ rw (m .2, ne-eqb (r .through .access) denied (r .access), p .0) (ap (λ (x : Holder). refused (Conflict x)) (p .1)),
+    )
+
+  read-exact : (f : ReadFields) (h : Holder) → Names (doRead c t memory f) h ↔ ReadHeld c t f h
+  unfolding doRead askBy answers answersFor bars
+  read-exact f h =
+      transfer-exact 1 (askBy c (f .fid) (f .offset) (f .max) Reading) (read-bars (askBy c (f .fid) (f .offset) (f .max) Reading)) (λ l. refl) _ h (λ o e. never cc)
+
+  write-exact : (f : WriteFields) (bytes : List ℕ) (h : Holder) → Names (doWrite c t memory f bytes) h ↔ WriteHeld c t f h
+  unfolding doWrite askBy answers answersFor bars
+  write-exact f bytes h =
+      transfer-exact 0 (askBy c (f .fid) (f .offset) (f .count) Writing) (write-bars (askBy c (f .fid) (f .offset) (f .count) Writing)) (λ l. refl) _ h
+      (λ o. cond-case (λ (g : Given). Names g h → ⊥) (endsPast (f .offset) (f .count)) (refused NoSpace) _ (λ _ e. never cc) (λ _ e. never cc))
+
+  -- ---- LOCKING
+
+  abbrev files : ℕ → ℕ
+  files n = fileOf (opensOf t) n
+
+  -- those left are listed
+  left-opened : {fid : ℕ} {rs : List LockRange} {left : List Lock} → Released fid rs (locksOf t) left → Opened t left
+  unfolding Opened
+  left-opened r l m = sound-plain t .0 ok .lock-open l (released-was r m)
+
+  -- what a request's result comes to
+  abbrev ends : Result → Given
+  ends r = lockingAfter t memory (settle (t .locks) (t .nlocks) r)
+
+  module _ (f : LockingFields) (area : List ℕ) (announced : length area ≡ (f .unlocks + f .locks) * rangeSize (eqb (f .kind / 16 % 2) 1)) (h : Holder) where
+    abbrev walked : List Lock → Grants
+    walked left = grantAll files (f .fid) (sharedIn f) (locksIn f area) left
+
+    abbrev after-unlocks : Option (List Lock) → Given
+    after-unlocks x = ends (afterReleases files (f .fid) (sharedIn f) (locksIn f area) x)
+
+    -- a served request through an open is what its unlocks give
+    locking-is : (k : ℕ) → May c t (f .fid) k → servedType (f .kind) ≡ true
+        → doLocking c t memory f area ≡ after-unlocks (releaseAll files (f .fid) (unlocksIn f area) (locksOf t))
+    unfolding doLocking requestOf locking request
+    locking-is k may e =
+        with-open c t (f .fid) k _ may ∙ rw (e, eq-eqb (length area) ((f .unlocks + f .locks) * rangeSize (eqb (f .kind / 16 % 2) 1)) announced)
+
+    -- the grants that name somebody are those blocked by him
+    grants-name : (x : Grants) → Names (ends (afterGrants x)) h → x ≡ blocked h
+    unfolding afterGrants settle lockingAfter lockingEnd
+    grants-name (granted list) e =
+        cond-case (λ (r : Result). Names (ends r) h → granted list ≡ blocked h) (leb (length list) 128) _ _ (λ _ e. never cc) (λ _ e. never cc) e
+    grants-name (blocked g) e = let same : g ≡ h = cc in ap blocked same
+
+    releases-name : {o : Open} → Admitted c t (f .fid) o → OnlyTwoBits (f .kind) → (x : Option (List Lock)) → Releasing (f .fid) (unlocksIn f area) (locksOf t) x
+        → Names (after-unlocks x) h → LockHeld c t f area h
+    unfolding afterReleases settle lockingAfter lockingEnd
+    releases-name a bits none (one-unnamed u) e = never cc
+    releases-name {o} a bits (some left) (all-released r) e =
+        elim (decided (any rangePasses (locksIn f area))) [
+          | inl b ↦ let z = rw b at e in never cc
+          | inr b ↦ record {
+            through = o;
+            admitted = a;
+            served = bits;
+            left = left;
+            unlocked = r;
+            within = λ w. not-decided-twice (any rangePasses (locksIn f area)) (past-is (locksIn f area) w) b;
+            held = blocked-held t ok o (f .fid) (a .opened .listed) (a .opened .of-fid) (sharedIn f) (eqb (f .kind / 16 % 2) 1) area (f .unlocks) (f .locks) left (left-opened r) h
+                (grants-name (walked left) (rw b at e));
+          }
+        ]
+
+    locking-may : (k : ℕ) → May c t (f .fid) k → Admitted c t (f .fid) (getD (opensOf t) k noOpen) → Names (doLocking c t memory f area) h → LockHeld c t f area h
+    unfolding doLocking
+    locking-may k may a e =
+        elim (decided (servedType (f .kind))) [
+          | inl b ↦ releases-name a (served-exact (f .kind) .0 b) (releaseAll files (f .fid) (unlocksIn f area) (locksOf t))
+              (release-means files (f .fid) (unlocksIn f area) (locksOf t)) (sym (locking-is k may b) ∙ e)
+          | inr b ↦ let w = sym (with-open c t (f .fid) k _ may) ∙ e in let z = rw b at w in never cc
+        ]
+
+    locking-exact : Names (doLocking c t memory f area) h ↔ LockHeld c t f area h
+    unfolding doLocking afterReleases afterGrants settle lockingAfter lockingEnd
+    locking-exact = (
+      λ e. elim (open-or c t (f .fid)) [ inl no-one ↦ not-asked (f .fid) _ (no-one .1) h e | inr (k, may, a) ↦ locking-may k may a e ],
+      λ r. let a = r .admitted in
+          let m = admitted-may c t (f .fid) ok (r .through) a in
+          let b = held-blocked t ok (r .through) (f .fid) (a .opened .listed) (a .opened .of-fid) (sharedIn f) (eqb (f .kind / 16 % 2) 1) area (f .unlocks) (f .locks) (r .left)
+          (left-opened (r .unlocked)) h (r .held) in
+          locking-is (m .0) (m .1) (served-exact (f .kind) .1 (r .served))
+          ∙ rw (released-is files (f .fid) (r .unlocked), fails (any rangePasses (locksIn f area)) (λ z. r .within (past-means (locksIn f area) z)), b),
+    )
+
+  -- ---- all seven
+
+  -- the commands that ask the list for nothing name nobody
+  pub perform-held : (b : Body) (area bytes : List ℕ) → Announced b area → (h : Holder) → Names (perform c t memory b area bytes) h ↔ Held c t area b h
+  unfolding perform Announced
+  perform-held (LockingBody f) area bytes k h = (
+    λ e. lock-held f refl (locking-exact f area (k f refl) h .0 e),
+    λ r. elim r [
+      | read-held g e x ↦ never cc
+      | write-held g e x ↦ never cc
+      | lock-held g e x ↦ let same : f ≡ g = cc in locking-exact f area (k f refl) h .1 (rw same x)
+    ],
+  )
+  perform-held (ReadBody f) area bytes k h = (
+    λ e. read-held f refl (read-exact f h .0 e),
+    λ r. elim r [
+      | read-held g e x ↦ let same : f ≡ g = cc in read-exact f h .1 (rw same x)
+      | write-held g e x ↦ never cc
+      | lock-held g e x ↦ never cc
+    ],
+  )
+  perform-held (WriteBody f) area bytes k h = (
+    λ e. write-held f refl (write-exact f bytes h .0 e),
+    λ r. elim r [
+      | read-held g e x ↦ never cc
+      | write-held g e x ↦ let same : f ≡ g = cc in write-exact f bytes h .1 (rw same x)
+      | lock-held g e x ↦ never cc
+    ],
+  )
+  perform-held (Close fid) area bytes k h = (
+    open-case (λ (g : Given). Names g h → Held c t area (Close fid) h) c t fid _ (λ e. never cc) (λ e. never cc) (λ e. never cc) (λ j _ e. never cc),
+    λ r. elim r [ read-held g e x ↦ never cc | write-held g e x ↦ never cc | lock-held g e x ↦ never cc ],
+  )
+  perform-held Logoff area bytes k h = (
+    session-case (λ (g : Given). Names g h → Held c t area Logoff h) c t _ (λ e. never cc) (λ _ e. never cc),
+    λ r. elim r [ read-held g e x ↦ never cc | write-held g e x ↦ never cc | lock-held g e x ↦ never cc ],
+  )
+  perform-held TreeDisconnect area bytes k h = (
+    tree-case (λ (g : Given). Names g h → Held c t area TreeDisconnect h) c t _ (λ e. never cc) (λ e. never cc) (λ e. never cc),
+    λ r. elim r [ read-held g e x ↦ never cc | write-held g e x ↦ never cc | lock-held g e x ↦ never cc ],
+  )
+  perform-held ProcessExit area bytes k h = (
+    session-case (λ (g : Given). Names g h → Held c t area ProcessExit h) c t _ (λ e. never cc) (λ _ e. never cc),
+    λ r. elim r [ read-held g e x ↦ never cc | write-held g e x ↦ never cc | lock-held g e x ↦ never cc ],
+  )
