@@ -44,18 +44,18 @@ pub data Ends (c : Caller) (s : List ℕ) : List Block → Tables → List ℕ �
 -- ---- every block of a chain
 
 -- has a byte area of just its ranges, if it is a LOCKING's
-data AllAnnounced (s : List ℕ) : List Block → Type 0 where
+pub data AllAnnounced (s : List ℕ) : List Block → Type 0 where
   none-left : AllAnnounced s []
   next-announced : {b : Block} {bs : List Block} → Announced (b .body) (areaOf s b) → AllAnnounced s bs → AllAnnounced s (b ∷ bs)
 
-chained-announced : {s : List ℕ} {command at : ℕ} {bs : List Block} → Chained s command at bs → AllAnnounced s bs
+pub chained-announced : {s : List ℕ} {command at : ℕ} {bs : List Block} → Chained s command at bs → AllAnnounced s bs
 unfolding blockAt
 chained-announced (chained-end h l) = next-announced (block-announced h _ (length-area h _)) none-left
 chained-announced (chained-more h l r) = next-announced (block-announced h _ (length-area h _)) (chained-announced r)
 
 -- ---- 0/0 is the status of no refusal
 
-refusal-not-zero : (why : Refusal) → statusOf why ≡ status 0 0 → ⊥
+pub refusal-not-zero : (why : Refusal) → statusOf why ≡ status 0 0 → ⊥
 unfolding succeeded status
 refusal-not-zero why e = not-decided-twice (succeeded (statusOf why)) (ap succeeded e) (refusal-fails why)
 
@@ -63,7 +63,7 @@ refusal-not-zero why e = not-decided-twice (succeeded (statusOf why)) (ap succee
 
 module _ (c : Caller) (s : List ℕ) where
   -- a command that is done leaves good tables to the next
-  left-good : (b : Block) (t : Tables) (memory : List ℕ) → Good t → (u : Tables) (m : List ℕ) (said : Said) → gives c s b t memory ≡ done u m said → Good u
+  pub left-good : (b : Block) (t : Tables) (memory : List ℕ) → Good t → (u : Tables) (m : List ℕ) (said : Said) → gives c s b t memory ≡ done u m said → Good u
   left-good b t memory g u m said e = keeps-good (rw e at (perform-keeps t g c memory (b .body) (areaOf s b) (dataOf s b)))
 
   -- by what the first command gives
