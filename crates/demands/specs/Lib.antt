@@ -47,3 +47,5 @@ pub mod HolderExactly
 pub mod HolderWords
 pub mod HolderWalk
 pub mod HolderCommand
+pub mod HolderStands
+pub mod HolderOpen

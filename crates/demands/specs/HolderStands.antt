@@ -1,0 +1,199 @@
+-- In a chain the holder is the one that the refused command met, on the tables as they stood when it was begun (document 02, CR 2; document 01: "Commands before it in
+-- the chain stand; those after it aren't begun"), said of the call, exactly. Assumes nothing.
+use mathlib.Core.Path.{_≡_, refl, sym, ap, _∙_}
+use mathlib.Core.Logic.{_↔_, inl, inr}
+use Prim.Native.Nat.{ℕ, _+_}
+use native.Mathlib.Omega.{arith}
+use mathlib.Core.Bool.{Bool, true, false, cond}
+use mathlib.Core.List.{List, [], _∷_, _++_, map}
+use mathlib.Core.Option.{Option, none, some}
+use Rattle.records.specs.declared.Tables.{Tables}
+use Rattle.locks.specs.declared.types.Holder.{Holder}
+use Rattle.chain.specs.Layout.{headerCommand, FIRST}
+use Rattle.chain.specs.Grammar.{Span, Reading}
+use Rattle.chain.specs.Chain.{blocks}
+use Rattle.chain.specs.declared.block.Block.{Block}
+use Rattle.invariants.specs.ReaderSound.{spanOf, reader-sound}
+use Rattle.invariants.specs.Chained.{read-chained}
+use Rattle.invariants.specs.GivenCases.{cond-case}
+use Rattle.invariants.specs.Sound.{Good, run-keeps}
+use Rattle.invariants.specs.Fit.{Fit, fit-answered}
+use Rattle.message.specs.Caller.{callerOf}
+use Rattle.message.specs.declared.caller.Caller.{Caller}
+use Rattle.message.specs.Refusal.{status, statusOf, holderOf}
+use Rattle.message.specs.declared.refusal.HeldBy.{HeldBy}
+use Rattle.message.specs.declared.refusal.HeldBy.the-variants.{Nobody, Holder as held-by}
+use Rattle.message.specs.declared.refusal.Refusal.{Refusal}
+use Rattle.message.specs.declared.refusal.Refusal.the-variants.{NotServed, NotSentence, NoSession, NoTree, NoOpen, NoAccess, LockType, NoSuchLock, PassesEnd, Conflict, NoRecord, NoSpace}
+use Rattle.message.specs.Command.{Said, Given, refused, done}
+use Rattle.message.specs.Reply.{replySize}
+use Rattle.message.specs.Message.{areaOf, dataOf, Ran, after, run, served, onlyStatus, runChain, answered, Taken, replied, take-message}
+use Rattle.demands.specs.Calls.{sentence-answered}
+use Rattle.demands.specs.CommandReasons.{Announced}
+use Rattle.demands.specs.RefusedCall.{gives, step-done, step-refused}
+use Rattle.demands.specs.ChainReasons.{AllAnnounced, none-left, next-announced, chained-announced, refusal-not-zero, left-good}
+use Rattle.demands.specs.HolderExactly.{call, holder-answered}
+use Rattle.demands.specs.HolderWords.{Held}
+use Rattle.demands.specs.HolderCommand.{Names, perform-held}
+
+never : {P : Type 0} → _≡_ {A = ℕ} 0 1 → P
+never e = absurd (omega arith)
+
+-- only a conflict names somebody
+names-conflict : (why : Refusal) (h : Holder) → holderOf why ≡ held-by h → why ≡ Conflict h
+unfolding holderOf
+names-conflict NotServed h e = never cc
+names-conflict NotSentence h e = never cc
+names-conflict NoSession h e = never cc
+names-conflict NoTree h e = never cc
+names-conflict NoOpen h e = never cc
+names-conflict NoAccess h e = never cc
+names-conflict LockType h e = never cc
+names-conflict NoSuchLock h e = never cc
+names-conflict PassesEnd h e = never cc
+names-conflict (Conflict g) h e = let same : g ≡ h = cc in ap Conflict same
+names-conflict NoRecord h e = never cc
+names-conflict NoSpace h e = never cc
+
+-- ---- commands one behind the other
+
+-- those in front were carried out, and the next met the holder's lock on the tables that they left
+record MetFrom (c : Caller) (s : List ℕ) (bs : List Block) (place : ℕ) (t : Tables) (memory : List ℕ) (h : Holder) : Type 0 where
+  front : List Block
+  command : Block
+  later : List Block
+  split : bs ≡ front ++ (command ∷ later)
+  front-done : run c s front place t memory .status ≡ status 0 0
+  held : Held c (run c s front place t memory .tables) (areaOf s command) (command .body) h
+
+module _ (c : Caller) (s : List ℕ) where
+  -- by what the first gives
+  met-by : (b : Block) (bs : List Block) (place : ℕ) (t : Tables) (memory : List ℕ) (h : Holder) (g : Given) → gives c s b t memory ≡ g
+      → (Names g h → Held c t (areaOf s b) (b .body) h)
+      → ((u : Tables) (m : List ℕ) (said : Said) → g ≡ done u m said → run c s bs (place + replySize said) u m .holder ≡ held-by h → MetFrom c s bs (place + replySize said) u m h)
+      → run c s (b ∷ bs) place t memory .holder ≡ held-by h → MetFrom c s (b ∷ bs) place t memory h
+  unfolding run after
+  met-by b bs place t memory h (refused why) e k f n =
+      let r = step-refused c s b bs place t memory why e in
+      let w = names-conflict why h (sym (ap (λ (x : Ran). x .holder) r) ∙ n) in
+      record { front = []; command = b; later = bs; split = refl; front-done = refl; held = k (ap refused w) }
+  met-by b bs place t memory h (done u m said) e k f n =
+      let q = f u m said refl (sym (ap (λ (x : Ran). x .holder) (step-done c s b bs place t memory u m said e)) ∙ n) in
+      let part = step-done c s b (q .front) place t memory u m said e in
+      record {
+        front = b ∷ q .front;
+        command = q .command;
+        later = q .later;
+        split = ap (λ (l : List Block). b ∷ l) (q .split);
+        front-done = ap (λ (x : Ran). x .status) part ∙ q .front-done;
+        held = rw part (q .held);
+      }
+
+  run-met : {bs : List Block} → AllAnnounced s bs → (place : ℕ) (t : Tables) (memory : List ℕ) → Good t → (h : Holder) → run c s bs place t memory .holder ≡ held-by h
+      → MetFrom c s bs place t memory h
+  unfolding run
+  run-met none-left place t memory g h e = never cc
+  run-met (next-announced {b} {bs} a more) place t memory g h e =
+      met-by b bs place t memory h (gives c s b t memory) refl (perform-held c t memory (g .sound) (b .body) (areaOf s b) (dataOf s b) a h .0)
+      (λ u m said d. run-met more (place + replySize said) u m (left-good c s b t memory g u m said d) h) e
+
+  -- and the other way round: he is named, and what those in front left stands
+  record PassedUp (bs front : List Block) (place : ℕ) (t : Tables) (memory : List ℕ) (h : Holder) : Type 0 where
+    holder-named : run c s bs place t memory .holder ≡ held-by h
+    tables-left : run c s bs place t memory .tables ≡ run c s front place t memory .tables
+
+  named-by : (b : Block) (bs front : List Block) (place : ℕ) (t : Tables) (memory : List ℕ) (h : Holder) (g : Given) → gives c s b t memory ≡ g
+      → run c s (b ∷ front) place t memory .status ≡ status 0 0
+      → ((u : Tables) (m : List ℕ) (said : Said) → g ≡ done u m said → run c s (b ∷ front) place t memory .tables ≡ run c s front (place + replySize said) u m .tables
+      → run c s front (place + replySize said) u m .status ≡ status 0 0 → PassedUp bs front (place + replySize said) u m h)
+      → PassedUp (b ∷ bs) (b ∷ front) place t memory h
+  unfolding after
+  named-by b bs front place t memory h (refused why) e zero f =
+      absurd (refusal-not-zero why (sym (ap (λ (x : Ran). x .status) (step-refused c s b front place t memory why e)) ∙ zero))
+  named-by b bs front place t memory h (done u m said) e zero f =
+      let whole = step-done c s b bs place t memory u m said e in
+      let part = step-done c s b front place t memory u m said e in
+      let same = ap (λ (x : Ran). x .tables) part in
+      let q = f u m said refl same (sym (ap (λ (x : Ran). x .status) part) ∙ zero) in
+      record {
+        holder-named = ap (λ (x : Ran). x .holder) whole ∙ q .holder-named;
+        tables-left = ap (λ (x : Ran). x .tables) whole ∙ q .tables-left ∙ sym same;
+      }
+
+  met-run : (front : List Block) (command : Block) (later : List Block) (place : ℕ) (t : Tables) (memory : List ℕ) (h : Holder) → AllAnnounced s (front ++ (command ∷ later)) → Good t
+      → run c s front place t memory .status ≡ status 0 0 → Held c (run c s front place t memory .tables) (areaOf s command) (command .body) h
+      → PassedUp (front ++ (command ∷ later)) front place t memory h
+  unfolding run holderOf
+  met-run [] command later place t memory h (next-announced a more) g zero held =
+      let r = step-refused c s command later place t memory (Conflict h) (perform-held c t memory (g .sound) (command .body) (areaOf s command) (dataOf s command) a h .1 held) in
+      record { holder-named = ap (λ (x : Ran). x .holder) r; tables-left = ap (λ (x : Ran). x .tables) r }
+  met-run (b ∷ front) command later place t memory h (next-announced a more) g zero held =
+      named-by b (front ++ (command ∷ later)) front place t memory h (gives c s b t memory) refl zero
+      (λ u m said d same z. met-run front command later (place + replySize said) u m h more (left-good c s b t memory g u m said d) z (rw same at held))
+
+-- ---- said of the call
+
+-- the commands of the message's reading up to the refused one: those before it carried out, and the holder's lock in its way on the tables that they left
+pub record Met (connection : ℕ) (s : List ℕ) (t : Tables) (memory : List ℕ) (h : Holder) : Type 0 where
+  pub front : List Block
+  pub command : Block
+  pub later : List Block
+  pub read : blocks s ≡ some (front ++ (command ∷ later))
+  -- "Commands before it in the chain stand": carried out alone they are done
+  pub front-done : run (callerOf connection s) s front FIRST t memory .status ≡ status 0 0
+  pub held : Held (callerOf connection s) (run (callerOf connection s) s front FIRST t memory .tables) (areaOf s command) (command .body) h
+
+-- a message that is not served, or no sentence, names nobody
+data Sentenced (connection : ℕ) (s : List ℕ) (t : Tables) (memory : List ℕ) (h : Holder) : Type 0 where
+  read-as : (bs : List Block) → blocks s ≡ some bs → run (callerOf connection s) s bs FIRST t memory .holder ≡ held-by h → Sentenced connection s t memory h
+
+chain-sentenced : (connection : ℕ) (s : List ℕ) (t : Tables) (memory : List ℕ) (h : Holder) (o : Option (List Block)) → blocks s ≡ o
+    → runChain (callerOf connection s) s o t memory .holder ≡ held-by h → Sentenced connection s t memory h
+unfolding runChain onlyStatus
+chain-sentenced connection s t memory h none e n = never cc
+chain-sentenced connection s t memory h (some bs) e n = read-as bs e n
+
+answered-sentenced : (connection : ℕ) (s : List ℕ) (t : Tables) (memory : List ℕ) (h : Holder) → answered connection s t memory .holder ≡ held-by h → Sentenced connection s t memory h
+unfolding answered onlyStatus
+answered-sentenced connection s t memory h =
+    cond-case (λ (r : Ran). r .holder ≡ held-by h → Sentenced connection s t memory h) (served (headerCommand s)) (runChain (callerOf connection s) s (blocks s) t memory) _
+    (λ _ n. chain-sentenced connection s t memory h (blocks s) refl n) (λ _ n. never cc)
+
+module _ (connection : ℕ) (s : List ℕ) (t : Tables) (memory room : List ℕ) (g : Good t) (fit : Fit s t memory room) (h : Holder) where
+  abbrev c : Caller
+  c = callerOf connection s
+
+  sentence-met : Sentenced connection s t memory h → Met connection s t memory h
+  unfolding blocks
+  sentence-met (read-as bs e n) =
+      let q = run-met c s (chained-announced (read-chained s (headerCommand s) FIRST bs e)) FIRST t memory g h n in
+      record { front = q .front; command = q .command; later = q .later; read = e ∙ ap some (q .split); front-done = q .front-done; held = q .held }
+
+  met-named : (m : Met connection s t memory h) → PassedUp c s (m .front ++ (m .command ∷ m .later)) (m .front) FIRST t memory h
+  unfolding blocks
+  met-named m =
+      met-run c s (m .front) (m .command) (m .later) FIRST t memory h
+      (chained-announced (read-chained s (headerCommand s) FIRST (m .front ++ (m .command ∷ m .later)) (m .read))) g (m .front-done) (m .held)
+
+  -- the host gets a holder exactly if a command of the message met his lock, those before it being carried out
+  pub holder-exact : (call connection s t memory room .holder ≡ held-by h) ↔ Met connection s t memory h
+  holder-exact = (
+    λ e. sentence-met (answered-sentenced connection s t memory h (sym (holder-answered connection s t memory room fit) ∙ e)),
+    λ m. holder-answered connection s t memory room fit
+        ∙ ap (λ (r : Ran). r .holder) (sentence-answered connection s t memory (m .front ++ (m .command ∷ m .later)) (m .read)) ∙ met-named m .holder-named,
+  )
+
+  module _ (m : Met connection s t memory h) where
+    -- "A command refused changes no table": it was begun on the tables that the call leaves
+    pub tables-then : call connection s t memory room .tables ≡ run c s (m .front) FIRST t memory .tables
+    unfolding replied
+    tables-then =
+        ap (λ (k : Taken). k .tables) (fit-answered connection s t memory room fit)
+        ∙ ap (λ (r : Ran). r .tables) (sentence-answered connection s t memory (m .front ++ (m .command ∷ m .later)) (m .read)) ∙ met-named m .tables-left
+
+    pub held-then : Held c (call connection s t memory room .tables) (areaOf s (m .command)) (m .command .body) h
+    held-then = rw tables-then (m .held)
+
+    -- the blocks are a reading's
+    pub met-reading : Reading s (map spanOf (m .front ++ (m .command ∷ m .later)))
+    met-reading = reader-sound s (m .front ++ (m .command ∷ m .later)) (m .read)
