@@ -46,15 +46,12 @@ use Rattle.demands.specs.LoneLock.{May, Owner, sharedIn, read-bars, writ
 use Rattle.demands.specs.Admitted.{Admitted, NoSessionFor, no-session, NoTreeFor, before-tree, no-tree, NoOpenFor, before-open, no-open, admitted-may, open-or, with-open, open-given}
 use Rattle.demands.specs.LockWords.{Released, Releasing, all-released, one-unnamed, release-means, released-is, released-was, PastEnd, past-means, past-is, Opened}
 use Rattle.demands.specs.CommandReasons.{Announced, OnlyTwoBits, served-exact, unlocksIn, locksIn}
-use Rattle.demands.specs.HolderWords.{TransferHeld, ReadHeld, WriteHeld, LockHeld, Held, read-held, write-held, lock-held}
+use Rattle.demands.specs.HolderWords.{TransferHeld, ReadHeld, WriteHeld, LockHeld, Held, read-held, write-held, lock-held, never, held-read, held-write, held-lock}
 use Rattle.demands.specs.HolderWalk.{Way, found-first, first-place, asked-exact, blocked-held, held-blocked}
 
 -- refused for that holder's lock
 abbrev pub Names : Given → Holder → Type 0
 Names g h = g ≡ refused (Conflict h)
-
-never : {P : Type 0} → _≡_ {A = ℕ} 0 1 → P
-never e = absurd (omega arith)
 
 -- one that is missing has another code
 open-code : {c : Caller} {t : Tables} {fid : ℕ} {n : Status} → NoOpenFor c t fid n → n .code ≡ 33 → ⊥
@@ -212,30 +209,10 @@ module _ (c : Caller) (t : Tables) (memory : List ℕ) (ok : sound t ≡ true) w
   -- the commands that ask the list for nothing name nobody
   pub perform-held : (b : Body) (area bytes : List ℕ) → Announced b area → (h : Holder) → Names (perform c t memory b area bytes) h ↔ Held c t area b h
   unfolding perform Announced
-  perform-held (LockingBody f) area bytes k h = (
-    λ e. lock-held f refl (locking-exact f area (k f refl) h .0 e),
-    λ r. elim r [
-      | read-held g e x ↦ never cc
-      | write-held g e x ↦ never cc
-      | lock-held g e x ↦ let same : f ≡ g = cc in locking-exact f area (k f refl) h .1 (rw same x)
-    ],
-  )
-  perform-held (ReadBody f) area bytes k h = (
-    λ e. read-held f refl (read-exact f h .0 e),
-    λ r. elim r [
-      | read-held g e x ↦ let same : f ≡ g = cc in read-exact f h .1 (rw same x)
-      | write-held g e x ↦ never cc
-      | lock-held g e x ↦ never cc
-    ],
-  )
-  perform-held (WriteBody f) area bytes k h = (
-    λ e. write-held f refl (write-exact f bytes h .0 e),
-    λ r. elim r [
-      | read-held g e x ↦ never cc
-      | write-held g e x ↦ let same : f ≡ g = cc in write-exact f bytes h .1 (rw same x)
-      | lock-held g e x ↦ never cc
-    ],
-  )
+  perform-held (LockingBody f) area bytes k h =
+      let q = locking-exact f area (k f refl) h in (λ e. held-lock .1 (q .0 e), λ r. q .1 (held-lock .0 r))
+  perform-held (ReadBody f) area bytes k h = let q = read-exact f h in (λ e. held-read .1 (q .0 e), λ r. q .1 (held-read .0 r))
+  perform-held (WriteBody f) area bytes k h = let q = write-exact f bytes h in (λ e. held-write .1 (q .0 e), λ r. q .1 (held-write .0 r))
   perform-held (Close fid) area bytes k h = (
     open-case (λ (g : Given). Names g h → Held c t area (Close fid) h) c t fid _ (λ e. never cc) (λ e. never cc) (λ e. never cc) (λ j _ e. never cc),
     λ r. elim r [ read-held g e x ↦ never cc | write-held g e x ↦ never cc | lock-held g e x ↦ never cc ],

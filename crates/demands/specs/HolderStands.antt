@@ -33,11 +33,8 @@ use Rattle.demands.specs.CommandReasons.{Announced}
 use Rattle.demands.specs.RefusedCall.{gives, step-done, step-refused}
 use Rattle.demands.specs.ChainReasons.{AllAnnounced, none-left, next-announced, chained-announced, refusal-not-zero, left-good}
 use Rattle.demands.specs.HolderExactly.{call, holder-answered}
-use Rattle.demands.specs.HolderWords.{Held}
+use Rattle.demands.specs.HolderWords.{Held, never}
 use Rattle.demands.specs.HolderCommand.{Names, perform-held}
-
-never : {P : Type 0} → _≡_ {A = ℕ} 0 1 → P
-never e = absurd (omega arith)
 
 -- only a conflict names somebody
 names-conflict : (why : Refusal) (h : Holder) → holderOf why ≡ held-by h → why ≡ Conflict h

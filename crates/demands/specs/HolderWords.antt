@@ -1,6 +1,7 @@
 -- Who holds the lock, in plain words (document 02, CR 2: "the place of the first conflicting lock in the list as it then stands", for "locks, reads and writes"). What
 -- is in the way is said as for the refusal itself (LoneLock.antt, CommandReasons.antt). Assumes nothing.
-use mathlib.Core.Path.{_≡_, sym, ap, _∙_}
+use mathlib.Core.Path.{_≡_, refl, sym, ap, _∙_}
+use mathlib.Core.Logic.{_↔_}
 use Prim.Native.Nat.{ℕ, min, _+_, _/_, _%_, _<_}
 use native.Mathlib.Omega.{arith}
 use native.Mathlib.Decide.{decLt}
@@ -82,6 +83,29 @@ pub data Held (c : Caller) (t : Tables) (area : List ℕ) (body : Body) (h : Hol
   read-held : (f : ReadFields) → body ≡ ReadBody f → ReadHeld c t f h → Held c t area body h
   write-held : (f : WriteFields) → body ≡ WriteBody f → WriteHeld c t f h → Held c t area body h
   lock-held : (f : LockingFields) → body ≡ LockingBody f → LockHeld c t f area h → Held c t area body h
+
+pub never : {P : Type 0} → _≡_ {A = ℕ} 0 1 → P
+never e = absurd (omega arith)
+
+-- each command for its own reason
+module _ {c : Caller} {t : Tables} {area : List ℕ} {h : Holder} where
+  pub held-read : {f : ReadFields} → Held c t area (ReadBody f) h ↔ ReadHeld c t f h
+  held-read {f} = (
+    λ r. elim r [ read-held g e x ↦ let same : f ≡ g = cc in rw same x | write-held g e x ↦ never cc | lock-held g e x ↦ never cc ],
+    λ x. read-held f refl x,
+  )
+
+  pub held-write : {f : WriteFields} → Held c t area (WriteBody f) h ↔ WriteHeld c t f h
+  held-write {f} = (
+    λ r. elim r [ read-held g e x ↦ never cc | write-held g e x ↦ let same : f ≡ g = cc in rw same x | lock-held g e x ↦ never cc ],
+    λ x. write-held f refl x,
+  )
+
+  pub held-lock : {f : LockingFields} → Held c t area (LockingBody f) h ↔ LockHeld c t f area h
+  held-lock {f} = (
+    λ r. elim r [ read-held g e x ↦ never cc | write-held g e x ↦ never cc | lock-held g e x ↦ let same : f ≡ g = cc in rw same x ],
+    λ x. lock-held f refl x,
+  )
 
 -- ---- places before another
 

@@ -49,3 +49,4 @@ pub mod HolderWalk
 pub mod HolderCommand
 pub mod HolderStands
 pub mod HolderOpen
+pub mod HolderFirst
