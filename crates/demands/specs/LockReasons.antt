@@ -91,7 +91,7 @@ range-one (long-range z a b c) (short-range y d e f) = absurd (omega arith)
 
 module _ (s : List ℕ) where
   -- the lock of a range
-  abbrev lockFor : LockRange → Lock
+  abbrev pub lockFor : LockRange → Lock
   lockFor r = lockOf (fidAfterAndx s FIRST) (sharedIn (lockingFields s)) r
 
   lock-one : (r : LockRange) (l : Lock) → GrantedLock s r l → l ≡ lockFor r
@@ -102,21 +102,21 @@ module _ (s : List ℕ) where
       λ i. record { fid = g .of-fid i; process = g .of-process i; offset = g .of-offset i; length = g .of-length i; shared = shared i }
 
   module _ (n : ℕ) (fits : n * rangeSize (large s) ≤ byteCount s FIRST) where
-    abbrev nth : ℕ → LockRange
+    abbrev pub nth : ℕ → LockRange
     nth k = rangeAt (large s) (area s) k
 
-    abbrev ranges : ℕ → ℕ → List LockRange
+    abbrev pub ranges : ℕ → ℕ → List LockRange
     ranges k m = rangesAt (large s) (area s) k m
 
     range-is : {k : ℕ} {r : LockRange} → k < n → RangeOn s k r → r ≡ nth k
     range-is {k} h on = range-one on (range-on s n fits k h)
 
-    lock-is : {k : ℕ} {r : LockRange} {l : Lock} → k < n → RangeOn s k r → GrantedLock s r l → l ≡ lockFor (nth k)
+    pub lock-is : {k : ℕ} {r : LockRange} {l : Lock} → k < n → RangeOn s k r → GrantedLock s r l → l ≡ lockFor (nth k)
     lock-is {k} {r} {l} h on g = lock-one r l g ∙ ap lockFor (range-is h on)
 
     -- ---- unlocks
 
-    released-from : {k m : ℕ} {list left : List Lock} → k + m ≤ n → Unlocked s k m list left → Released (fidAfterAndx s FIRST) (ranges k m) list left
+    pub released-from : {k m : ℕ} {list left : List Lock} → k + m ≤ n → Unlocked s k m list left → Released (fidAfterAndx s FIRST) (ranges k m) list left
     unfolding rangesAt
     released-from h none-to-unlock = none-to-release
     released-from h (unlock-then {k} {n = m} {r} {list} {left} on out more) =
@@ -145,7 +145,7 @@ module _ (s : List ℕ) where
           | no e ↦ there (in-ranges (suc k) m j (omega arith) (omega arith))
         ]
 
-    ranges-in : (k m : ℕ) {r : LockRange} → In r (ranges k m) → (j : ℕ) × (k ≤ j) × (j < k + m) × (r ≡ nth j)
+    pub ranges-in : (k m : ℕ) {r : LockRange} → In r (ranges k m) → (j : ℕ) × (k ≤ j) × (j < k + m) × (r ≡ nth j)
     unfolding rangesAt
     ranges-in k (suc m) i =
         elim (first-or-later i) [
@@ -156,14 +156,14 @@ module _ (s : List ℕ) where
               (w .0, omega arith, omega arith, w .3)
         ]
 
-    passes-from : (k m : ℕ) → k + m ≤ n → PastEnd (ranges k m) → PassesOn s k m
+    pub passes-from : (k m : ℕ) → k + m ≤ n → PastEnd (ranges k m) → PassesOn s k m
     unfolding PastEnd
     passes-from k m h p =
         let w = ranges-in k m (p .1) in
         let below : w .0 < k + m = w .2 in
         record { place = w .0; from = w .1; below = below; range = p .0; is-there = subst (λ (x : LockRange). RangeOn s (w .0) x) (sym (w .3)) (range-on s n fits (w .0) (omega arith)); passes = p .2 }
 
-    past-from : (k m : ℕ) → k + m ≤ n → PassesOn s k m → PastEnd (ranges k m)
+    pub past-from : (k m : ℕ) → k + m ≤ n → PassesOn s k m → PastEnd (ranges k m)
     unfolding PastEnd
     past-from k m h p =
         let below : p .place < k + m = p .below in
@@ -173,7 +173,7 @@ module _ (s : List ℕ) where
     -- ---- locks
 
     module _ (t : Tables) (o : Open) where
-      granted-from : {k m : ℕ} {list last : List Lock} → k + m ≤ n → Locked s t o k m list last
+      pub granted-from : {k m : ℕ} {list last : List Lock} → k + m ≤ n → Locked s t o k m list last
           → AllGranted t o (fidAfterAndx s FIRST) (sharedIn (lockingFields s)) (ranges k m) list last
       unfolding rangesAt lockOf
       granted-from h none-to-lock = none-to-grant
