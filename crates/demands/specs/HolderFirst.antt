@@ -102,6 +102,9 @@ module _ (connection : ℕ) (s : List ℕ) (t : Tables) (memory room : List ℕ)
     λ r. named-given b [] e h (held-given b [] e .1 r),
   )
 
+  pub alone-first : {span : Span} → Reading s (span ∷ []) → call connection s t memory room .holder ≡ held-by h → FirstNames
+  alone-first r n = let q = one-first r in first-held (q .block) [] (q .is-read) .1 (alone-held (q .block) (q .is-read) .0 n)
+
 -- ---- through a given open
 
 module _ {c : Caller} {t : Tables} (ok : sound t ≡ true) {fid : ℕ} {o : Open} (a : Admitted c t fid o) where

@@ -50,3 +50,4 @@ pub mod HolderCommand
 pub mod HolderStands
 pub mod HolderOpen
 pub mod HolderFirst
+pub mod HolderWire

@@ -1,0 +1,181 @@
+-- The holder of a LOCKING that is the first command of its message, by the message's bytes: ranges are where the message has them, and each lock is told by its fields
+-- (document 02, CR 2: "in the list as it then stands"; "A lock granted earlier in the same request may be the answer"). Assumes nothing.
+use mathlib.Core.Path.{_≡_, refl, sym, ap, subst, _∙_}
+use mathlib.Core.Logic.{_↔_}
+use Prim.Native.Nat.{ℕ, _+_, _*_, _/_, _%_, _≤_, _<_}
+use native.Mathlib.Omega.{arith}
+use mathlib.Core.Bool.{Bool, true}
+use mathlib.Core.List.{List, [], _∷_, _++_, map, append-nil, append-assoc, List·Memᴰ as In}
+use lib.ListN.{length}
+use lib.Dec.{eqb}
+use borrow.Author.Tests.{eqb-true, eq-eqb}
+use Rattle.records.specs.declared.Open.{Open}
+use Rattle.records.specs.declared.Lock.{Lock}
+use Rattle.records.specs.declared.Tables.{Tables}
+use Rattle.records.specs.Held.{locksOf}
+use Rattle.locks.specs.Wire.{rangeSize, rangeAt, rangesAt}
+use Rattle.locks.specs.Request.{lockOf}
+use Rattle.locks.specs.declared.types.LockRange.{LockRange}
+use Rattle.locks.specs.declared.types.Holder.{Holder}
+use Rattle.chain.specs.Layout.{LOCKING, headerCommand, FIRST, byteCount, fidAfterAndx, lockType, unlockCount, lockCount}
+use Rattle.chain.specs.Grammar.{Span, Reading}
+use Rattle.chain.specs.declared.block.Body.the-variants.{Locking as LockingBody}
+use Rattle.invariants.specs.BlockParse.{bodyAt}
+use Rattle.invariants.specs.Fit.{Fit}
+use Rattle.message.specs.Caller.{callerOf}
+use Rattle.message.specs.declared.refusal.HeldBy.the-variants.{Holder as held-by}
+use Rattle.demands.specs.Admitted.{Admitted}
+use Rattle.demands.specs.LoneLock.{InWay, sharedIn}
+use Rattle.demands.specs.LoneCall.{lockingFields, lockingArea}
+use Rattle.demands.specs.LockWords.{AllGranted, none-to-grant, grant-then}
+use Rattle.demands.specs.CommandReasons.{OnlyTwoBits}
+use Rattle.demands.specs.WireFields.{reading-first, one-first, first-body, first-area}
+use Rattle.demands.specs.LockEffects.{RangeOn, GrantedLock, Unlocked, Locked, large, range-on, unlocked-from, granted-lock, locked-from, locking-fits}
+use Rattle.demands.specs.LockReasons.{PassesOn, lock-is, released-from, ranges-in, passes-from, past-from, granted-from}
+use Rattle.demands.specs.HolderWords.{FirstInWay, RangeHeld, LockHeld, Held, held-lock}
+use Rattle.demands.specs.HolderExactly.{call}
+use Rattle.demands.specs.HolderFirst.{FirstNames, first-held, alone-held}
+use Rattle.demands.specs.HolderOpen.{holder-own, holder-listed}
+
+-- ---- the plain words
+
+-- a LOCKING of a served type with its ranges within 2^64, through an open: its unlocks leave a list of those held, `granted` of its locks stand behind it, none having
+-- had a lock in its way, and the next range has the holder's, as the first of the list that then stands
+pub record LockHeldOn (connection : ℕ) (s : List ℕ) (t : Tables) (h : Holder) : Type 0 where
+  pub through : Open
+  pub admitted : Admitted (callerOf connection s) t (fidAfterAndx s FIRST) through
+  pub served : OnlyTwoBits (lockType s FIRST)
+  pub left : List Lock
+  pub unlocked : Unlocked s 0 (unlockCount s FIRST) (locksOf t) left
+  pub within : PassesOn s (unlockCount s FIRST) (lockCount s FIRST) → ⊥
+  pub granted : ℕ
+  pub fewer : granted < lockCount s FIRST
+  pub standing : List Lock
+  pub earlier : Locked s t through (unlockCount s FIRST) granted left standing
+  pub range : LockRange
+  pub range-there : RangeOn s (unlockCount s FIRST + granted) range
+  pub asked : Lock
+  pub asked-is : GrantedLock s range asked
+  pub first : FirstInWay t through standing (asked .offset) (asked .length) (λ l. (l .shared ≡ true) × (asked .shared ≡ true) → ⊥) h
+
+-- one of the request's own earlier ranges, from the k-th on: "the request's FID and that range's process"
+pub record OwnRangeOn (s : List ℕ) (k n : ℕ) (l : Lock) : Type 0 where
+  pub place : ℕ
+  pub from : k ≤ place
+  pub below : place < k + n
+  pub range : LockRange
+  pub range-there : RangeOn s place range
+  pub is-its : GrantedLock s range l
+
+-- ---- they are those of the command's fields
+
+-- the locks granted stand behind the list
+granted-list : {t : Tables} {o : Open} {fid : ℕ} {shared : Bool} {rs : List LockRange} {list last : List Lock} → AllGranted t o fid shared rs list last
+    → last ≡ list ++ map (lockOf fid shared) rs
+granted-list {list = list} none-to-grant = sym (append-nil list)
+granted-list {fid = fid} {shared = shared} (grant-then {r} {rs} {list} free more) = granted-list more ∙ append-assoc list (lockOf fid shared r ∷ []) (map (lockOf fid shared) rs)
+
+module _ (connection : ℕ) (s : List ℕ) (t : Tables) (h : Holder) (fits : (unlockCount s FIRST + lockCount s FIRST) * rangeSize (large s) ≤ byteCount s FIRST) where
+  abbrev u : ℕ
+  u = unlockCount s FIRST
+
+  abbrev m : ℕ
+  m = lockCount s FIRST
+
+  abbrev Fields : Type 0
+  Fields = LockHeld (callerOf connection s) t (lockingFields s) (lockingArea s) h
+
+  to-wire : Fields → LockHeldOn connection s t h
+  unfolding lockOf
+  to-wire r =
+      let w = r .held in
+      let few : w .granted < m = w .fewer in
+      record {
+        through = r .through;
+        admitted = r .admitted;
+        served = r .served;
+        left = r .left;
+        unlocked = unlocked-from s (u + m) fits 0 u (omega arith) (r .unlocked);
+        within = λ p. r .within (past-from s (u + m) fits u m (omega arith) p);
+        granted = w .granted;
+        fewer = few;
+        standing = w .standing;
+        earlier = locked-from s (u + m) fits t (r .through) u (w .granted) (omega arith) (w .earlier);
+        range = rangeAt (large s) (lockingArea s) (u + w .granted);
+        range-there = range-on s (u + m) fits (u + w .granted) (omega arith);
+        asked = lockOf (fidAfterAndx s FIRST) (sharedIn (lockingFields s)) (rangeAt (large s) (lockingArea s) (u + w .granted));
+        asked-is = granted-lock s (u + m) fits (rangeAt (large s) (lockingArea s) (u + w .granted));
+        first = w .first;
+      }
+
+  from-wire : LockHeldOn connection s t h → Fields
+  unfolding lockOf
+  from-wire r =
+      let few : r .granted < m = r .fewer in
+      let earlier = granted-from s (u + m) fits t (r .through) (omega arith) (r .earlier) in
+      let same = lock-is s (u + m) fits (omega arith) (r .range-there) (r .asked-is) in
+      record {
+        through = r .through;
+        admitted = r .admitted;
+        served = r .served;
+        left = r .left;
+        unlocked = released-from s (u + m) fits (omega arith) (r .unlocked);
+        within = λ p. r .within (passes-from s (u + m) fits u m (omega arith) p);
+        held = record {
+          granted = r .granted;
+          fewer = few;
+          standing = r .standing;
+          as-it-stands = granted-list earlier;
+          earlier = earlier;
+          first = subst (λ (l : Lock). FirstInWay t (r .through) (r .standing) (l .offset) (l .length) (λ k. (k .shared ≡ true) × (l .shared ≡ true) → ⊥) h) same (r .first);
+        };
+      }
+
+  -- "its own earlier ranges at the end": a holder at a place behind what the unlocks left is one of them
+  own-range-on : (r : LockHeldOn connection s t h) → length (r .left) ≤ h .place → OwnRangeOn s u (r .granted) (h .lock)
+  unfolding from-wire
+  own-range-on r low =
+      let few : r .granted < m = r .fewer in
+      let w = holder-own (from-wire r) low in
+      let j = ranges-in s (u + m) fits u (r .granted) (w .earlier) in
+      let below : j .0 < u + r .granted = j .2 in
+      record {
+        place = j .0;
+        from = j .1;
+        below = below;
+        range = w .range;
+        range-there = subst (λ (x : LockRange). RangeOn s (j .0) x) (sym (j .3)) (range-on s (u + m) fits (j .0) (omega arith));
+        is-its = record {
+          of-fid = w .of-fid;
+          of-process = w .of-process;
+          of-offset = w .of-offset;
+          of-length = w .of-length;
+          of-shared = (λ e. eqb-true (lockType s FIRST % 2) 1 (sym (w .of-shared) ∙ e), λ e. w .of-shared ∙ eq-eqb (lockType s FIRST % 2) 1 e);
+        };
+      }
+
+  -- one at a place before that is listed, and of the list before the call
+  listed-on : (r : LockHeldOn connection s t h) → h .place < length (r .left) → In (h .lock) (locksOf t)
+  unfolding from-wire
+  listed-on r low = holder-listed (from-wire r) low
+
+-- ---- said of the call, of any reading that begins with a LOCKING
+
+module _ (connection : ℕ) (s : List ℕ) {spans : List Span} (r : Reading s spans) (t : Tables) (memory room : List ℕ) (fit : Fit s t memory room) (e : headerCommand s ≡ LOCKING)
+    (h : Holder) where
+  -- the host gets the holder whose lock is in the way of one of its ranges, whatever commands follow
+  pub lock-first : FirstNames connection s t memory room fit h ↔ LockHeldOn connection s t h
+  unfolding bodyAt
+  lock-first =
+      let q = reading-first r in
+      let fits = locking-fits (q .1) e in
+      let w = rw (first-area (q .1), first-body (q .1) LOCKING e) at (first-held connection s t memory room fit h (q .1 .block) (q .0) (q .1 .is-read)) in
+      (λ n. to-wire connection s t h fits (held-lock .0 (w .0 n)), λ k. w .1 (held-lock .1 (from-wire connection s t h fits k)))
+
+  -- "An own earlier range as holder: the request's FID and that range's process"
+  pub lock-own : (k : LockHeldOn connection s t h) → length (k .left) ≤ h .place → OwnRangeOn s (unlockCount s FIRST) (k .granted) (h .lock)
+  lock-own = own-range-on connection s t h (locking-fits (reading-first r .1) e)
+
+  -- any other is one of the locks held
+  pub lock-listed : (k : LockHeldOn connection s t h) → h .place < length (k .left) → In (h .lock) (locksOf t)
+  lock-listed = listed-on connection s t h (locking-fits (reading-first r .1) e)
