@@ -9,7 +9,7 @@ use mathlib.Core.List.{List, List·Memᴰ as In}
 use mathlib.Core.Option.{Option, none, some}
 use lib.ListN.{length, getD}
 use lib.Dec.{leb, eqb}
-use borrow.Author.Tests.{eqb-true, eqb-false, eq-eqb, ne-eqb}
+use borrow.Author.Tests.{eqb-false, eq-eqb, ne-eqb}
 use Rattle.lists.specs.Walk.{any}
 use Rattle.lists.specs.Truth.{fails, decided, not-decided-twice}
 use Rattle.lists.specs.declared.Found.{Found}
@@ -39,14 +39,13 @@ use Rattle.invariants.specs.GivenCases.{cond-case, session-case, tree-case, ope
 use Rattle.message.specs.declared.caller.Caller.{Caller}
 use Rattle.message.specs.Refusal.{status, statusOf}
 use Rattle.message.specs.declared.refusal.Status.{Status}
-use Rattle.message.specs.declared.refusal.Refusal.{Refusal}
-use Rattle.message.specs.declared.refusal.Refusal.the-variants.{NoAccess, LockType, NoSpace, Conflict}
-use Rattle.message.specs.Command.{Given, refused, done, withSession, withTree, withOpen, servedType, requestOf, lockingEnd, lockingAfter, doLocking, askBy, unlessBarred, barring, doRead, endsPast, doWrite, perform}
-use Rattle.demands.specs.LoneLock.{May, Owner, sharedIn, read-bars, write-bars}
-use Rattle.demands.specs.Admitted.{Admitted, NoSessionFor, no-session, NoTreeFor, before-tree, no-tree, NoOpenFor, before-open, no-open, admitted-may, open-or, with-open, open-given}
-use Rattle.demands.specs.LockWords.{Released, Releasing, all-released, one-unnamed, release-means, released-is, released-was, PastEnd, past-means, past-is, Opened}
+use Rattle.message.specs.declared.refusal.Refusal.the-variants.{NoAccess, NoSpace, Conflict}
+use Rattle.message.specs.Command.{Given, refused, withOpen, servedType, requestOf, lockingEnd, lockingAfter, doLocking, askBy, unlessBarred, barring, doRead, endsPast, doWrite, perform}
+use Rattle.demands.specs.LoneLock.{May, sharedIn, read-bars, write-bars}
+use Rattle.demands.specs.Admitted.{Admitted, no-session, before-tree, no-tree, NoOpenFor, before-open, no-open, admitted-may, open-or, with-open, open-given}
+use Rattle.demands.specs.LockWords.{Released, Releasing, all-released, one-unnamed, release-means, released-is, released-was, past-means, past-is, Opened}
 use Rattle.demands.specs.CommandReasons.{Announced, OnlyTwoBits, served-exact, unlocksIn, locksIn}
-use Rattle.demands.specs.HolderWords.{TransferHeld, ReadHeld, WriteHeld, LockHeld, Held, read-held, write-held, lock-held, never, held-read, held-write, held-lock}
+use Rattle.demands.specs.HolderWords.{TransferHeld, ReadHeld, WriteHeld, LockHeld, CommandHeld, read-held, write-held, lock-held, never, held-read, held-write, held-lock}
 use Rattle.demands.specs.HolderWalk.{Way, found-first, first-place, asked-exact, blocked-held, held-blocked}
 
 -- refused for that holder's lock
@@ -207,25 +206,25 @@ module _ (c : Caller) (t : Tables) (memory : List ℕ) (ok : sound t ≡ true) w
   -- ---- all seven
 
   -- the commands that ask the list for nothing name nobody
-  pub perform-held : (b : Body) (area bytes : List ℕ) → Announced b area → (h : Holder) → Names (perform c t memory b area bytes) h ↔ Held c t area b h
+  pub perform-held : (b : Body) (area bytes : List ℕ) → Announced b area → (h : Holder) → Names (perform c t memory b area bytes) h ↔ CommandHeld c t area b h
   unfolding perform Announced
   perform-held (LockingBody f) area bytes k h =
       let q = locking-exact f area (k f refl) h in (λ e. held-lock .1 (q .0 e), λ r. q .1 (held-lock .0 r))
   perform-held (ReadBody f) area bytes k h = let q = read-exact f h in (λ e. held-read .1 (q .0 e), λ r. q .1 (held-read .0 r))
   perform-held (WriteBody f) area bytes k h = let q = write-exact f bytes h in (λ e. held-write .1 (q .0 e), λ r. q .1 (held-write .0 r))
   perform-held (Close fid) area bytes k h = (
-    open-case (λ (g : Given). Names g h → Held c t area (Close fid) h) c t fid _ (λ e. never cc) (λ e. never cc) (λ e. never cc) (λ j _ e. never cc),
+    open-case (λ (g : Given). Names g h → CommandHeld c t area (Close fid) h) c t fid _ (λ e. never cc) (λ e. never cc) (λ e. never cc) (λ j _ e. never cc),
     λ r. elim r [ read-held g e x ↦ never cc | write-held g e x ↦ never cc | lock-held g e x ↦ never cc ],
   )
   perform-held Logoff area bytes k h = (
-    session-case (λ (g : Given). Names g h → Held c t area Logoff h) c t _ (λ e. never cc) (λ _ e. never cc),
+    session-case (λ (g : Given). Names g h → CommandHeld c t area Logoff h) c t _ (λ e. never cc) (λ _ e. never cc),
     λ r. elim r [ read-held g e x ↦ never cc | write-held g e x ↦ never cc | lock-held g e x ↦ never cc ],
   )
   perform-held TreeDisconnect area bytes k h = (
-    tree-case (λ (g : Given). Names g h → Held c t area TreeDisconnect h) c t _ (λ e. never cc) (λ e. never cc) (λ e. never cc),
+    tree-case (λ (g : Given). Names g h → CommandHeld c t area TreeDisconnect h) c t _ (λ e. never cc) (λ e. never cc) (λ e. never cc),
     λ r. elim r [ read-held g e x ↦ never cc | write-held g e x ↦ never cc | lock-held g e x ↦ never cc ],
   )
   perform-held ProcessExit area bytes k h = (
-    session-case (λ (g : Given). Names g h → Held c t area ProcessExit h) c t _ (λ e. never cc) (λ _ e. never cc),
+    session-case (λ (g : Given). Names g h → CommandHeld c t area ProcessExit h) c t _ (λ e. never cc) (λ _ e. never cc),
     λ r. elim r [ read-held g e x ↦ never cc | write-held g e x ↦ never cc | lock-held g e x ↦ never cc ],
   )

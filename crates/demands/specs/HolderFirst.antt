@@ -2,7 +2,7 @@
 -- alone in its request the first listed lock that is in the way. Assumes nothing.
 use mathlib.Core.Path.{_≡_, refl, sym, ap, _∙_}
 use mathlib.Core.Logic.{_↔_}
-use Prim.Native.Nat.{ℕ, _+_, _/_, _%_, _^_, _≤_, _<_}
+use Prim.Native.Nat.{ℕ, _+_, _/_, _%_, _^_, _<_}
 use native.Mathlib.Nat.{add-zero}
 use native.Mathlib.Omega.{arith}
 use mathlib.Core.Bool.{Bool, true, false}
@@ -24,8 +24,6 @@ use Rattle.chain.specs.Grammar.{Span, Reading}
 use Rattle.chain.specs.Parse.{wideOffset}
 use Rattle.chain.specs.Chain.{blocks}
 use Rattle.chain.specs.declared.block.LockingFields.{LockingFields}
-use Rattle.chain.specs.declared.block.Body.{Body}
-use Rattle.chain.specs.declared.block.Body.the-variants.{Locking as LockingBody, Read as ReadBody, Write as WriteBody}
 use Rattle.chain.specs.declared.block.Block.{Block}
 use Rattle.invariants.specs.BlockParse.{bodyAt}
 use Rattle.invariants.specs.Chained.{read-chained}
@@ -35,24 +33,29 @@ use Rattle.invariants.specs.Fit.{Fit}
 use Rattle.message.specs.Caller.{callerOf}
 use Rattle.message.specs.declared.caller.Caller.{Caller}
 use Rattle.message.specs.Refusal.{status, holderOf}
-use Rattle.message.specs.declared.refusal.HeldBy.{HeldBy}
+use Rattle.message.specs.declared.refusal.Status.{Status}
 use Rattle.message.specs.declared.refusal.HeldBy.the-variants.{Holder as held-by}
 use Rattle.message.specs.declared.refusal.Refusal.the-variants.{Conflict}
 use Rattle.message.specs.Command.{Given, refused}
-use Rattle.message.specs.Message.{areaOf, dataOf, Ran}
+use Rattle.message.specs.Message.{areaOf, dataOf, Ran, Taken}
 use Rattle.demands.specs.Calls.{sentence-answered}
 use Rattle.demands.specs.MessageReasons.{done-exact}
 use Rattle.demands.specs.LoneLock.{Conflicts, Owner, loneRange, sharedIn}
 use Rattle.demands.specs.LoneCall.{WithinRange, first-given, first-conflict, alone-conflict, lockingFields, lockingArea}
 use Rattle.demands.specs.Admitted.{Admitted}
 use Rattle.demands.specs.LockWords.{Released, none-to-release, release-then, PastEnd, AllGranted, none-to-grant, grant-then}
-use Rattle.demands.specs.CommandReasons.{Announced, OnlyTwoBits, unlocksIn, locksIn}
-use Rattle.demands.specs.RefusedCall.{step-refused}
+use Rattle.demands.specs.CommandReasons.{Announced, OnlyTwoBits, locksIn}
+use Rattle.demands.specs.RefusedCall.{step-refused, Untouched, short-refusal}
 use Rattle.demands.specs.ChainReasons.{AllAnnounced, next-announced, chained-announced}
-use Rattle.demands.specs.WireFields.{readFrom, readFields, writeFrom, writeFields, FirstBlock, reading-first, one-first, first-body, first-area}
+use Rattle.demands.specs.WireFields.{readFrom, writeFrom, reading-first, one-first, first-body, first-area}
 use Rattle.demands.specs.HolderExactly.{call, holder-answered, holder-exactly}
-use Rattle.demands.specs.HolderWords.{FirstInWay, TransferHeld, ReadHeld, WriteHeld, RangeHeld, LockHeld, Held, never, held-read, held-write, held-lock}
+use Rattle.demands.specs.HolderWords.{FirstInWay, TransferHeld, LockHeld, CommandHeld, never, held-read, held-write, held-lock}
 use Rattle.demands.specs.HolderCommand.{Names, perform-held}
+
+-- the host gets this holder, and the first command of the message met him: the reply is the header and one refused block. (Where a later command is refused, the reply has
+-- the first one's block too.)
+abbrev pub FirstMeets : Taken → Holder → Type 0
+FirstMeets taken h = (taken .holder ≡ held-by h) × (taken .length ≡ 35)
 
 -- ---- the first command
 
@@ -60,10 +63,6 @@ all-first : {s : List ℕ} {b : Block} {bs : List Block} → AllAnnounced s (b �
 all-first (next-announced a more) = a
 
 module _ (connection : ℕ) (s : List ℕ) (t : Tables) (memory room : List ℕ) (fit : Fit s t memory room) (h : Holder) where
-  -- the host gets this holder, and the first command met him: the reply is the header and one refused block
-  abbrev pub FirstNames : Type 0
-  FirstNames = (call connection s t memory room .holder ≡ held-by h) × (call connection s t memory room .length ≡ 35)
-
   module _ (b : Block) (bs : List Block) (e : blocks s ≡ some (b ∷ bs)) where
     abbrev given : Given
     given = first-given connection s b bs e t memory room fit
@@ -80,14 +79,14 @@ module _ (connection : ℕ) (s : List ℕ) (t : Tables) (memory room : List ℕ)
         let same : w .0 ≡ h = cc in
         w .1 ∙ ap (λ (x : Holder). refused (Conflict x)) same
 
-    held-given : Names given h ↔ Held (callerOf connection s) t (areaOf s b) (b .body) h
+    held-given : Names given h ↔ CommandHeld (callerOf connection s) t (areaOf s b) (b .body) h
     unfolding blocks
     held-given =
         perform-held (callerOf connection s) t memory (fit .tables-sound) (b .body) (areaOf s b) (dataOf s b)
         (all-first (chained-announced (read-chained s (headerCommand s) FIRST (b ∷ bs) e))) h
 
     -- so the holder is the one whose lock is in the first command's way, whatever commands follow
-    pub first-held : FirstNames ↔ Held (callerOf connection s) t (areaOf s b) (b .body) h
+    pub first-held : FirstMeets (call connection s t memory room) h ↔ CommandHeld (callerOf connection s) t (areaOf s b) (b .body) h
     first-held = (
       λ n. let said = holder-exactly connection s t memory room (done-exact connection s t memory room .1 fit) .0 (h, n .0) in
           held-given .0 (conflict-names (first-conflict connection s b bs e t memory room fit .0 (said, n .1)) (n .0)),
@@ -95,15 +94,22 @@ module _ (connection : ℕ) (s : List ℕ) (t : Tables) (memory room : List ℕ)
     )
 
   -- and where it is the only one, the reply is no other
-  pub alone-held : (b : Block) → blocks s ≡ some (b ∷ []) → (call connection s t memory room .holder ≡ held-by h) ↔ Held (callerOf connection s) t (areaOf s b) (b .body) h
+  pub alone-held : (b : Block) → blocks s ≡ some (b ∷ []) → (call connection s t memory room .holder ≡ held-by h) ↔ CommandHeld (callerOf connection s) t (areaOf s b) (b .body) h
   alone-held b e = (
     λ n. let said = holder-exactly connection s t memory room (done-exact connection s t memory room .1 fit) .0 (h, n) in
         held-given b [] e .0 (conflict-names b [] e (alone-conflict connection s b e t memory room fit .0 said) n),
     λ r. named-given b [] e h (held-given b [] e .1 r),
   )
 
-  pub alone-first : {span : Span} → Reading s (span ∷ []) → call connection s t memory room .holder ≡ held-by h → FirstNames
+  pub alone-first : {span : Span} → Reading s (span ∷ []) → call connection s t memory room .holder ≡ held-by h → FirstMeets (call connection s t memory room) h
   alone-first r n = let q = one-first r in first-held (q .block) [] (q .is-read) .1 (alone-held (q .block) (q .is-read) .0 n)
+
+  -- "A command refused changes no table and no file byte, its own unlocks included"; its locks granted are undone
+  pub first-undone : FirstMeets (call connection s t memory room) h → Untouched t memory (call connection s t memory room)
+  unfolding status
+  first-undone n =
+      let said = holder-exactly connection s t memory room (done-exact connection s t memory room .1 fit) .0 (h, n .0) in
+      short-refusal connection s t memory room fit (λ z. let k : 33 ≡ 0 = ap (λ (x : Status). x .code) (sym said ∙ z) in omega arith) (n .1)
 
 -- ---- through a given open
 
@@ -183,7 +189,7 @@ module _ (connection : ℕ) (s : List ℕ) {spans : List Span} (r : Reading s sp
     (valid : Admitted (callerOf connection s) t (fidAfterAndx s FIRST) o) where
   -- where READ is the first command, on an open that may be read: the first "exclusive lock of another owner" that "overlaps offset and max"
   pub read-first : headerCommand s ≡ READ → (o .access ≡ 1 → ⊥)
-      → FirstNames connection s t memory room fit h
+      → FirstMeets (call connection s t memory room) h
       ↔ FirstInWay t o (locksOf t) (readFrom s) (readMax s FIRST) (λ l. (l .shared ≡ false) × (Owner (fidAfterAndx s FIRST) (le16At s 26) l → ⊥)) h
   unfolding bodyAt wideOffset callerOf
   read-first e may =
@@ -194,7 +200,7 @@ module _ (connection : ℕ) (s : List ℕ) {spans : List Span} (r : Reading s sp
 
   -- where WRITE is, on an open that may be written: the first of any that overlap it "save the writer's own exclusive ones"
   pub write-first : headerCommand s ≡ WRITE → (o .access ≡ 0 → ⊥)
-      → FirstNames connection s t memory room fit h
+      → FirstMeets (call connection s t memory room) h
       ↔ FirstInWay t o (locksOf t) (writeFrom s) (dataLength s FIRST) (λ l. (l .shared ≡ false) × Owner (fidAfterAndx s FIRST) (le16At s 26) l → ⊥) h
   unfolding bodyAt wideOffset callerOf
   write-first e may =
@@ -206,7 +212,7 @@ module _ (connection : ℕ) (s : List ℕ) {spans : List Span} (r : Reading s sp
   -- "A lock alone in its request, of a served type, on a valid open and within range": the first "listed lock of that file" that "overlaps it and the two aren't both
   -- shared"
   pub lone-lock-first : headerCommand s ≡ LOCKING → unlockCount s FIRST ≡ 0 → lockCount s FIRST ≡ 1 → OnlyTwoBits (lockType s FIRST)
-      → WithinRange (lockingFields s) (lockingArea s) → FirstNames connection s t memory room fit h ↔ LoneHeld t o (lockingFields s) (lockingArea s) h
+      → WithinRange (lockingFields s) (lockingArea s) → FirstMeets (call connection s t memory room) h ↔ LoneHeld t o (lockingFields s) (lockingArea s) h
   unfolding bodyAt
   lone-lock-first e none-out one bits low =
       let q = reading-first r in

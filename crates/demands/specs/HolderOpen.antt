@@ -32,8 +32,8 @@ use Rattle.message.specs.declared.refusal.HeldBy.the-variants.{Holder as held-b
 use Rattle.demands.specs.LoneLock.{sharedIn}
 use Rattle.demands.specs.LockWords.{released-was}
 use Rattle.demands.specs.HolderExactly.{call, held-fit}
-use Rattle.demands.specs.HolderWords.{LockHeld, Held, read-held, write-held, lock-held}
-use Rattle.demands.specs.HolderStands.{Met, holder-exact, held-then}
+use Rattle.demands.specs.HolderWords.{LockHeld, CommandHeld, read-held, write-held, lock-held}
+use Rattle.demands.specs.HolderStands.{holder-exact, held-then}
 
 -- ---- an own earlier range
 
@@ -100,7 +100,7 @@ pub record HolderFound (t : Tables) (h : Holder) : Type 0 where
   pub no-other-session : (u : Session) → In u (sessionsOf t) → u .uid ≡ through .uid → u ≡ session
 
 -- a lock in the way is of the file, so that its FID is an open's
-held-open : {c : Caller} {t : Tables} {area : List ℕ} {body : Body} {h : Holder} → Held c t area body h → (o : Open) × In o (opensOf t) × (o .fid ≡ h .lock .fid)
+held-open : {c : Caller} {t : Tables} {area : List ℕ} {body : Body} {h : Holder} → CommandHeld c t area body h → (o : Open) × In o (opensOf t) × (o .fid ≡ h .lock .fid)
 held-open (read-held f e r) = let p = r .first .of-file in (p .0, p .1, p .2)
 held-open (write-held f e r) = let p = r .first .of-file in (p .0, p .1, p .2)
 held-open (lock-held f e r) = let p = r .held .first .of-file in (p .0, p .1, p .2)

@@ -1,39 +1,33 @@
 -- In a chain the holder is the one that the refused command met, on the tables as they stood when it was begun (document 02, CR 2; document 01: "Commands before it in
 -- the chain stand; those after it aren't begun"), said of the call, exactly. Assumes nothing.
 use mathlib.Core.Path.{_≡_, refl, sym, ap, _∙_}
-use mathlib.Core.Logic.{_↔_, inl, inr}
+use mathlib.Core.Logic.{_↔_}
 use Prim.Native.Nat.{ℕ, _+_}
-use native.Mathlib.Omega.{arith}
-use mathlib.Core.Bool.{Bool, true, false, cond}
-use mathlib.Core.List.{List, [], _∷_, _++_, map}
+use mathlib.Core.List.{List, [], _∷_, _++_}
 use mathlib.Core.Option.{Option, none, some}
 use Rattle.records.specs.declared.Tables.{Tables}
 use Rattle.locks.specs.declared.types.Holder.{Holder}
 use Rattle.chain.specs.Layout.{headerCommand, FIRST}
-use Rattle.chain.specs.Grammar.{Span, Reading}
 use Rattle.chain.specs.Chain.{blocks}
 use Rattle.chain.specs.declared.block.Block.{Block}
-use Rattle.invariants.specs.ReaderSound.{spanOf, reader-sound}
 use Rattle.invariants.specs.Chained.{read-chained}
 use Rattle.invariants.specs.GivenCases.{cond-case}
-use Rattle.invariants.specs.Sound.{Good, run-keeps}
+use Rattle.invariants.specs.Sound.{Good}
 use Rattle.invariants.specs.Fit.{Fit, fit-answered}
 use Rattle.message.specs.Caller.{callerOf}
 use Rattle.message.specs.declared.caller.Caller.{Caller}
-use Rattle.message.specs.Refusal.{status, statusOf, holderOf}
-use Rattle.message.specs.declared.refusal.HeldBy.{HeldBy}
-use Rattle.message.specs.declared.refusal.HeldBy.the-variants.{Nobody, Holder as held-by}
+use Rattle.message.specs.Refusal.{status, holderOf}
+use Rattle.message.specs.declared.refusal.HeldBy.the-variants.{Holder as held-by}
 use Rattle.message.specs.declared.refusal.Refusal.{Refusal}
 use Rattle.message.specs.declared.refusal.Refusal.the-variants.{NotServed, NotSentence, NoSession, NoTree, NoOpen, NoAccess, LockType, NoSuchLock, PassesEnd, Conflict, NoRecord, NoSpace}
 use Rattle.message.specs.Command.{Said, Given, refused, done}
 use Rattle.message.specs.Reply.{replySize}
-use Rattle.message.specs.Message.{areaOf, dataOf, Ran, after, run, served, onlyStatus, runChain, answered, Taken, replied, take-message}
+use Rattle.message.specs.Message.{areaOf, dataOf, Ran, after, run, served, onlyStatus, runChain, answered, Taken, replied}
 use Rattle.demands.specs.Calls.{sentence-answered}
-use Rattle.demands.specs.CommandReasons.{Announced}
 use Rattle.demands.specs.RefusedCall.{gives, step-done, step-refused}
 use Rattle.demands.specs.ChainReasons.{AllAnnounced, none-left, next-announced, chained-announced, refusal-not-zero, left-good}
 use Rattle.demands.specs.HolderExactly.{call, holder-answered}
-use Rattle.demands.specs.HolderWords.{Held, never}
+use Rattle.demands.specs.HolderWords.{CommandHeld, never}
 use Rattle.demands.specs.HolderCommand.{Names, perform-held}
 
 -- only a conflict names somebody
@@ -61,12 +55,12 @@ record MetFrom (c : Caller) (s : List ℕ) (bs : List Block) (place : ℕ) (t : 
   later : List Block
   split : bs ≡ front ++ (command ∷ later)
   front-done : run c s front place t memory .status ≡ status 0 0
-  held : Held c (run c s front place t memory .tables) (areaOf s command) (command .body) h
+  held : CommandHeld c (run c s front place t memory .tables) (areaOf s command) (command .body) h
 
 module _ (c : Caller) (s : List ℕ) where
   -- by what the first gives
   met-by : (b : Block) (bs : List Block) (place : ℕ) (t : Tables) (memory : List ℕ) (h : Holder) (g : Given) → gives c s b t memory ≡ g
-      → (Names g h → Held c t (areaOf s b) (b .body) h)
+      → (Names g h → CommandHeld c t (areaOf s b) (b .body) h)
       → ((u : Tables) (m : List ℕ) (said : Said) → g ≡ done u m said → run c s bs (place + replySize said) u m .holder ≡ held-by h → MetFrom c s bs (place + replySize said) u m h)
       → run c s (b ∷ bs) place t memory .holder ≡ held-by h → MetFrom c s (b ∷ bs) place t memory h
   unfolding run after
@@ -118,7 +112,7 @@ module _ (c : Caller) (s : List ℕ) where
       }
 
   met-run : (front : List Block) (command : Block) (later : List Block) (place : ℕ) (t : Tables) (memory : List ℕ) (h : Holder) → AllAnnounced s (front ++ (command ∷ later)) → Good t
-      → run c s front place t memory .status ≡ status 0 0 → Held c (run c s front place t memory .tables) (areaOf s command) (command .body) h
+      → run c s front place t memory .status ≡ status 0 0 → CommandHeld c (run c s front place t memory .tables) (areaOf s command) (command .body) h
       → PassedUp (front ++ (command ∷ later)) front place t memory h
   unfolding run holderOf
   met-run [] command later place t memory h (next-announced a more) g zero held =
@@ -138,7 +132,7 @@ pub record Met (connection : ℕ) (s : List ℕ) (t : Tables) (memory : List ℕ
   pub read : blocks s ≡ some (front ++ (command ∷ later))
   -- "Commands before it in the chain stand": carried out alone they are done
   pub front-done : run (callerOf connection s) s front FIRST t memory .status ≡ status 0 0
-  pub held : Held (callerOf connection s) (run (callerOf connection s) s front FIRST t memory .tables) (areaOf s command) (command .body) h
+  pub held : CommandHeld (callerOf connection s) (run (callerOf connection s) s front FIRST t memory .tables) (areaOf s command) (command .body) h
 
 -- a message that is not served, or no sentence, names nobody
 data Sentenced (connection : ℕ) (s : List ℕ) (t : Tables) (memory : List ℕ) (h : Holder) : Type 0 where
@@ -188,9 +182,12 @@ module _ (connection : ℕ) (s : List ℕ) (t : Tables) (memory room : List ℕ)
         ap (λ (k : Taken). k .tables) (fit-answered connection s t memory room fit)
         ∙ ap (λ (r : Ran). r .tables) (sentence-answered connection s t memory (m .front ++ (m .command ∷ m .later)) (m .read)) ∙ met-named m .tables-left
 
-    pub held-then : Held c (call connection s t memory room .tables) (areaOf s (m .command)) (m .command .body) h
+    pub held-then : CommandHeld c (call connection s t memory room .tables) (areaOf s (m .command)) (m .command .body) h
     held-then = rw tables-then (m .held)
 
-    -- the blocks are a reading's
-    pub met-reading : Reading s (map spanOf (m .front ++ (m .command ∷ m .later)))
-    met-reading = reader-sound s (m .front ++ (m .command ∷ m .later)) (m .read)
+-- so the words determine the holder
+pub holder-one : (connection : ℕ) (s : List ℕ) (t : Tables) (memory room : List ℕ) → Good t → Fit s t memory room → (h k : Holder) → Met connection s t memory h
+    → Met connection s t memory k → h ≡ k
+holder-one connection s t memory room g fit h k a b =
+    let two : held-by h ≡ held-by k = sym (holder-exact connection s t memory room g fit h .1 a) ∙ holder-exact connection s t memory room g fit k .1 b in
+    cc

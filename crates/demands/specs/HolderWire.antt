@@ -1,40 +1,37 @@
 -- The holder of a LOCKING that is the first command of its message, by the message's bytes: ranges are where the message has them, and each lock is told by its fields
 -- (document 02, CR 2: "in the list as it then stands"; "A lock granted earlier in the same request may be the answer"). Assumes nothing.
-use mathlib.Core.Path.{_≡_, refl, sym, ap, subst, _∙_}
+use mathlib.Core.Path.{_≡_, sym, subst, _∙_}
 use mathlib.Core.Logic.{_↔_}
-use Prim.Native.Nat.{ℕ, _+_, _*_, _/_, _%_, _≤_, _<_}
+use Prim.Native.Nat.{ℕ, _+_, _*_, _%_, _≤_, _<_}
 use native.Mathlib.Omega.{arith}
 use mathlib.Core.Bool.{Bool, true}
 use mathlib.Core.List.{List, [], _∷_, _++_, map, append-nil, append-assoc, List·Memᴰ as In}
 use lib.ListN.{length}
-use lib.Dec.{eqb}
 use borrow.Author.Tests.{eqb-true, eq-eqb}
 use Rattle.records.specs.declared.Open.{Open}
 use Rattle.records.specs.declared.Lock.{Lock}
 use Rattle.records.specs.declared.Tables.{Tables}
 use Rattle.records.specs.Held.{locksOf}
-use Rattle.locks.specs.Wire.{rangeSize, rangeAt, rangesAt}
+use Rattle.locks.specs.Wire.{rangeSize, rangeAt}
 use Rattle.locks.specs.Request.{lockOf}
 use Rattle.locks.specs.declared.types.LockRange.{LockRange}
 use Rattle.locks.specs.declared.types.Holder.{Holder}
 use Rattle.chain.specs.Layout.{LOCKING, headerCommand, FIRST, byteCount, fidAfterAndx, lockType, unlockCount, lockCount}
 use Rattle.chain.specs.Grammar.{Span, Reading}
-use Rattle.chain.specs.declared.block.Body.the-variants.{Locking as LockingBody}
 use Rattle.invariants.specs.BlockParse.{bodyAt}
 use Rattle.invariants.specs.Fit.{Fit}
 use Rattle.message.specs.Caller.{callerOf}
-use Rattle.message.specs.declared.refusal.HeldBy.the-variants.{Holder as held-by}
 use Rattle.demands.specs.Admitted.{Admitted}
-use Rattle.demands.specs.LoneLock.{InWay, sharedIn}
+use Rattle.demands.specs.LoneLock.{sharedIn}
 use Rattle.demands.specs.LoneCall.{lockingFields, lockingArea}
 use Rattle.demands.specs.LockWords.{AllGranted, none-to-grant, grant-then}
 use Rattle.demands.specs.CommandReasons.{OnlyTwoBits}
-use Rattle.demands.specs.WireFields.{reading-first, one-first, first-body, first-area}
+use Rattle.demands.specs.WireFields.{reading-first, first-body, first-area}
 use Rattle.demands.specs.LockEffects.{RangeOn, GrantedLock, Unlocked, Locked, large, range-on, unlocked-from, granted-lock, locked-from, locking-fits}
 use Rattle.demands.specs.LockReasons.{PassesOn, lock-is, released-from, ranges-in, passes-from, past-from, granted-from}
-use Rattle.demands.specs.HolderWords.{FirstInWay, RangeHeld, LockHeld, Held, held-lock}
+use Rattle.demands.specs.HolderWords.{FirstInWay, LockHeld, held-lock}
 use Rattle.demands.specs.HolderExactly.{call}
-use Rattle.demands.specs.HolderFirst.{FirstNames, first-held, alone-held}
+use Rattle.demands.specs.HolderFirst.{FirstMeets, first-held}
 use Rattle.demands.specs.HolderOpen.{holder-own, holder-listed}
 
 -- ---- the plain words
@@ -164,7 +161,7 @@ module _ (connection : ℕ) (s : List ℕ) (t : Tables) (h : Holder) (fits : (un
 module _ (connection : ℕ) (s : List ℕ) {spans : List Span} (r : Reading s spans) (t : Tables) (memory room : List ℕ) (fit : Fit s t memory room) (e : headerCommand s ≡ LOCKING)
     (h : Holder) where
   -- the host gets the holder whose lock is in the way of one of its ranges, whatever commands follow
-  pub lock-first : FirstNames connection s t memory room fit h ↔ LockHeldOn connection s t h
+  pub lock-first : FirstMeets (call connection s t memory room) h ↔ LockHeldOn connection s t h
   unfolding bodyAt
   lock-first =
       let q = reading-first r in

@@ -79,29 +79,30 @@ pub record LockHeld (c : Caller) (t : Tables) (f : LockingFields) (area : List �
   pub held : RangeHeld t through (f .fid) (sharedIn f) (eqb (f .kind / 16 % 2) 1) area (f .unlocks) (f .locks) left h
 
 -- the command with these fields and this byte area, begun on these tables, has the holder's lock in its way
-pub data Held (c : Caller) (t : Tables) (area : List ℕ) (body : Body) (h : Holder) : Type 0 where
-  read-held : (f : ReadFields) → body ≡ ReadBody f → ReadHeld c t f h → Held c t area body h
-  write-held : (f : WriteFields) → body ≡ WriteBody f → WriteHeld c t f h → Held c t area body h
-  lock-held : (f : LockingFields) → body ≡ LockingBody f → LockHeld c t f area h → Held c t area body h
+pub data CommandHeld (c : Caller) (t : Tables) (area : List ℕ) (body : Body) (h : Holder) : Type 0 where
+  read-held : (f : ReadFields) → body ≡ ReadBody f → ReadHeld c t f h → CommandHeld c t area body h
+  write-held : (f : WriteFields) → body ≡ WriteBody f → WriteHeld c t f h → CommandHeld c t area body h
+  lock-held : (f : LockingFields) → body ≡ LockingBody f → LockHeld c t f area h → CommandHeld c t area body h
 
+-- two constructors are not one
 pub never : {P : Type 0} → _≡_ {A = ℕ} 0 1 → P
 never e = absurd (omega arith)
 
 -- each command for its own reason
 module _ {c : Caller} {t : Tables} {area : List ℕ} {h : Holder} where
-  pub held-read : {f : ReadFields} → Held c t area (ReadBody f) h ↔ ReadHeld c t f h
+  pub held-read : {f : ReadFields} → CommandHeld c t area (ReadBody f) h ↔ ReadHeld c t f h
   held-read {f} = (
     λ r. elim r [ read-held g e x ↦ let same : f ≡ g = cc in rw same x | write-held g e x ↦ never cc | lock-held g e x ↦ never cc ],
     λ x. read-held f refl x,
   )
 
-  pub held-write : {f : WriteFields} → Held c t area (WriteBody f) h ↔ WriteHeld c t f h
+  pub held-write : {f : WriteFields} → CommandHeld c t area (WriteBody f) h ↔ WriteHeld c t f h
   held-write {f} = (
     λ r. elim r [ read-held g e x ↦ never cc | write-held g e x ↦ let same : f ≡ g = cc in rw same x | lock-held g e x ↦ never cc ],
     λ x. write-held f refl x,
   )
 
-  pub held-lock : {f : LockingFields} → Held c t area (LockingBody f) h ↔ LockHeld c t f area h
+  pub held-lock : {f : LockingFields} → CommandHeld c t area (LockingBody f) h ↔ LockHeld c t f area h
   held-lock {f} = (
     λ r. elim r [ read-held g e x ↦ never cc | write-held g e x ↦ never cc | lock-held g e x ↦ let same : f ≡ g = cc in rw same x ],
     λ x. lock-held f refl x,
