@@ -86,7 +86,7 @@ plant-good = (good 2 0 (plant-sound .0), good 1 0 (plant-sound .1), good 2 1 (pl
 
 -- ---- fit to be answered, known, a sentence and not one
 
-answerable : (s : List ℕ) (t : Tables) → Good t → dropped s ≡ false → Answerable (asked s t)
+pub answerable : (s : List ℕ) (t : Tables) → Good t → dropped s ≡ false → Answerable (asked s t)
 unfolding asked
 answerable s t ok kept =
     record {
