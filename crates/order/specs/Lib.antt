@@ -4,3 +4,5 @@ pub mod Demand2
 pub mod Demand3
 pub mod Request1
 pub mod Possible
+pub mod Possible2
+pub mod Request2

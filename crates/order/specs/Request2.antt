@@ -1,0 +1,121 @@
+-- Change request 2 of document 02, "Say who holds the lock", sentence by sentence. Assumes nothing.
+use mathlib.Core.Path.{_≡_}
+use mathlib.Core.Logic.{_↔_}
+use Prim.Native.Nat.{_+_, _^_, _≤_, _<_}
+use mathlib.Core.Bool.{true, false}
+use mathlib.Core.List.{List, [], _∷_, _++_, map, List·Memᴰ as In}
+use lib.ListN.{length}
+use Rattle.wire.specs.LittleEndian.{le16At}
+use Rattle.records.specs.declared.Open.{Open}
+use Rattle.records.specs.Held.{locksOf}
+use Rattle.locks.specs.declared.types.Holder.{Holder}
+use Rattle.chain.specs.Layout.{LOCKING, READ, WRITE, headerCommand, FIRST, fidAfterAndx, lockType, unlockCount, readMax, dataLength}
+use Rattle.chain.specs.Grammar.{Span, Reading}
+use Rattle.message.specs.declared.refusal.HeldBy.the-variants.{Nobody, Holder as held-by}
+use Rattle.message.specs.Message.{run}
+use Rattle.invariants.specs.ReaderSound.{spanOf, reader-sound}
+use Rattle.invariants.specs.Sound.{Good}
+use Rattle.demands.specs.LoneLock.{Owner}
+use Rattle.demands.specs.CommandReasons.{OnlyTwoBits}
+use Rattle.demands.specs.RefusedCall.{Untouched}
+use Rattle.demands.specs.WireFields.{readFrom, writeFrom}
+use Rattle.demands.specs.HolderExactly.{holder-exactly, nobody-exactly, undone-nobody}
+use Rattle.demands.specs.HolderWords.{FirstInWay}
+use Rattle.demands.specs.HolderStands.{Met, holder-exact, holder-one, tables-then}
+use Rattle.demands.specs.HolderOpen.{HolderFound, holder-found}
+use Rattle.demands.specs.HolderFirst.{FirstMeets, alone-first, first-undone, read-first, write-first, lone-lock-first}
+use Rattle.demands.specs.HolderWire.{LockHeldOn, OwnRangeOn, lock-first, lock-own, lock-listed}
+use Rattle.order.specs.Call.{Call, gives, Answerable, Says, sender}
+use Rattle.order.specs.Demand2.{rangeAsked, sharedAsked, AsksOneLock, ValidOpen}
+use Rattle.order.specs.Possible.{plant}
+use Rattle.order.specs.Possible2.{twoAsked, firstRange, two-answerable, first-refuses}
+
+-- A holder is the lock in the way, with its FID and process, and its place, from 0 (locks/src/types.rt). What a call gives has one, or nobody (message/specs/Message.antt),
+-- and the contract of the entry point puts it into the host's words (boundary/specs/Boundary.antt). The first command of a message met him where the reply is the header and
+-- one refused block (`FirstMeets`).
+
+-- "The conflict test is to give, instead of yes or no, the place of the first conflicting lock in the list as it then stands": the holder is exactly the lock at the first
+-- place of that list that is in the way (`FirstInWay`)
+pub record PlaceOfTheFirst : Type 0 where
+  -- of a LOCKING: "this request's unlocks taken out, its own earlier ranges at the end", for the first of its ranges that has one in its way
+  pub lock : (c : Call) (spans : List Span) (h : Holder) → Answerable c → Reading (c .message) spans → headerCommand (c .message) ≡ LOCKING
+      → FirstMeets (gives c) h ↔ LockHeldOn (c .connection) (c .message) (c .tables) h
+  -- demand 2's "lock alone in its request, of a served type, on a valid open and within range": the first "listed lock of that file" that "overlaps it and the two aren't
+  -- both shared"
+  pub lone-lock : (c : Call) (spans : List Span) (o : Open) (h : Holder) → Answerable c → Reading (c .message) spans → AsksOneLock c → OnlyTwoBits (lockType (c .message) FIRST)
+      → ValidOpen c o → rangeAsked c .offset + rangeAsked c .length ≤ 2 ^ 64
+      → FirstMeets (gives c) h ↔ FirstInWay (c .tables) o (locksOf (c .tables)) (rangeAsked c .offset) (rangeAsked c .length) (λ l. (l .shared ≡ true) × (sharedAsked c ≡ true) → ⊥) h
+  -- of a read "an exclusive lock of another owner" that "overlaps offset and max"; the owner is the message's FID with its PIDLow, at 26
+  pub read : (c : Call) (spans : List Span) (o : Open) (h : Holder) → Answerable c → Reading (c .message) spans → headerCommand (c .message) ≡ READ → ValidOpen c o → (o .access ≡ 1 → ⊥)
+      → FirstMeets (gives c) h ↔ FirstInWay (c .tables) o (locksOf (c .tables)) (readFrom (c .message)) (readMax (c .message) FIRST)
+      (λ l. (l .shared ≡ false) × (Owner (fidAfterAndx (c .message) FIRST) (le16At (c .message) 26) l → ⊥)) h
+  -- of a write any that overlaps it "save the writer's own exclusive ones"
+  pub write : (c : Call) (spans : List Span) (o : Open) (h : Holder) → Answerable c → Reading (c .message) spans → headerCommand (c .message) ≡ WRITE → ValidOpen c o → (o .access ≡ 0 → ⊥)
+      → FirstMeets (gives c) h ↔ FirstInWay (c .tables) o (locksOf (c .tables)) (writeFrom (c .message)) (dataLength (c .message) FIRST)
+      (λ l. (l .shared ≡ false) × Owner (fidAfterAndx (c .message) FIRST) (le16At (c .message) 26) l → ⊥) h
+  -- a command alone in its message is its first
+  pub alone : (c : Call) (span : Span) (h : Holder) → Answerable c → Reading (c .message) (span ∷ []) → gives c .holder ≡ held-by h → FirstMeets (gives c) h
+
+-- "Locks, reads and writes pass it up, and the host gets the holder's FID and process beside the reply"
+pub record BesideTheReply : Type 0 where
+  -- of a call that is done exactly beside Status 1/33, and of no other call
+  pub exactly-conflict : (c : Call) → gives c .number ≡ 0 → ((h : Holder) × (gives c .holder ≡ held-by h)) ↔ Says c 1 33
+  pub nobody-else : (c : Call) → gives c .number ≡ 0 → (gives c .holder ≡ Nobody) ↔ (Says c 1 33 → ⊥)
+  pub not-done : (c : Call) → (gives c .number ≡ 0 → ⊥) → gives c .holder ≡ Nobody
+  -- in a chain that of the refused command, on the tables that the commands before it left; the call leaves just these; the commands are a reading's blocks; and there is no
+  -- other holder
+  pub chain : (c : Call) (h : Holder) → Answerable c → (gives c .holder ≡ held-by h) ↔ Met (c .connection) (c .message) (c .tables) (c .memory) h
+  pub begun-on : (c : Call) (h : Holder) → Answerable c → (m : Met (c .connection) (c .message) (c .tables) (c .memory) h)
+      → gives c .tables ≡ run (sender c) (c .message) (m .front) FIRST (c .tables) (c .memory) .tables
+  pub of-a-reading : (c : Call) (h : Holder) (m : Met (c .connection) (c .message) (c .tables) (c .memory) h) → Reading (c .message) (map spanOf (m .front ++ (m .command ∷ m .later)))
+  pub one-holder : (c : Call) (h g : Holder) → Answerable c → Met (c .connection) (c .message) (c .tables) (c .memory) h → Met (c .connection) (c .message) (c .tables) (c .memory) g → h ≡ g
+  -- "we can't name the terminal": by the FID the host finds one open, and one session with its connection, in the tables that the call leaves
+  pub terminal : (c : Call) (h : Holder) → Good (c .tables) → gives c .holder ≡ held-by h → HolderFound (gives c .tables) h
+
+-- "A lock granted earlier in the same request may be the answer, though it is undone"
+pub record GrantedEarlier : Type 0 where
+  -- a holder at a place behind what the unlocks left is an own earlier range: the request's FID and that range's process; any other is one of the locks held
+  pub own : (c : Call) (spans : List Span) (h : Holder) → Answerable c → Reading (c .message) spans → headerCommand (c .message) ≡ LOCKING
+      → (k : LockHeldOn (c .connection) (c .message) (c .tables) h) → length (k .left) ≤ h .place → OwnRangeOn (c .message) (unlockCount (c .message) FIRST) (k .granted) (h .lock)
+  pub listed : (c : Call) (spans : List Span) (h : Holder) → Answerable c → Reading (c .message) spans → headerCommand (c .message) ≡ LOCKING
+      → (k : LockHeldOn (c .connection) (c .message) (c .tables) h) → h .place < length (k .left) → In (h .lock) (locksOf (c .tables))
+  -- it is undone: tables and file memory are those before the call
+  pub undone : (c : Call) (h : Holder) → Answerable c → FirstMeets (gives c) h → Untouched (c .tables) (c .memory) (gives c)
+  -- and that happens: the second of two ranges is refused by the first
+  pub happens : Answerable twoAsked × (gives twoAsked .holder ≡ held-by firstRange) × (gives twoAsked .tables ≡ plant 2 1)
+
+pub record Request2 : Type 0 where
+  pub place-of-the-first : PlaceOfTheFirst
+  pub beside-the-reply : BesideTheReply
+  pub granted-earlier : GrantedEarlier
+
+-- ---- the proof: each line cites the theorem that does the work
+
+pub request-2 : Request2
+request-2 =
+    record {
+      place-of-the-first = record {
+        lock = λ c spans h a r e. lock-first (c .connection) (c .message) r (c .tables) (c .memory) (c .room) (a .fit) e h;
+        lone-lock = λ c spans o h a r asks bits valid low.
+            lone-lock-first (c .connection) (c .message) r (c .tables) (c .memory) (c .room) (a .fit) h o valid (asks .is-locking) (asks .no-unlock) (asks .one-lock) bits low;
+        read = λ c spans o h a r e valid access. read-first (c .connection) (c .message) r (c .tables) (c .memory) (c .room) (a .fit) h o valid e access;
+        write = λ c spans o h a r e valid access. write-first (c .connection) (c .message) r (c .tables) (c .memory) (c .room) (a .fit) h o valid e access;
+        alone = λ c span h a r. alone-first (c .connection) (c .message) (c .tables) (c .memory) (c .room) (a .fit) h r;
+      };
+      beside-the-reply = record {
+        exactly-conflict = λ c. holder-exactly (c .connection) (c .message) (c .tables) (c .memory) (c .room);
+        nobody-else = λ c. nobody-exactly (c .connection) (c .message) (c .tables) (c .memory) (c .room);
+        not-done = λ c. undone-nobody (c .connection) (c .message) (c .tables) (c .memory) (c .room);
+        chain = λ c h a. holder-exact (c .connection) (c .message) (c .tables) (c .memory) (c .room) (a .good) (a .fit) h;
+        begun-on = λ c h a. tables-then (c .connection) (c .message) (c .tables) (c .memory) (c .room) (a .good) (a .fit) h;
+        of-a-reading = λ c h m. reader-sound (c .message) (m .front ++ (m .command ∷ m .later)) (m .read);
+        one-holder = λ c h g a. holder-one (c .connection) (c .message) (c .tables) (c .memory) (c .room) (a .good) (a .fit) h g;
+        terminal = λ c h good. holder-found (c .connection) (c .message) (c .tables) (c .memory) (c .room) good h;
+      };
+      granted-earlier = record {
+        own = λ c spans h a r e. lock-own (c .connection) (c .message) r (c .tables) (c .memory) (c .room) (a .fit) e h;
+        listed = λ c spans h a r e. lock-listed (c .connection) (c .message) r (c .tables) (c .memory) (c .room) (a .fit) e h;
+        undone = λ c h a. first-undone (c .connection) (c .message) (c .tables) (c .memory) (c .room) (a .fit) h;
+        happens = (two-answerable, first-refuses .0, first-refuses .1);
+      };
+    }
