@@ -1,9 +1,9 @@
 -- Demand 3's single claim, said of the calls themselves (document 01, "Sent one to a message" and "Compared"): the chain's call gives the number,
 -- holder, tables, file memory and reply that the calls of its blocks' own messages give. Assumes nothing.
-use mathlib.Core.Path.{_≡_, refl, _∙_, ap}
+use mathlib.Core.Path.{_≡_, refl, sym, _∙_, ap}
 use Prim.Native.Nat.{ℕ, _/_, _%_, _≤_, _<_}
 use native.Mathlib.Omega.{arith}
-use mathlib.Core.Bool.{Bool, true, false, cond, _&&_}
+use mathlib.Core.Bool.{Bool, true, false, cond, _&&_, false≢true}
 use mathlib.Core.List.{List, [], _∷_, _++_}
 use mathlib.Core.Option.{Option, none, some}
 use lib.ListN.{length, take, set}
@@ -11,7 +11,7 @@ use lib.Seq.{take-append-seam}
 use lib.Dec.{eqb}
 use borrow.Author.Tests.{eqb-true, eq-eqb}
 use Rattle.lists.specs.Put.{put}
-use Rattle.lists.specs.Truth.{both-hold, hold-both, same-truth, not-decided-twice}
+use Rattle.lists.specs.Truth.{both-hold, hold-both, same-truth}
 use Rattle.wire.specs.LittleEndian.{byteAt}
 use Rattle.records.specs.declared.Tables.{Tables}
 use Rattle.chain.specs.Layout.{headerCommand, FIRST}
@@ -30,7 +30,8 @@ use Rattle.message.specs.declared.refusal.Refusal.{Refusal}
 use Rattle.message.specs.declared.refusal.Refusal.the-variants.{NotServed, NotSentence, NoSession, NoTree, NoOpen, NoAccess, LockType, NoSuchLock, PassesEnd, Conflict, NoRecord, NoSpace}
 use Rattle.invariants.specs.GivenCases.{cond-case}
 use Rattle.demands.specs.Alone.{alone}
-use Rattle.demands.specs.OneByOne.{Sent, succeeded, refusal-fails, replyThen, sendOn, sendAll, joined, compared, one-by-one}
+use Rattle.demands.specs.HolderBeside.{nobody-exact, answered-beside}
+use Rattle.demands.specs.OneByOne.{Sent, succeeded, replyThen, sendOn, sendAll, joined, compared, one-by-one}
 use Rattle.demands.specs.OneByOneReply.{lastReply, comparedReply, one-by-one-reply}
 use Rattle.invariants.specs.Sound.{Good}
 use Rattle.invariants.specs.Fit.{Fit, fit-answered}
@@ -132,32 +133,11 @@ answered-small connection s t memory =
     (onlyStatus (statusOf NotServed) t memory) (λ _. chain-small (callerOf connection s) s (blocks s) t memory) (λ _. code-small NotServed)
 
 -- a message that succeeds has no holder
-after-nobody : (g : Given) (bs : List Block) (place : ℕ) (t : Tables) (memory : List ℕ) (rest : ℕ → Tables → List ℕ → Ran)
-    → ((p : ℕ) (u : Tables) (m : List ℕ) → succeeded (rest p u m .status) ≡ true → rest p u m .holder ≡ Nobody)
-    → succeeded (afterGiven g bs place t memory rest .status) ≡ true → afterGiven g bs place t memory rest .holder ≡ Nobody
-unfolding afterGiven after
-after-nobody (refused why) bs place t memory rest f e = absurd (not-decided-twice (succeeded (statusOf why)) e (refusal-fails why))
-after-nobody (done u m said) bs place t memory rest f e = f _ u m e
-
-run-nobody : (c : Caller) (s : List ℕ) (bs : List Block) (place : ℕ) (t : Tables) (memory : List ℕ)
-    → succeeded (run c s bs place t memory .status) ≡ true → run c s bs place t memory .holder ≡ Nobody
-unfolding run
-run-nobody c s [] place t memory e = refl
-run-nobody c s (b ∷ bs) place t memory e =
-    after-nobody (perform c t memory (b .body) (areaOf s b) (dataOf s b)) bs place t memory _ (λ p u m. run-nobody c s bs p u m) e
-
-chain-nobody : (c : Caller) (s : List ℕ) (o : Option (List Block)) (t : Tables) (memory : List ℕ)
-    → succeeded (runChain c s o t memory .status) ≡ true → runChain c s o t memory .holder ≡ Nobody
-unfolding runChain onlyStatus
-chain-nobody c s none t memory e = refl
-chain-nobody c s (some bs) t memory e = run-nobody c s bs FIRST t memory e
-
 pub answered-nobody : (connection : ℕ) (s : List ℕ) (t : Tables) (memory : List ℕ)
     → succeeded (answered connection s t memory .status) ≡ true → answered connection s t memory .holder ≡ Nobody
-unfolding answered onlyStatus
-answered-nobody connection s t memory =
-    cond-case (λ (r : Ran). succeeded (r .status) ≡ true → r .holder ≡ Nobody) (served (headerCommand s)) (runChain (callerOf connection s) s (blocks s) t memory)
-    (onlyStatus (statusOf NotServed) t memory) (λ _ e. chain-nobody (callerOf connection s) s (blocks s) t memory e) (λ _ e. refl)
+unfolding succeeded status
+answered-nobody connection s t memory e =
+    nobody-exact (answered-beside connection s t memory) .1 (λ (q : answered connection s t memory .status ≡ status 1 33). false≢true (sym (ap succeeded q) ∙ e))
 
 -- a code's two bytes are 0 exactly if it is
 zero-code : (class code : ℕ) → code < 65536

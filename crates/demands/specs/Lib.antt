@@ -1,3 +1,4 @@
+pub mod HolderBeside
 pub mod Malformed
 pub mod PerformMoved
 pub mod FreeBytesMessage

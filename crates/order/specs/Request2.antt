@@ -1,5 +1,5 @@
 -- Change request 2 of document 02, "Say who holds the lock", sentence by sentence. Assumes nothing.
-use mathlib.Core.Path.{_≡_}
+use mathlib.Core.Path.{_≡_, sym}
 use mathlib.Core.Logic.{_↔_}
 use Prim.Native.Nat.{_+_, _^_, _≤_, _<_}
 use mathlib.Core.Bool.{true, false}
@@ -15,6 +15,8 @@ use Rattle.message.specs.declared.refusal.HeldBy.the-variants.{Nobody, Holder a
 use Rattle.message.specs.Message.{run}
 use Rattle.invariants.specs.ReaderSound.{spanOf, reader-sound}
 use Rattle.invariants.specs.Sound.{Good}
+use Rattle.claims.specs.YesOrNo.{takeBefore}
+use Rattle.claims.specs.BeforeHolder.{withoutHolder, before-holder}
 use Rattle.demands.specs.LoneLock.{Owner}
 use Rattle.demands.specs.CommandReasons.{OnlyTwoBits}
 use Rattle.demands.specs.RefusedCall.{Untouched}
@@ -84,10 +86,16 @@ pub record GrantedEarlier : Type 0 where
   -- and that happens: the second of two ranges is refused by the first
   pub happens : Answerable twoAsked × (gives twoAsked .holder ≡ held-by firstRange) × (gives twoAsked .tables ≡ plant 2 1)
 
+-- "The reply bytes do not change": all that a call gives but the holder, the reply, the tables and the file memory among it, is what document 01 alone gives, where a
+-- conflict is yes or no (claims/specs/YesOrNo.antt)
+abbrev pub RepliesStand : Type 0
+RepliesStand = (c : Call) → withoutHolder (gives c) ≡ takeBefore (c .connection) (c .message) (c .tables) (c .memory) (c .room)
+
 pub record Request2 : Type 0 where
   pub place-of-the-first : PlaceOfTheFirst
   pub beside-the-reply : BesideTheReply
   pub granted-earlier : GrantedEarlier
+  pub replies-stand : RepliesStand
 
 -- ---- the proof: each line cites the theorem that does the work
 
@@ -118,4 +126,5 @@ request-2 =
         undone = λ c h a. first-undone (c .connection) (c .message) (c .tables) (c .memory) (c .room) (a .fit) h;
         happens = (two-answerable, first-refuses .0, first-refuses .1);
       };
+      replies-stand = λ c. sym (before-holder (c .connection) (c .message) (c .tables) (c .memory) (c .room));
     }
