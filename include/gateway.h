@@ -97,10 +97,11 @@ struct gateway_tables {
 };
 
 /*
- * Whose lock is in the way of a message that is refused 1/33, lock conflict; in a chain, of the command that is refused. If
- * several are, it is the first in the list of locks as it then stood: in order of grant, this request's unlocks taken out,
- * its own ranges that were granted before at the end. The refusal undoes both, so the place need not be one in the tables
- * that the call leaves, and the bytes are given beside it. The open of that FID always stands in those tables.
+ * Whose lock is in the way of a message that is refused 1/33, lock conflict; in a chain, of the command that is refused. The
+ * ranges of a lock request are tried in order, and the first with a lock in its way decides. If several are in its way, it is
+ * the first in the list of locks as it then stood: in order of grant, this request's unlocks taken out, its own ranges that
+ * were granted before at the end. The refusal undoes both, so the place need not be one in the tables that the call leaves,
+ * and the bytes are given beside it. The open of that FID always stands in those tables.
  */
 struct gateway_holder {
     uint64_t held;    /* 1 if the reply's Status is 1/33; otherwise 0, and so is all else */
