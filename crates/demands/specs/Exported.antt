@@ -7,14 +7,16 @@ use Prim.Native.Nat.{ℕ, _<_, _≤_}
 use native.Mathlib.Omega.{arith}
 use native.Mathlib.Decide.{ℕ-discrete}
 use mathlib.Core.Bool.{true, false}
-use mathlib.Core.List.{List}
+use mathlib.Core.List.{List, [], _∷_}
 use lib.ListN.{length}
 use lib.Dec.{eqb}
 use borrow.Author.Tests.{eqb-true, eq-eqb}
 use Rattle.lists.specs.Truth.{decided, both-hold}
 use Rattle.host.specs.declared.answer.Returned.{Returned}
 use Rattle.host.specs.HostCall.{refused, done, addSession, addTree, addOpen, loadFile, loadMemory, dropConnection}
+use Rattle.locks.specs.declared.types.Holder.{Holder}
 use Rattle.message.specs.declared.refusal.HeldBy.{HeldBy}
+use Rattle.message.specs.declared.refusal.HeldBy.the-variants.{Nobody, Holder as held-by}
 use Rattle.message.specs.Message.{Taken, notTaken, take-message}
 use Rattle.invariants.specs.GivenCases.{cond-case}
 use Rattle.invariants.specs.HostCases.{loadFile-either, dropConnection-either}
@@ -65,10 +67,13 @@ pub record MessageSeen (connection : ℕ) (s w memory room : List ℕ) (long : �
   pub wrong-room : (length room < 12292) ⊎ (length memory ≡ 65536 → ⊥) → r ≡ 2
   pub number : inUseFit w ≡ true → r ≡ take-message connection s (tablesOf w) memory room .number
   pub unfit : 12292 ≤ length room → length memory ≡ 65536 → inUseFit w ≡ false → r ≡ 4
-  -- done: number, length, tables, file memory and reply room are demand 2's definition, and the holder's words are those of its holder
+  -- done: number, length, tables, file memory and reply room are demand 2's definition, and the six words are those of its holder: 1, FID, process, place, offset and
+  -- length, or all zero where it has none
   pub same : r ≡ 0
       → readTaken r long′ (take-message connection s (tablesOf w) memory room .holder) out memory′ room′ ≡ take-message connection s (tablesOf w) memory room
-  pub same-holder : r ≡ 0 → held′ ≡ holderWords (take-message connection s (tablesOf w) memory room .holder)
+  pub no-holder : r ≡ 0 → take-message connection s (tablesOf w) memory room .holder ≡ Nobody → held′ ≡ 0 ∷ 0 ∷ 0 ∷ 0 ∷ 0 ∷ 0 ∷ []
+  pub same-holder : r ≡ 0 → (h : Holder) → take-message connection s (tablesOf w) memory room .holder ≡ held-by h
+      → held′ ≡ 1 ∷ h .lock .fid ∷ h .lock .process ∷ h .place ∷ h .lock .offset ∷ h .lock .length ∷ []
   pub kept : (r ≡ 0 → ⊥) → (out ≡ w) × (memory′ ≡ memory) × (room′ ≡ room) × (long′ ≡ long) × (held′ ≡ held)
   pub again : ready w ≡ true → ready out ≡ true
 
@@ -249,10 +254,14 @@ module _ (connection : ℕ) (s w memory room : List ℕ) (long : ℕ) (held : Li
   unfolding notTaken
   unfit-four h e f = rw (message-unfit connection s w memory room f, room-right memory room h e)
 
+  given-words : r ≡ given .number → held′ ≡ holderAfter held given → r ≡ 0 → held′ ≡ holderWords (take-message connection s (tablesOf w) memory room .holder)
+  given-words number holder-out z =
+      holder-out ∙ sym (holder-given held given (sym number ∙ z)) ∙ ap (λ (k : Taken). holderWords (k .holder)) (core (taken-fits (sym number ∙ z)))
+
   -- `gateway_take_message`
   pub message-seen : r ≡ given .number → memory′ ≡ given .memory → room′ ≡ given .room → long′ ≡ lengthAfter long given → held′ ≡ holderAfter held given
       → ForNext w out r (given .tables) → MessageSeen connection s w memory room long held r out memory′ room′ long′ held′
-  unfolding notTaken
+  unfolding notTaken holderWords
   message-seen number bytes reply length-out holder-out next =
       record {
         wrong-room = ⊎-elim (λ h. number ∙ wrong-two (room-short memory room h)) (λ n. number ∙ wrong-two (memory-wrong memory room n));
@@ -268,8 +277,8 @@ module _ (connection : ℕ) (s w memory room : List ℕ) (long : ℕ) (held : Li
               memory = (bytes ∙ ap (λ (k : Taken). k .memory) c) i;
               room = (reply ∙ ap (λ (k : Taken). k .room) c) i;
             };
-        same-holder = λ z.
-            holder-out ∙ sym (holder-given held given (sym number ∙ z)) ∙ ap (λ (k : Taken). holderWords (k .holder)) (core (taken-fits (sym number ∙ z)));
+        no-holder = λ z e. given-words number holder-out z ∙ ap holderWords e;
+        same-holder = λ z h e. given-words number holder-out z ∙ ap holderWords e;
         kept = λ n.
             let refused-so : given .number ≡ 0 → ⊥ = λ z. n (number ∙ z) in
             let b = refused-given-back refused-so in (
