@@ -50,5 +50,6 @@ pub mod HolderWalk
 pub mod HolderCommand
 pub mod HolderStands
 pub mod HolderOpen
+pub mod HolderBytes
 pub mod HolderFirst
 pub mod HolderWire
