@@ -101,8 +101,9 @@ free-words = refl
 
 -- ---- the holder
 
--- held, fid, process, place, offset, length; all zero where there is none
+-- held, fid, process, place, offset, length; all zero where there is none. The values need the whole width of their fields.
 pub holder-words : (holderWords Nobody ≡ 0 ∷ 0 ∷ 0 ∷ 0 ∷ 0 ∷ 0 ∷ [])
-    × (holderWords (held-by (record { lock = record { fid = 31; process = 32; offset = 34; length = 35; shared = true }; place = 33 })) ≡ 1 ∷ 31 ∷ 32 ∷ 33 ∷ 34 ∷ 35 ∷ [])
+    × (holderWords (held-by (record { lock = record { fid = 65535; process = 4294967295; offset = 18446744060000000000; length = 13709551616; shared = true }; place = 900 }))
+    ≡ 1 ∷ 65535 ∷ 4294967295 ∷ 900 ∷ 18446744060000000000 ∷ 13709551616 ∷ [])
 unfolding holderWords
 holder-words = (refl, refl)
