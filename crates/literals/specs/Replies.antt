@@ -358,7 +358,7 @@ pub replies : map (λ r. given (r .tables) (r .request)) table ≡ map (λ r. r 
 unfolding table lockingReply readReply writeReply closeReply logoffReply disconnectReply exitReply noFlags otherFlags justFlags lockReadReply writeCloseReply lockRefusedReply unserved malformed noSession noTree noOpen noRead noWrite lockType noSuchLock passesTop noRecord lastRecord noSpace lastBytes holderOf message fewRecords tablesWith session tree open-of sizes memory given taken take-message dropped startsSmb isReply answered served replied replyOf replyHeader put runChain onlyStatus blocks blocksFrom blocksWithin afterParse afterBlock before parse answer linkFits linkAt mayFollow shaped bare le16At le32At callerOf run afterGiven after linkTo perform areaOf dataOf status statusOf replyBlock refusedBlock replySize linkWords two withSession isSession withTree withOpen isOpen openAt found foundFrom sound withinRoom fileOk treeOk permits holdsOpen openOk soundRecords lockOk agree agreeAll soundLocks fileOf isTree contains numberOk numbered any all allTails overlaps passesEnd reply success closeBlock lock100 lockBlock range100 parseLocking lockingFits isLarge rangeSize doLocking servedType requestOf locking request releaseAll afterFind removeAt named afterReleases grantAll afterWalk afterGrants settle rangesAt rangeAt rangeFrom numberAt rangePasses askOf lockOf answers answersFor inWay bars owns lockingAfter lockingEnd withLockList stored readBlock parseRead readFits wideOffset doRead unlessBarred barring askBy readBytes contents sizeOf writeBlock parseWrite writeFits dataInside doWrite endsPast resized written withFiles parseClose parseLogoff parseEmpty remove sweepSessions sweepTrees sweepOpens sweepLocks sessionNamed treeNamed openNamed sessionStays treeStays openStays lockStays keep withSessions withTrees withOpens withLocks refusal opened lock
 replies = refl
 
--- ---- "1/33 lock conflict", and who holds the lock
+-- ---- "1/33 lock conflict", and the holder
 
 -- an answer with the lock of that FID and process, at that place, that starts there and has that many bytes, shared or not
 unfoldable pub heldAt : ℕ → ℕ → ℕ → ℕ → ℕ → Bool → Given → Given
@@ -392,6 +392,15 @@ unfoldable pub readHeld : Row
 readHeld =
     record { tables = contested; request = message 0x2E 0x7F 0xFF (readBlock 4); said = heldAt 9 8 3 4 6 false (refusal 0x2E 1 0x21 0x00) }
 
+-- of two in the way of that read the holder is "the first conflicting lock in the list", though the other starts before it
+unfoldable pub firstOfTwo : Row
+firstOfTwo =
+    record {
+      tables = opened 2 (lock 9 5 1 ∷ lock 8 4 1 ∷ lock 7 2 1 ∷ []);
+      request = message 0x2E 0x7F 0xFF (readBlock 4);
+      said = heldAt 4 8 1 4 1 false (refusal 0x2E 1 0x21 0x00);
+    }
+
 -- a write to 2 to 4 meets a shared lock
 unfoldable pub writeHeld : Row
 writeHeld =
@@ -414,6 +423,15 @@ lockHeld =
 -- the range of that process, 10 bytes from there on
 unfoldable pub rangeOf : ℕ → ℕ → List ℕ
 rangeOf process offset = process ∷ 0 ∷ offset ∷ 0 ∷ 0 ∷ 0 ∷ 10 ∷ 0 ∷ 0 ∷ 0 ∷ []
+
+-- "locks in order": 100 to 110 is asked first and meets the fifth in the list; 2 to 12, asked behind it, would meet the second
+unfoldable pub firstRangeHeld : Row
+firstRangeHeld =
+    record {
+      tables = contested;
+      request = message 0x24 0x7F 0xFF (lockBlock 0xFF 0 0 2 20 (range100 ++ rangeOf 0x51 2));
+      said = heldAt 4 0x1B1A 4 109 11 false (refusal 0x24 1 0x21 0x00);
+    }
 
 -- "A lock granted earlier in the same request may be the answer, though it is undone": 200 to 210 of process 0x51, then 205 to 215 of process 0x61; five are listed
 unfoldable pub ownRangeHeld : Row
@@ -446,10 +464,10 @@ chainHeld =
 
 -- each reply has the holder that document 02 says, beside the bytes that document 01 says
 unfoldable pub conflicts : List Row
-conflicts = conflict ∷ readHeld ∷ writeHeld ∷ writeOwnShared ∷ lockHeld ∷ ownRangeHeld ∷ unlockHeld ∷ chainHeld ∷ []
+conflicts = conflict ∷ readHeld ∷ firstOfTwo ∷ writeHeld ∷ writeOwnShared ∷ lockHeld ∷ firstRangeHeld ∷ ownRangeHeld ∷ unlockHeld ∷ chainHeld ∷ []
 
 pub held : map (λ r. given (r .tables) (r .request)) conflicts ≡ map (λ r. r .said) conflicts
-unfolding conflicts conflict readHeld writeHeld writeOwnShared lockHeld ownRangeHeld unlockHeld chainHeld heldAt contested rangeOf holderAt holderOf opened lock refusal reply message fewRecords tablesWith session tree open-of sizes memory given taken take-message dropped startsSmb isReply answered served replied replyOf replyHeader put runChain onlyStatus blocks blocksFrom blocksWithin afterParse afterBlock before parse answer linkFits linkAt mayFollow shaped bare le16At le32At callerOf run afterGiven after linkTo perform areaOf dataOf status statusOf replyBlock refusedBlock replySize linkWords two withSession isSession withTree withOpen isOpen openAt found foundFrom sound withinRoom fileOk treeOk permits holdsOpen openOk soundRecords lockOk agree agreeAll soundLocks fileOf isTree contains numberOk numbered any all allTails overlaps passesEnd lock100 lockBlock range100 parseLocking lockingFits isLarge rangeSize doLocking servedType requestOf locking request releaseAll afterFind removeAt named afterReleases grantAll afterWalk afterGrants settle rangesAt rangeAt rangeFrom numberAt rangePasses askOf lockOf answers answersFor inWay bars owns lockingAfter lockingEnd withLockList stored readBlock parseRead readFits wideOffset doRead unlessBarred barring askBy readBytes contents sizeOf writeBlock parseWrite writeFits dataInside doWrite endsPast resized written withFiles
+unfolding conflicts conflict readHeld firstOfTwo writeHeld writeOwnShared lockHeld firstRangeHeld ownRangeHeld unlockHeld chainHeld heldAt contested rangeOf holderAt holderOf opened lock refusal reply message fewRecords tablesWith session tree open-of sizes memory given taken take-message dropped startsSmb isReply answered served replied replyOf replyHeader put runChain onlyStatus blocks blocksFrom blocksWithin afterParse afterBlock before parse answer linkFits linkAt mayFollow shaped bare le16At le32At callerOf run afterGiven after linkTo perform areaOf dataOf status statusOf replyBlock refusedBlock replySize linkWords two withSession isSession withTree withOpen isOpen openAt found foundFrom sound withinRoom fileOk treeOk permits holdsOpen openOk soundRecords lockOk agree agreeAll soundLocks fileOf isTree contains numberOk numbered any all allTails overlaps passesEnd lock100 lockBlock range100 parseLocking lockingFits isLarge rangeSize doLocking servedType requestOf locking request releaseAll afterFind removeAt named afterReleases grantAll afterWalk afterGrants settle rangesAt rangeAt rangeFrom numberAt rangePasses askOf lockOf answers answersFor inWay bars owns lockingAfter lockingEnd withLockList stored readBlock parseRead readFits wideOffset doRead unlessBarred barring askBy readBytes contents sizeOf writeBlock parseWrite writeFits dataInside doWrite endsPast resized written withFiles
 held = refl
 
 -- ---- what else the call leaves
