@@ -27,13 +27,13 @@ use Rattle.invariants.specs.Fit.{fit-answered}
 use Rattle.order.specs.Call.{Call, gives, Answerable}
 use Rattle.order.specs.Possible.{plant, asked, plant-good, answerable}
 
--- LOCKING through FID 1, exclusive, with no unlock and two locks: the bytes 0 to 9 for process 7 and 5 to 14 for process 8
+-- LOCKING through FID 1, exclusive, with no unlock and two locks: the bytes 0 to 9 for process 8 and 5 to 14 for process 9; the header's process is 7, as the open's
 unfoldable pub twoRanges : List ℕ
 twoRanges =
     (0xFF ∷ 0x53 ∷ 0x4D ∷ 0x42 ∷ 0x24 ∷ replicate 19 0) ++ ((1 ∷ 0 ∷ 7 ∷ 0 ∷ 1 ∷ 0 ∷ 3 ∷ 0 ∷ [])
     ++ (8 ∷ 0xFF ∷ 0 ∷ 0 ∷ 0 ∷ 1 ∷ 0 ∷ 0 ∷ 0 ∷ 0 ∷ 0 ∷ 0 ∷ 0 ∷ 0 ∷ 0 ∷ 2 ∷ 0 ∷ 20 ∷ 0
-    ∷ 7 ∷ 0 ∷ 0 ∷ 0 ∷ 0 ∷ 0 ∷ 10 ∷ 0 ∷ 0 ∷ 0
-    ∷ 8 ∷ 0 ∷ 5 ∷ 0 ∷ 0 ∷ 0 ∷ 10 ∷ 0 ∷ 0 ∷ 0 ∷ []))
+    ∷ 8 ∷ 0 ∷ 0 ∷ 0 ∷ 0 ∷ 0 ∷ 10 ∷ 0 ∷ 0 ∷ 0
+    ∷ 9 ∷ 0 ∷ 5 ∷ 0 ∷ 0 ∷ 0 ∷ 10 ∷ 0 ∷ 0 ∷ 0 ∷ []))
 
 -- sent where one lock is held, elsewhere in the file
 unfoldable pub twoAsked : Call
@@ -41,7 +41,7 @@ twoAsked = asked twoRanges (plant 2 1)
 
 -- its first range stands behind that lock: the request's FID, that range's process
 unfoldable pub firstRange : Holder
-firstRange = record { lock = record { fid = 1; process = 7; offset = 0; length = 10; shared = false }; place = 1 }
+firstRange = record { lock = record { fid = 1; process = 8; offset = 0; length = 10; shared = false }; place = 1 }
 
 kept : dropped twoRanges ≡ false
 unfolding dropped startsSmb isReply twoRanges
