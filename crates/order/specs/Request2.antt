@@ -23,8 +23,9 @@ use Rattle.demands.specs.RefusedCall.{Untouched}
 use Rattle.demands.specs.WireFields.{readFrom, writeFrom}
 use Rattle.demands.specs.HolderExactly.{holder-exactly, nobody-exactly, undone-nobody}
 use Rattle.demands.specs.HolderWords.{FirstInWay}
-use Rattle.demands.specs.HolderStands.{Met, holder-exact, holder-one, tables-then}
+use Rattle.demands.specs.HolderStands.{Met, holder-exact, tables-then}
 use Rattle.demands.specs.HolderOpen.{HolderFound, holder-found}
+use Rattle.demands.specs.HolderBytes.{holder-bytes}
 use Rattle.demands.specs.HolderFirst.{FirstMeets, alone-first, first-undone, read-first, write-first, lone-lock-first}
 use Rattle.demands.specs.HolderWire.{LockHeldOn, OwnRangeOn, lock-first, lock-own, lock-listed}
 use Rattle.order.specs.Call.{Call, gives, Answerable, Says, sender}
@@ -32,14 +33,14 @@ use Rattle.order.specs.Demand2.{rangeAsked, sharedAsked, AsksOneLock, Va
 use Rattle.order.specs.Possible.{plant}
 use Rattle.order.specs.Possible2.{twoAsked, firstRange, two-answerable, first-refuses}
 
--- A holder is the lock in the way, with its FID and process, and its place, from 0 (locks/src/types.rt). What a call gives has one, or nobody (message/specs/Message.antt),
--- and the contract of the entry point puts it into the host's words (boundary/specs/Boundary.antt). The first command of a message met him where the reply is the header and
+-- A holder is the lock in the way, with its FID and process, and its place, from 0 (locks/src/types.rt). What a call gives has one, or none (message/specs/Message.antt),
+-- and the contract of the entry point puts it into the host's words (boundary/specs/Boundary.antt). The first command of a message met it where the reply is the header and
 -- one refused block (`FirstMeets`).
 
 -- "The conflict test is to give, instead of yes or no, the place of the first conflicting lock in the list as it then stands": the holder is exactly the lock at the first
 -- place of that list that is in the way (`FirstInWay`)
 pub record PlaceOfTheFirst : Type 0 where
-  -- of a LOCKING: "this request's unlocks taken out, its own earlier ranges at the end", for the first of its ranges that has one in its way
+  -- of a LOCKING: the request's unlocks are taken out, its own earlier ranges stand at the end (docs/DECISIONS.md, 67), for the first of its ranges that has one in its way
   pub lock : (c : Call) (spans : List Span) (h : Holder) → Answerable c → Reading (c .message) spans → headerCommand (c .message) ≡ LOCKING
       → FirstMeets (gives c) h ↔ LockHeldOn (c .connection) (c .message) (c .tables) h
   -- demand 2's "lock alone in its request, of a served type, on a valid open and within range": the first "listed lock of that file" that "overlaps it and the two aren't
@@ -64,15 +65,17 @@ pub record BesideTheReply : Type 0 where
   pub exactly-conflict : (c : Call) → gives c .number ≡ 0 → ((h : Holder) × (gives c .holder ≡ held-by h)) ↔ Says c 1 33
   pub nobody-else : (c : Call) → gives c .number ≡ 0 → (gives c .holder ≡ Nobody) ↔ (Says c 1 33 → ⊥)
   pub not-done : (c : Call) → (gives c .number ≡ 0 → ⊥) → gives c .holder ≡ Nobody
-  -- in a chain that of the refused command, on the tables that the commands before it left; the call leaves just these; the commands are a reading's blocks; and there is no
-  -- other holder
+  -- in a chain that of the refused command, on the tables that the commands before it left; the call leaves just these; and the commands are a reading's blocks. A later
+  -- command's fields are the reader's here; that they are the bytes' of its own message is demand 1's `holder-alone` with `read` and `write` above on that message, which is
+  -- fit to be answered and one command alone (demand 3's `EachAlone`). By the grammar a LOCKING is the first command, so that `lock` covers every LOCKING.
   pub chain : (c : Call) (h : Holder) → Answerable c → (gives c .holder ≡ held-by h) ↔ Met (c .connection) (c .message) (c .tables) (c .memory) h
   pub begun-on : (c : Call) (h : Holder) → Answerable c → (m : Met (c .connection) (c .message) (c .tables) (c .memory) h)
       → gives c .tables ≡ run (sender c) (c .message) (m .front) FIRST (c .tables) (c .memory) .tables
   pub of-a-reading : (c : Call) (h : Holder) (m : Met (c .connection) (c .message) (c .tables) (c .memory) h) → Reading (c .message) (map spanOf (m .front ++ (m .command ∷ m .later)))
-  pub one-holder : (c : Call) (h g : Holder) → Answerable c → Met (c .connection) (c .message) (c .tables) (c .memory) h → Met (c .connection) (c .message) (c .tables) (c .memory) g → h ≡ g
   -- "we can't name the terminal": by the FID the host finds one open, and one session with its connection, in the tables that the call leaves
   pub terminal : (c : Call) (h : Holder) → Good (c .tables) → gives c .holder ≡ held-by h → HolderFound (gives c .tables) h
+  -- and the bytes that are locked: at least one, and none past 2^64, so that the last is offset + length - 1
+  pub bytes : (c : Call) (h : Holder) → Good (c .tables) → gives c .holder ≡ held-by h → (1 ≤ h .lock .length) × (h .lock .offset + h .lock .length ≤ 2 ^ 64)
 
 -- "A lock granted earlier in the same request may be the answer, though it is undone"
 pub record GrantedEarlier : Type 0 where
@@ -117,8 +120,8 @@ request-2 =
         chain = λ c h a. holder-exact (c .connection) (c .message) (c .tables) (c .memory) (c .room) (a .good) (a .fit) h;
         begun-on = λ c h a. tables-then (c .connection) (c .message) (c .tables) (c .memory) (c .room) (a .good) (a .fit) h;
         of-a-reading = λ c h m. reader-sound (c .message) (m .front ++ (m .command ∷ m .later)) (m .read);
-        one-holder = λ c h g a. holder-one (c .connection) (c .message) (c .tables) (c .memory) (c .room) (a .good) (a .fit) h g;
         terminal = λ c h good. holder-found (c .connection) (c .message) (c .tables) (c .memory) (c .room) good h;
+        bytes = λ c h good. holder-bytes (c .connection) (c .message) (c .tables) (c .memory) (c .room) good h;
       };
       granted-earlier = record {
         own = λ c spans h a r e. lock-own (c .connection) (c .message) r (c .tables) (c .memory) (c .room) (a .fit) e h;
