@@ -105,8 +105,8 @@ LoneLock =
     (c : Call) (spans : List Span) (o : Open) → Answerable c → Reading (c .message) spans → AsksOneLock c → OnlyTwoBits (lockType (c .message) FIRST) → ValidOpen c o
     → rangeAsked c .offset + rangeAsked c .length ≤ 2 ^ 64 → RefusedForConflict c ↔ ((l : Lock) × Conflicting c o l)
 
--- document 01: "A read is refused 1/33 exactly if an exclusive lock of another owner overlaps offset and max; a write exactly if any lock overlaps it save the
--- writer's own exclusive ones", where it is the first command of the message
+-- document 01: "A read is refused 1/33 exactly if an exclusive lock of another owner overlaps offset and max." "A write is refused 1/33 exactly if any lock overlaps
+-- it save the writer's own exclusive ones." Each here as the first command of the message
 pub record FirstTransfer : Type 0 where
   pub read : (c : Call) (spans : List Span) (o : Open) → Answerable c → Reading (c .message) spans → headerCommand (c .message) ≡ READ → ValidOpen c o → (o .access ≡ 1 → ⊥)
       → RefusedForConflict c ↔ BarsReadOn (c .message) (c .tables) o
