@@ -23,7 +23,7 @@ use Rattle.message.specs.Reply.{replySize}
 use Rattle.message.specs.Message.{areaOf, dataOf, Ran, after, afterGiven, run, served, onlyStatus, runChain, answered}
 use Rattle.invariants.specs.GivenCases.{cond-case}
 
--- a Status and what the host gets beside it: somebody beside 1/33, and nobody beside any other
+-- a Status and what the host gets beside it: a holder beside 1/33, and none beside any other
 pub data Beside (n : Status) : HeldBy → Type 0 where
   somebody : {h : Holder} → n ≡ status 1 33 → Beside n (held-by h)
   nobody : (n ≡ status 1 33 → ⊥) → Beside n Nobody

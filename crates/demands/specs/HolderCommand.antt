@@ -1,4 +1,4 @@
--- A command is refused for conflict with a holder exactly if that holder's lock is in its way in plain words (document 02, CR 2: "Locks, reads and writes pass it up").
+-- A command is refused for conflict with a holder exactly if that holder is in its way, in plain words (document 02, CR 2: "Locks, reads and writes pass it up").
 -- Assumes nothing.
 use mathlib.Core.Path.{_≡_, refl, sym, ap, _∙_}
 use mathlib.Core.Logic.{_↔_, inl, inr}
@@ -48,7 +48,7 @@ use Rattle.demands.specs.CommandReasons.{Announced, OnlyTwoBits, served-
 use Rattle.demands.specs.HolderWords.{TransferHeld, ReadHeld, WriteHeld, LockHeld, CommandHeld, read-held, write-held, lock-held, never, held-read, held-write, held-lock}
 use Rattle.demands.specs.HolderWalk.{Way, found-first, first-place, asked-exact, blocked-held, held-blocked}
 
--- refused for that holder's lock
+-- refused for conflict with that holder
 abbrev pub Names : Given → Holder → Type 0
 Names g h = g ≡ refused (Conflict h)
 
@@ -81,7 +81,7 @@ module _ (c : Caller) (t : Tables) (memory : List ℕ) (ok : sound t ≡ true) w
   barred-names q (At j) next h n e f = let same : holderAt (locksOf t) j ≡ h = cc in (j, e, same)
   barred-names q Nothing next h n e f = absurd (n f)
 
-  -- both are told by the access denied, by what is asked of the list and by what follows where nothing is in the way, which names nobody
+  -- both are told by the access denied, by what is asked of the list and by what follows where nothing is in the way, which has no holder
   module _ (denied : ℕ) (q : Ask) {Clash : Lock → Type 0} (clashes : (l : Lock) → (bars (q .purpose) q l ≡ true) ↔ Clash l)
       (asks : (l : Lock) → answers (fileOf (opensOf t)) q l ≡ inWay (fileOf (opensOf t)) q l) (next : Open → Given) (h : Holder) (others : (o : Open) → Names (next o) h → ⊥) where
     abbrev transfer : Open → Given
@@ -156,7 +156,7 @@ module _ (c : Caller) (t : Tables) (memory : List ℕ) (ok : sound t ≡ true) w
     locking-is k may e =
         with-open c t (f .fid) k _ may ∙ rw (e, eq-eqb (length area) ((f .unlocks + f .locks) * rangeSize (eqb (f .kind / 16 % 2) 1)) announced)
 
-    -- the grants that name somebody are those blocked by him
+    -- the grants that have a holder are those blocked by it
     grants-name : (x : Grants) → Names (ends (afterGrants x)) h → x ≡ blocked h
     unfolding afterGrants settle lockingAfter lockingEnd
     grants-name (granted list) e =
@@ -205,7 +205,7 @@ module _ (c : Caller) (t : Tables) (memory : List ℕ) (ok : sound t ≡ true) w
 
   -- ---- all seven
 
-  -- the commands that ask the list for nothing name nobody
+  -- the commands that ask the list for nothing have no holder
   pub perform-held : (b : Body) (area bytes : List ℕ) → Announced b area → (h : Holder) → Names (perform c t memory b area bytes) h ↔ CommandHeld c t area b h
   unfolding perform Announced
   perform-held (LockingBody f) area bytes k h =

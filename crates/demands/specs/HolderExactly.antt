@@ -40,7 +40,7 @@ module _ (connection : ℕ) (s : List ℕ) (t : Tables) (memory room : List ℕ)
   pub holder-exactly : call .number ≡ 0 → ((h : Holder) × (call .holder ≡ held-by h)) ↔ (statusRead (call .room) ≡ status 1 33)
   holder-exactly e = somebody-exact (call-beside e)
 
-  -- and nobody exactly if it is another
+  -- and none exactly if it is another
   pub nobody-exactly : call .number ≡ 0 → (call .holder ≡ Nobody) ↔ (statusRead (call .room) ≡ status 1 33 → ⊥)
   nobody-exactly e = nobody-exact (call-beside e)
 

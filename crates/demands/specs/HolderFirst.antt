@@ -52,7 +52,7 @@ use Rattle.demands.specs.HolderExactly.{call, holder-answered, holder-ex
 use Rattle.demands.specs.HolderWords.{FirstInWay, TransferHeld, LockHeld, CommandHeld, never, held-read, held-write, held-lock}
 use Rattle.demands.specs.HolderCommand.{Names, perform-held}
 
--- the host gets this holder, and the first command of the message met him: the reply is the header and one refused block. (Where a later command is refused, the reply has
+-- the host gets this holder, and the first command of the message met it: the reply is the header and one refused block. (Where a later command is refused, the reply has
 -- the first one's block too.)
 abbrev pub FirstMeets : Taken → Holder → Type 0
 FirstMeets taken h = (taken .holder ≡ held-by h) × (taken .length ≡ 35)
@@ -85,7 +85,7 @@ module _ (connection : ℕ) (s : List ℕ) (t : Tables) (memory room : List ℕ)
         perform-held (callerOf connection s) t memory (fit .tables-sound) (b .body) (areaOf s b) (dataOf s b)
         (all-first (chained-announced (read-chained s (headerCommand s) FIRST (b ∷ bs) e))) h
 
-    -- so the holder is the one whose lock is in the first command's way, whatever commands follow
+    -- so the holder is the lock in the first command's way, whatever commands follow
     pub first-held : FirstMeets (call connection s t memory room) h ↔ CommandHeld (callerOf connection s) t (areaOf s b) (b .body) h
     first-held = (
       λ n. let said = holder-exactly connection s t memory room (done-exact connection s t memory room .1 fit) .0 (h, n .0) in

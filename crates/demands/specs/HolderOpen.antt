@@ -37,7 +37,7 @@ use Rattle.demands.specs.HolderStands.{holder-exact, held-then}
 
 -- ---- an own earlier range
 
--- "An own earlier range as holder: the request's FID and that range's process": a range of a LOCKING before the one that met it, by its lock's fields
+-- an own earlier range as holder, the request's FID and that range's process: a range of a LOCKING before the one that met it, by its lock's fields
 pub record OwnRange (f : LockingFields) (area : List ℕ) (granted : ℕ) (l : Lock) : Type 0 where
   pub range : LockRange
   pub earlier : In range (rangesAt (eqb (f .kind / 16 % 2) 1) area (f .unlocks) granted)
@@ -68,7 +68,7 @@ module _ {c : Caller} {t : Tables} {f : LockingFields} {area : List ℕ} {h : Ho
   there-is : getD (r .left ++ own) (h .place) noLock ≡ h .lock
   there-is = ap (λ (l : List Lock). getD l (h .place) noLock) (sym (r .held .as-it-stands)) ∙ r .held .first .stands-there
 
-  -- "its own earlier ranges at the end": a place behind what the unlocks left is one of theirs
+  -- its own earlier ranges stand at the end: a place behind what the unlocks left is one of theirs
   pub holder-own : length (r .left) ≤ h .place → OwnRange f area (r .held .granted) (h .lock)
   holder-own low =
       let inside : h .place < length (r .held .standing) = r .held .first .in-list in
@@ -88,7 +88,7 @@ module _ {c : Caller} {t : Tables} {f : LockingFields} {area : List ℕ} {h : Ho
 
 -- ---- the open and the session
 
--- the host finds the holder by his FID: one open of the tables has it, and one session that open's UID; the session's connection is the terminal's
+-- by a holder's FID the host finds the terminal: one open of the tables has it, and one session that open's UID; the session's connection is the terminal's
 pub record HolderFound (t : Tables) (h : Holder) : Type 0 where
   pub through : Open
   pub listed : In through (opensOf t)

@@ -30,7 +30,7 @@ use Rattle.demands.specs.HolderExactly.{call, holder-answered}
 use Rattle.demands.specs.HolderWords.{CommandHeld, never}
 use Rattle.demands.specs.HolderCommand.{Names, perform-held}
 
--- only a conflict names somebody
+-- only a conflict has a holder
 names-conflict : (why : Refusal) (h : Holder) → holderOf why ≡ held-by h → why ≡ Conflict h
 unfolding holderOf
 names-conflict NotServed h e = never cc
@@ -48,7 +48,7 @@ names-conflict NoSpace h e = never cc
 
 -- ---- commands one behind the other
 
--- those in front were carried out, and the next met the holder's lock on the tables that they left
+-- those in front were carried out, and the next met the holder on the tables that they left
 record MetFrom (c : Caller) (s : List ℕ) (bs : List Block) (place : ℕ) (t : Tables) (memory : List ℕ) (h : Holder) : Type 0 where
   front : List Block
   command : Block
@@ -88,7 +88,7 @@ module _ (c : Caller) (s : List ℕ) where
       met-by b bs place t memory h (gives c s b t memory) refl (perform-held c t memory (g .sound) (b .body) (areaOf s b) (dataOf s b) a h .0)
       (λ u m said d. run-met more (place + replySize said) u m (left-good c s b t memory g u m said d) h) e
 
-  -- and the other way round: he is named, and what those in front left stands
+  -- and the other way round: it is passed up, and what those in front left stands
   record PassedUp (bs front : List Block) (place : ℕ) (t : Tables) (memory : List ℕ) (h : Holder) : Type 0 where
     holder-named : run c s bs place t memory .holder ≡ held-by h
     tables-left : run c s bs place t memory .tables ≡ run c s front place t memory .tables
@@ -124,7 +124,7 @@ module _ (c : Caller) (s : List ℕ) where
 
 -- ---- said of the call
 
--- the commands of the message's reading up to the refused one: those before it carried out, and the holder's lock in its way on the tables that they left
+-- the commands of the message's reading up to the refused one: those before it carried out, and the holder in its way on the tables that they left
 pub record Met (connection : ℕ) (s : List ℕ) (t : Tables) (memory : List ℕ) (h : Holder) : Type 0 where
   pub front : List Block
   pub command : Block
@@ -134,7 +134,7 @@ pub record Met (connection : ℕ) (s : List ℕ) (t : Tables) (memory : List ℕ
   pub front-done : run (callerOf connection s) s front FIRST t memory .status ≡ status 0 0
   pub held : CommandHeld (callerOf connection s) (run (callerOf connection s) s front FIRST t memory .tables) (areaOf s command) (command .body) h
 
--- a message that is not served, or no sentence, names nobody
+-- a message that is not served, or no sentence, has no holder
 data Sentenced (connection : ℕ) (s : List ℕ) (t : Tables) (memory : List ℕ) (h : Holder) : Type 0 where
   read-as : (bs : List Block) → blocks s ≡ some bs → run (callerOf connection s) s bs FIRST t memory .holder ≡ held-by h → Sentenced connection s t memory h
 
@@ -166,7 +166,7 @@ module _ (connection : ℕ) (s : List ℕ) (t : Tables) (memory room : List ℕ)
       met-run c s (m .front) (m .command) (m .later) FIRST t memory h
       (chained-announced (read-chained s (headerCommand s) FIRST (m .front ++ (m .command ∷ m .later)) (m .read))) g (m .front-done) (m .held)
 
-  -- the host gets a holder exactly if a command of the message met his lock, those before it being carried out
+  -- the host gets a holder exactly if a command of the message met it, those before it being carried out
   pub holder-exact : (call connection s t memory room .holder ≡ held-by h) ↔ Met connection s t memory h
   holder-exact = (
     λ e. sentence-met (answered-sentenced connection s t memory h (sym (holder-answered connection s t memory room fit) ∙ e)),

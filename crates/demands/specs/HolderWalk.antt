@@ -1,4 +1,4 @@
--- The walk over the list of locks finds the first one in the way, and its record there is the holder's (document 02, CR 2: "The conflict test is to give, instead of
+-- The walk over the list of locks finds the first one in the way, and that lock is the holder (document 02, CR 2: "The conflict test is to give, instead of
 -- yes or no, the place of the first conflicting lock in the list as it then stands"). Assumes nothing.
 use mathlib.Core.Path.{_≡_, refl, sym, ap, _∙_}
 use mathlib.Core.Logic.{_↔_}

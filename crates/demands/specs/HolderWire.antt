@@ -37,7 +37,7 @@ use Rattle.demands.specs.HolderOpen.{holder-own, holder-listed}
 -- ---- the plain words
 
 -- a LOCKING of a served type with its ranges within 2^64, through an open: its unlocks leave a list of those held, `granted` of its locks stand behind it, none having
--- had a lock in its way, and the next range has the holder's, as the first of the list that then stands
+-- had a lock in its way, and the next range has the holder in its way, the first of the list that then stands
 pub record LockHeldOn (connection : ℕ) (s : List ℕ) (t : Tables) (h : Holder) : Type 0 where
   pub through : Open
   pub admitted : Admitted (callerOf connection s) t (fidAfterAndx s FIRST) through
@@ -55,7 +55,7 @@ pub record LockHeldOn (connection : ℕ) (s : List ℕ) (t : Tables) (h : Holder
   pub asked-is : GrantedLock s range asked
   pub first : FirstInWay t through standing (asked .offset) (asked .length) (λ l. (l .shared ≡ true) × (asked .shared ≡ true) → ⊥) h
 
--- one of the request's own earlier ranges, from the k-th on: "the request's FID and that range's process"
+-- one of the request's own earlier ranges, from the k-th on: the request's FID and that range's process
 pub record OwnRangeOn (s : List ℕ) (k n : ℕ) (l : Lock) : Type 0 where
   pub place : ℕ
   pub from : k ≤ place
@@ -128,7 +128,7 @@ module _ (connection : ℕ) (s : List ℕ) (t : Tables) (h : Holder) (fits : (un
         };
       }
 
-  -- "its own earlier ranges at the end": a holder at a place behind what the unlocks left is one of them
+  -- its own earlier ranges stand at the end: a holder at a place behind what the unlocks left is one of them
   own-range-on : (r : LockHeldOn connection s t h) → length (r .left) ≤ h .place → OwnRangeOn s u (r .granted) (h .lock)
   unfolding from-wire
   own-range-on r low =
@@ -160,7 +160,7 @@ module _ (connection : ℕ) (s : List ℕ) (t : Tables) (h : Holder) (fits : (un
 
 module _ (connection : ℕ) (s : List ℕ) {spans : List Span} (r : Reading s spans) (t : Tables) (memory room : List ℕ) (fit : Fit s t memory room) (e : headerCommand s ≡ LOCKING)
     (h : Holder) where
-  -- the host gets the holder whose lock is in the way of one of its ranges, whatever commands follow
+  -- the host gets as holder the lock in the way of one of its ranges, whatever commands follow
   pub lock-first : FirstMeets (call connection s t memory room) h ↔ LockHeldOn connection s t h
   unfolding bodyAt
   lock-first =
@@ -169,7 +169,7 @@ module _ (connection : ℕ) (s : List ℕ) {spans : List Span} (r : Reading s sp
       let w = rw (first-area (q .1), first-body (q .1) LOCKING e) at (first-held connection s t memory room fit h (q .1 .block) (q .0) (q .1 .is-read)) in
       (λ n. to-wire connection s t h fits (held-lock .0 (w .0 n)), λ k. w .1 (held-lock .1 (from-wire connection s t h fits k)))
 
-  -- "An own earlier range as holder: the request's FID and that range's process"
+  -- an own earlier range as holder: the request's FID and that range's process
   pub lock-own : (k : LockHeldOn connection s t h) → length (k .left) ≤ h .place → OwnRangeOn s (unlockCount s FIRST) (k .granted) (h .lock)
   lock-own = own-range-on connection s t h (locking-fits (reading-first r .1) e)
 

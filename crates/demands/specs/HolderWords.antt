@@ -1,4 +1,4 @@
--- Who holds the lock, in plain words (document 02, CR 2: "the place of the first conflicting lock in the list as it then stands", for "locks, reads and writes"). What
+-- Who holds the lock, in plain words (document 02, CR 2: "the place of the first conflicting lock in the list as it then stands", for "Locks, reads and writes"). What
 -- is in the way is said as for the refusal itself (LoneLock.antt, CommandReasons.antt). Assumes nothing.
 use mathlib.Core.Path.{_≡_, refl, sym, ap, _∙_}
 use mathlib.Core.Logic.{_↔_}
@@ -33,7 +33,7 @@ use Rattle.demands.specs.CommandReasons.{OnlyTwoBits, unlocksIn, locksIn
 
 -- ---- the plain words
 
--- the holder's lock stands at its place of the list and is in the way: of the open's file, overlapping the range, clashing with what is asked. None before it is.
+-- the holder stands at its place of the list and is in the way: of the open's file, overlapping the range, clashing with what is asked. None before it is.
 pub record FirstInWay (t : Tables) (o : Open) (list : List Lock) (offset size : ℕ) (Clash : Lock → Type 0) (h : Holder) : Type 0 where
   pub in-list : h .place < length list
   pub stands-there : getD list (h .place) noLock ≡ h .lock
@@ -68,7 +68,7 @@ pub record RangeHeld (t : Tables) (o : Open) (fid : ℕ) (shared large : Bool) (
   pub first : FirstInWay t o standing (rangeAt large area (k + granted) .offset) (rangeAt large area (k + granted) .length)
       (λ l. (l .shared ≡ true) × (shared ≡ true) → ⊥) h
 
--- a LOCKING of a served type with its ranges within 2^64: "this request's unlocks taken out, its own earlier ranges at the end"
+-- a LOCKING of a served type with its ranges within 2^64: the request's unlocks are taken out, its own earlier ranges stand at the end (docs/DECISIONS.md, 67)
 pub record LockHeld (c : Caller) (t : Tables) (f : LockingFields) (area : List ℕ) (h : Holder) : Type 0 where
   pub through : Open
   pub admitted : Admitted c t (f .fid) through
@@ -78,7 +78,7 @@ pub record LockHeld (c : Caller) (t : Tables) (f : LockingFields) (area : List �
   pub within : PastEnd (locksIn f area) → ⊥
   pub held : RangeHeld t through (f .fid) (sharedIn f) (eqb (f .kind / 16 % 2) 1) area (f .unlocks) (f .locks) left h
 
--- the command with these fields and this byte area, begun on these tables, has the holder's lock in its way
+-- the command with these fields and this byte area, begun on these tables, has that holder in its way
 pub data CommandHeld (c : Caller) (t : Tables) (area : List ℕ) (body : Body) (h : Holder) : Type 0 where
   read-held : (f : ReadFields) → body ≡ ReadBody f → ReadHeld c t f h → CommandHeld c t area body h
   write-held : (f : WriteFields) → body ≡ WriteBody f → WriteHeld c t f h → CommandHeld c t area body h

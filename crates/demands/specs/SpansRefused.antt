@@ -52,7 +52,7 @@ module _ (connection : ℕ) (s small : List ℕ) where
     carried-then : {b : Span} {bs : List Span} {t : Tables} {memory : List ℕ} → carriedOut (sent b t memory) ≡ true
         → AllCarried bs (sent b t memory .tables) (sent b t memory .memory) → AllCarried (b ∷ bs) t memory
 
-  -- how a chain of these blocks was refused with status n, who holds the lock in its way, and which tables and file memory it left
+  -- how a chain of these blocks was refused with status n, with which holder, and which tables and file memory it left
   pub record RefusedAt (spans : List Span) (t : Tables) (memory : List ℕ) (n : Status) (holder : HeldBy) (tables : Tables) (left : List ℕ) : Type 0 where
     -- the blocks: those before the one refused, this one, those after it
     pub front : List Span
