@@ -6,7 +6,7 @@ use Prim.Native.Nat.{ℕ, _+_, _/_, _%_, _^_, _<_}
 use native.Mathlib.Nat.{add-zero}
 use native.Mathlib.Omega.{arith}
 use mathlib.Core.Bool.{Bool, true, false}
-use mathlib.Core.List.{List, [], _∷_, append-nil, List·Memᴰ as In, List·Memᴰ·eq-of-singleton as only-one}
+use mathlib.Core.List.{List, [], _∷_, List·Memᴰ as In, List·Memᴰ·eq-of-singleton as only-one}
 use mathlib.Core.Option.{some}
 use lib.Dec.{eqb}
 use Rattle.wire.specs.LittleEndian.{le16At}
@@ -177,7 +177,6 @@ module _ {c : Caller} {t : Tables} (ok : sound t ≡ true) (f : LockingFields) (
           granted = 0;
           fewer = omega arith;
           standing = locksOf t;
-          as-it-stands = sym (append-nil (locksOf t));
           earlier = none-to-grant;
           first = rw (add-zero (f .unlocks), none-out) w;
         };

@@ -3,7 +3,8 @@
 use mathlib.Core.Path.{_≡_, sym, ap, _∙_}
 use Prim.Native.Nat.{ℕ, _+_, _-_, _/_, _%_, _≤_, _<_}
 use native.Mathlib.Omega.{arith}
-use mathlib.Core.List.{List, _++_, map, List·Memᴰ as In}
+use mathlib.Core.Bool.{Bool}
+use mathlib.Core.List.{List, [], _∷_, _++_, map, append-nil, append-assoc, List·Memᴰ as In}
 use lib.ListN.{length, getD, length-append, List·getD-append}
 use lib.Seq.{getD-append-add}
 use lib.Dec.{eqb}
@@ -30,7 +31,7 @@ use Rattle.claims.specs.SoundPlain.{sound-plain}
 use Rattle.message.specs.declared.caller.Caller.{Caller}
 use Rattle.message.specs.declared.refusal.HeldBy.the-variants.{Holder as held-by}
 use Rattle.demands.specs.LoneLock.{sharedIn}
-use Rattle.demands.specs.LockWords.{released-was}
+use Rattle.demands.specs.LockWords.{released-was, AllGranted, none-to-grant, grant-then}
 use Rattle.demands.specs.HolderExactly.{call, held-fit}
 use Rattle.demands.specs.HolderWords.{LockHeld, CommandHeld, read-held, write-held, lock-held}
 use Rattle.demands.specs.HolderStands.{holder-exact, held-then}
@@ -61,18 +62,28 @@ own-range f area granted l r m e =
       of-shared = sym (ap (λ (x : Lock). x .shared) e);
     }
 
+-- the locks granted stand behind the list
+granted-list : {t : Tables} {o : Open} {fid : ℕ} {shared : Bool} {rs : List LockRange} {list last : List Lock} → AllGranted t o fid shared rs list last
+    → last ≡ list ++ map (lockOf fid shared) rs
+granted-list {list = list} none-to-grant = sym (append-nil list)
+granted-list {fid = fid} {shared = shared} (grant-then {r} {rs} {list} free more) = granted-list more ∙ append-assoc list (lockOf fid shared r ∷ []) (map (lockOf fid shared) rs)
+
 module _ {c : Caller} {t : Tables} {f : LockingFields} {area : List ℕ} {h : Holder} (r : LockHeld c t f area h) where
   abbrev own : List Lock
   own = map (lockOf (f .fid) (sharedIn f)) (rangesAt (eqb (f .kind / 16 % 2) 1) area (f .unlocks) (r .held .granted))
 
+  -- "the list as it then stands": those left, and behind them the own earlier ranges
+  as-it-stands : r .held .standing ≡ r .left ++ own
+  as-it-stands = granted-list (r .held .earlier)
+
   there-is : getD (r .left ++ own) (h .place) noLock ≡ h .lock
-  there-is = ap (λ (l : List Lock). getD l (h .place) noLock) (sym (r .held .as-it-stands)) ∙ r .held .first .stands-there
+  there-is = ap (λ (l : List Lock). getD l (h .place) noLock) (sym as-it-stands) ∙ r .held .first .stands-there
 
   -- its own earlier ranges stand at the end: a place behind what the unlocks left is one of theirs
   pub holder-own : length (r .left) ≤ h .place → OwnRange f area (r .held .granted) (h .lock)
   holder-own low =
       let inside : h .place < length (r .held .standing) = r .held .first .in-list in
-      let all : length (r .held .standing) ≡ length (r .left) + length own = ap length (r .held .as-it-stands) ∙ length-append (r .left) own in
+      let all : length (r .held .standing) ≡ length (r .left) + length own = ap length as-it-stands ∙ length-append (r .left) own in
       let split : h .place ≡ length (r .left) + (h .place - length (r .left)) = omega arith in
       let m : h .place - length (r .left) < length own = omega arith in
       let same : getD own (h .place - length (r .left)) noLock ≡ h .lock =

@@ -184,10 +184,3 @@ module _ (connection : ℕ) (s : List ℕ) (t : Tables) (memory room : List ℕ)
 
     pub held-then : CommandHeld c (call connection s t memory room .tables) (areaOf s (m .command)) (m .command .body) h
     held-then = rw tables-then (m .held)
-
--- so the words determine the holder
-pub holder-one : (connection : ℕ) (s : List ℕ) (t : Tables) (memory room : List ℕ) → Good t → Fit s t memory room → (h k : Holder) → Met connection s t memory h
-    → Met connection s t memory k → h ≡ k
-holder-one connection s t memory room g fit h k a b =
-    let two : held-by h ≡ held-by k = sym (holder-exact connection s t memory room g fit h .1 a) ∙ holder-exact connection s t memory room g fit k .1 b in
-    cc

@@ -7,8 +7,9 @@ use native.Mathlib.Nat.{add-zero}
 use native.Mathlib.Omega.{arith}
 use native.Mathlib.Decide.{decLt}
 use mathlib.Core.Bool.{Bool, true, false, _&&_}
-use mathlib.Core.List.{List, [], _∷_, _++_, map, append-nil, append-assoc, List·Memᴰ as In, Memᴰ·append-left as in-front}
+use mathlib.Core.List.{List, [], _∷_, _++_, List·Memᴰ as In, Memᴰ·append-left as in-front}
 use lib.ListN.{length, take, drop, getD, length-take, take-append-drop}
+use lib.Seq.{getD-take}
 use lib.Dec.{eqb}
 use borrow.Author.Tests.{eqb-true, eq-eqb}
 use Rattle.lists.specs.Walk.{found}
@@ -37,9 +38,17 @@ use Rattle.invariants.specs.FoundFacts.{found-hit, found-miss}
 use Rattle.claims.specs.SoundPlain.{fileOf-one}
 use Rattle.demands.specs.LoneLock.{OfFile, InWay, grant-bars}
 use Rattle.demands.specs.LockWords.{AllGranted, none-to-grant, grant-then, Opened, opened-more}
-use Rattle.demands.specs.HolderWords.{FirstInWay, RangeHeld, place-before}
+use Rattle.demands.specs.HolderWords.{FirstInWay, RangeHeld}
 
 -- ---- the first that passes a test
+
+module _ {A : Type 0} (d : A) (xs : List A) (j k : ℕ) (below : j < k) (inside : j < length xs) where
+  -- an element before a place is among those before it
+  place-before : In (getD xs j d) (take k xs)
+  place-before =
+      let n : length (take k xs) ≡ min k (length xs) = length-take k xs in
+      let m : j < length (take k xs) = omega arith in
+      rw (getD-take k xs j d below) at (place-in d (take k xs) j m)
 
 module _ {A : Type 0} (p : A → Bool) (xs : List A) where
   -- none in front of the one found passes: that would be found there
@@ -189,7 +198,6 @@ module _ (t : Tables) (ok : sound t ≡ true) (o : Open) (fid : ℕ) (there-is :
         granted = 0;
         fewer = omega arith;
         standing = list;
-        as-it-stands = sym (append-nil list);
         earlier = none-to-grant;
         first = rw (add-zero k) (rw same at (found-first (test k) list (test-exact k list opened) j e));
       }
@@ -201,7 +209,6 @@ module _ (t : Tables) (ok : sound t ≡ true) (o : Open) (fid : ℕ) (there-is :
         granted = suc (w .granted);
         fewer = omega arith;
         standing = w .standing;
-        as-it-stands = w .as-it-stands ∙ append-assoc list (lock (range k) ∷ []) (map lock (rangesAt large area (suc k) (w .granted)));
         earlier = grant-then (none-found (test k) list (test-exact k list opened) e) (w .earlier);
         first = rw place at (w .first);
       }

@@ -4,8 +4,8 @@ use mathlib.Core.Path.{_≡_, sym, subst, _∙_}
 use mathlib.Core.Logic.{_↔_}
 use Prim.Native.Nat.{ℕ, _+_, _*_, _%_, _≤_, _<_}
 use native.Mathlib.Omega.{arith}
-use mathlib.Core.Bool.{Bool, true}
-use mathlib.Core.List.{List, [], _∷_, _++_, map, append-nil, append-assoc, List·Memᴰ as In}
+use mathlib.Core.Bool.{true}
+use mathlib.Core.List.{List, List·Memᴰ as In}
 use lib.ListN.{length}
 use borrow.Author.Tests.{eqb-true, eq-eqb}
 use Rattle.records.specs.declared.Open.{Open}
@@ -24,7 +24,6 @@ use Rattle.message.specs.Caller.{callerOf}
 use Rattle.demands.specs.Admitted.{Admitted}
 use Rattle.demands.specs.LoneLock.{sharedIn}
 use Rattle.demands.specs.LoneCall.{lockingFields, lockingArea}
-use Rattle.demands.specs.LockWords.{AllGranted, none-to-grant, grant-then}
 use Rattle.demands.specs.CommandReasons.{OnlyTwoBits}
 use Rattle.demands.specs.WireFields.{reading-first, first-body, first-area}
 use Rattle.demands.specs.LockEffects.{RangeOn, GrantedLock, Unlocked, Locked, large, range-on, unlocked-from, granted-lock, locked-from, locking-fits}
@@ -66,12 +65,6 @@ pub record OwnRangeOn (s : List ℕ) (k n : ℕ) (l : Lock) : Type 0 where
 
 -- ---- they are those of the command's fields
 
--- the locks granted stand behind the list
-granted-list : {t : Tables} {o : Open} {fid : ℕ} {shared : Bool} {rs : List LockRange} {list last : List Lock} → AllGranted t o fid shared rs list last
-    → last ≡ list ++ map (lockOf fid shared) rs
-granted-list {list = list} none-to-grant = sym (append-nil list)
-granted-list {fid = fid} {shared = shared} (grant-then {r} {rs} {list} free more) = granted-list more ∙ append-assoc list (lockOf fid shared r ∷ []) (map (lockOf fid shared) rs)
-
 module _ (connection : ℕ) (s : List ℕ) (t : Tables) (h : Holder) (fits : (unlockCount s FIRST + lockCount s FIRST) * rangeSize (large s) ≤ byteCount s FIRST) where
   abbrev u : ℕ
   u = unlockCount s FIRST
@@ -109,7 +102,6 @@ module _ (connection : ℕ) (s : List ℕ) (t : Tables) (h : Holder) (fits : (un
   unfolding lockOf
   from-wire r =
       let few : r .granted < m = r .fewer in
-      let earlier = granted-from s (u + m) fits t (r .through) (omega arith) (r .earlier) in
       let same = lock-is s (u + m) fits (omega arith) (r .range-there) (r .asked-is) in
       record {
         through = r .through;
@@ -122,8 +114,7 @@ module _ (connection : ℕ) (s : List ℕ) (t : Tables) (h : Holder) (fits : (un
           granted = r .granted;
           fewer = few;
           standing = r .standing;
-          as-it-stands = granted-list earlier;
-          earlier = earlier;
+          earlier = granted-from s (u + m) fits t (r .through) (omega arith) (r .earlier);
           first = subst (λ (l : Lock). FirstInWay t (r .through) (r .standing) (l .offset) (l .length) (λ k. (k .shared ≡ true) × (l .shared ≡ true) → ⊥) h) same (r .first);
         };
       }

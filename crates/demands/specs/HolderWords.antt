@@ -1,16 +1,13 @@
 -- Who holds the lock, in plain words (document 02, CR 2: "the place of the first conflicting lock in the list as it then stands", for "Locks, reads and writes"). What
 -- is in the way is said as for the refusal itself (LoneLock.antt, CommandReasons.antt). Assumes nothing.
-use mathlib.Core.Path.{_≡_, refl, sym, ap, _∙_}
+use mathlib.Core.Path.{_≡_, refl}
 use mathlib.Core.Logic.{_↔_}
-use Prim.Native.Nat.{ℕ, min, _+_, _/_, _%_, _<_}
+use Prim.Native.Nat.{ℕ, _+_, _/_, _%_, _<_}
 use native.Mathlib.Omega.{arith}
-use native.Mathlib.Decide.{decLt}
 use mathlib.Core.Bool.{Bool, true, false}
-use mathlib.Core.List.{List, _++_, map, List·Memᴰ as In}
-use lib.ListN.{length, take, getD, length-take}
-use lib.Seq.{getD-take}
+use mathlib.Core.List.{List}
+use lib.ListN.{length, take, getD}
 use lib.Dec.{eqb}
-use Rattle.lists.specs.PairLaws.{place-in}
 use Rattle.records.specs.declared.Open.{Open}
 use Rattle.records.specs.declared.Lock.{Lock}
 use Rattle.records.specs.declared.Tables.{Tables}
@@ -18,7 +15,6 @@ use Rattle.records.specs.Empty.{noLock}
 use Rattle.records.specs.Held.{locksOf}
 use Rattle.locks.specs.Range.{Overlap}
 use Rattle.locks.specs.Wire.{rangeAt, rangesAt}
-use Rattle.locks.specs.Request.{lockOf}
 use Rattle.locks.specs.declared.types.Holder.{Holder}
 use Rattle.chain.specs.declared.block.LockingFields.{LockingFields}
 use Rattle.chain.specs.declared.block.ReadFields.{ReadFields}
@@ -63,7 +59,6 @@ pub record RangeHeld (t : Tables) (o : Open) (fid : ℕ) (shared large : Bool) (
   pub granted : ℕ
   pub fewer : granted < asked
   pub standing : List Lock
-  pub as-it-stands : standing ≡ list ++ map (lockOf fid shared) (rangesAt large area k granted)
   pub earlier : AllGranted t o fid shared (rangesAt large area k granted) list standing
   pub first : FirstInWay t o standing (rangeAt large area (k + granted) .offset) (rangeAt large area (k + granted) .length)
       (λ l. (l .shared ≡ true) × (shared ≡ true) → ⊥) h
@@ -107,39 +102,3 @@ module _ {c : Caller} {t : Tables} {area : List ℕ} {h : Holder} where
     λ r. elim r [ read-held g e x ↦ never cc | write-held g e x ↦ never cc | lock-held g e x ↦ let same : f ≡ g = cc in rw same x ],
     λ x. lock-held f refl x,
   )
-
--- ---- places before another
-
-module _ {A : Type 0} (d : A) (xs : List A) (j k : ℕ) (below : j < k) (inside : j < length xs) where
-  -- an element before a place is among those before it
-  pub place-before : In (getD xs j d) (take k xs)
-  place-before =
-      let n : length (take k xs) ≡ min k (length xs) = length-take k xs in
-      let m : j < length (take k xs) = omega arith in
-      rw (getD-take k xs j d below) at (place-in d (take k xs) j m)
-
--- ---- the words determine the holder
-
-module _ {t : Tables} {o : Open} {list : List Lock} {offset size : ℕ} {Clash : Lock → Type 0} where
-  -- a first one has no other before it
-  not-before : {h g : Holder} → FirstInWay t o list offset size Clash h → FirstInWay t o list offset size Clash g → h .place < g .place → ⊥
-  not-before {h} {g} a b below =
-      b .none-before
-      (record {
-        lock = h .lock;
-        listed = rw (a .stands-there) at (place-before noLock list (h .place) (g .place) below (a .in-list));
-        of-file = a .of-file;
-        overlap = a .overlap;
-        clash = a .clash;
-      })
-
-  -- there is only one first
-  pub first-one : {h g : Holder} → FirstInWay t o list offset size Clash h → FirstInWay t o list offset size Clash g → h ≡ g
-  first-one {h} {g} a b =
-      let same : h .place ≡ g .place =
-      elim (decLt (h .place) (g .place)) [
-        | yes l ↦ absurd (not-before a b l)
-        | no n ↦ elim (decLt (g .place) (h .place)) [ yes l ↦ absurd (not-before b a l) | no m ↦ omega arith ]
-      ] in
-      let lock : h .lock ≡ g .lock = sym (a .stands-there) ∙ ap (λ (k : ℕ). getD list k noLock) same ∙ b .stands-there in
-      λ i. record { lock = lock i; place = same i }
