@@ -1,6 +1,6 @@
 //! The requests that are measured.
 
-use crate::scene::Scene;
+use crate::scene::{Scene, PROCESS};
 use second::builder::{message, Ask, Asked, Header};
 
 const LARGEST: usize = 8192;
@@ -44,7 +44,7 @@ fn locking(scene: &Scene, unlocks: Vec<Asked>, locks: Vec<Asked>) -> Ask {
 
 /// A lock of ten bytes; where no lock record is free, one is released first.
 fn lock(scene: &Scene) -> Ask {
-    let wanted = (scene.asker.header.pid, 10, 10);
+    let wanted = (PROCESS, 10, 10);
     locking(scene, scene.to_release.into_iter().collect(), vec![wanted])
 }
 
@@ -89,8 +89,7 @@ fn longest(scene: &Scene) -> Request {
 /// The request of most ranges: 814. Each is looked at, against every lock
 /// held and every range before it, and then there are not records enough.
 fn most_ranges(scene: &Scene) -> Request {
-    let pid = scene.asker.header.pid;
-    let ranges = (0..814).map(|place| (pid, 10_000 + 20 * place, 10));
+    let ranges = (0..814).map(|place| (PROCESS, 10_000 + 20 * place, 10));
     let asks = [locking(scene, Vec::new(), ranges.collect())];
     Request {
         status: (1, 8),
@@ -120,7 +119,7 @@ pub fn barred_lock(scene: &Scene) -> Option<Request> {
         fid: scene.asker.fid,
         kind: 0,
         unlocks: Vec::new(),
-        locks: vec![(scene.asker.header.pid, last_byte(scene)?, 1)],
+        locks: vec![(PROCESS, last_byte(scene)?, 1)],
     };
     Some(Request {
         status: CONFLICT,

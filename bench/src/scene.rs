@@ -8,7 +8,7 @@ use second::words::{
     add_open, add_session, add_tree, load_file, take_message, unpack, Words, HOLDER_WORDS, WORDS,
 };
 
-const PROCESS: u16 = 7;
+pub const PROCESS: u16 = 7;
 
 /// An open and who has it.
 #[derive(Clone, Copy, Default)]
@@ -56,7 +56,7 @@ impl Scene {
     fn session(&mut self, connection: u32) {
         self.asker.connection = connection;
         self.asker.header.uid = add_session(&mut self.words, connection).unwrap();
-        self.asker.header.pid = PROCESS;
+        self.asker.header.pid = PROCESS.into();
     }
 
     fn tree(&mut self) {
@@ -65,15 +65,8 @@ impl Scene {
 
     fn open(&mut self, file: u8) {
         let Header { uid, tid, pid } = self.asker.header;
-        self.asker.fid = add_open(
-            &mut self.words,
-            uid.into(),
-            tid.into(),
-            pid.into(),
-            file.into(),
-            2,
-        )
-        .unwrap();
+        self.asker.fid =
+            add_open(&mut self.words, uid.into(), tid.into(), pid, file.into(), 2).unwrap();
     }
 
     /// Takes locks of the scene's type through the asker's open.

@@ -9,11 +9,12 @@ use crate::grammar::{
 #[derive(Clone, Copy, Debug, Default, PartialEq, Eq)]
 pub struct Header {
     pub tid: u16,
-    pub pid: u16,
+    /// The process: PIDHigh and PIDLow are its halves.
+    pub pid: u32,
     pub uid: u16,
 }
 
-/// Process, offset and length.
+/// Process (its lower half, which is all that a range has), offset and length.
 pub type Asked = (u16, u64, u64);
 
 /// A block to be made.
@@ -203,8 +204,10 @@ pub fn header(command: u8, numbers: Header, fill: &mut impl FnMut() -> u8) -> Ve
     let mut bytes = vec![0xFF, 0x53, 0x4D, 0x42, command];
     bytes.extend((5..24).map(|_| fill()));
     bytes[9] &= 0x7F;
+    let [low, high] = [numbers.pid as u16, (numbers.pid >> 16) as u16];
+    bytes[12..14].copy_from_slice(&high.to_le_bytes());
     bytes.extend(numbers.tid.to_le_bytes());
-    bytes.extend(numbers.pid.to_le_bytes());
+    bytes.extend(low.to_le_bytes());
     bytes.extend(numbers.uid.to_le_bytes());
     bytes.extend([fill(), fill()]);
     bytes

@@ -14,7 +14,7 @@ pub struct Asker {
     pub connection: u32,
     pub uid: u16,
     pub tid: u16,
-    /// "The process number is PIDLow."
+    /// PIDHigh × 65,536 + PIDLow.
     pub process: u32,
 }
 
@@ -85,7 +85,8 @@ fn logoff(tables: &mut Tables, asker: &Asker) -> Done {
     Done::Linked
 }
 
-/// "the opens of that UID and process", in every tree.
+/// "the opens of that UID and process", in every tree; the process in all its
+/// 32 bits.
 fn process_exit(tables: &mut Tables, asker: &Asker) -> Done {
     tables.remove_opens(|open| open.uid == asker.uid && open.process == asker.process);
     Done::Plain

@@ -13,6 +13,7 @@ pub mod builder;
 pub mod call;
 pub mod commands;
 pub mod grammar;
+pub mod header;
 pub mod holder;
 pub mod host;
 pub mod listing;

@@ -2,11 +2,12 @@
 
 use crate::commands::{carry_out, Asker};
 use crate::grammar::{blocks, SERVED};
+use crate::header::header_numbers;
 use crate::holder::{Holder, Refused};
 use crate::host::ensure;
 use crate::listing::dropped;
 use crate::refusals::{CallRefusal, Outcome, WireRefusal};
-use crate::reply::{header_numbers, Reply};
+use crate::reply::Reply;
 use crate::request::Request;
 use crate::tables::{Tables, MEMORY_BYTES};
 
@@ -84,7 +85,7 @@ fn answer_chain(
         connection,
         uid,
         tid,
-        process: process.into(),
+        process,
     };
     for block in blocks(message).flatten() {
         let request = Request::read(message, &block);

@@ -1,19 +1,8 @@
 //! The reply, from "Header" and "Reply blocks" of document 01.
 
 use crate::commands::Done;
+use crate::header::{COMMAND, FLAGS, FLAGS2, HEADER, PID_HIGH, STATUS, TID};
 use crate::refusals::WireRefusal;
-use crate::request::u16_at;
-
-/// Places in the header.
-const COMMAND: usize = 4;
-const STATUS: usize = 5;
-const FLAGS: usize = 9;
-const FLAGS2: usize = 10;
-const PID_HIGH: usize = 12;
-const TID: usize = 24;
-const PID_LOW: usize = 26;
-const UID: usize = 28;
-const HEADER: usize = 32;
 
 /// A reply under construction at the start of the room.
 pub struct Reply<'r> {
@@ -112,13 +101,4 @@ impl<'r> Reply<'r> {
         self.room[self.length..self.length + bytes.len()].copy_from_slice(bytes);
         self.length += bytes.len();
     }
-}
-
-/// The header's numbers: UID, TID, PIDLow.
-pub fn header_numbers(message: &[u8]) -> (u16, u16, u16) {
-    (
-        u16_at(message, UID),
-        u16_at(message, TID),
-        u16_at(message, PID_LOW),
-    )
 }

@@ -4,6 +4,7 @@
 use crate::grammar::{
     Block, CLOSE, LOCKING_ANDX, LOGOFF_ANDX, PROCESS_EXIT, READ_ANDX, TREE_DISCONNECT, WRITE_ANDX,
 };
+use crate::header::{pid_high, whole_process};
 use crate::tables::Range;
 
 /// "Type bit 0x01 means shared."
@@ -41,9 +42,12 @@ pub enum Request<'m> {
 pub struct Ranges<'m> {
     bytes: &'m [u8],
     large: bool,
+    /// The header's PIDHigh.
+    high: u16,
 }
 
-/// A range with the process that it names.
+/// A range with its process: "a 16-bit process in a lock range takes its upper
+/// half from the header" (document 02, request 4), in unlocks as in locks.
 #[derive(Clone, Copy, Debug, PartialEq, Eq)]
 pub struct OwnedRange {
     pub process: u32,
@@ -60,8 +64,13 @@ impl<'m> Ranges<'m> {
     }
 
     pub fn iter(&self) -> impl Iterator<Item = OwnedRange> + Clone + 'm {
-        let read = if self.large { large_range } else { small_range };
-        self.bytes.chunks_exact(range_bytes(self.large)).map(read)
+        let Ranges { bytes, large, high } = *self;
+        let range = if large { large_range } else { small_range };
+        let ranges = bytes.chunks_exact(range_bytes(large));
+        ranges.map(move |bytes| OwnedRange {
+            process: whole_process(high, u16_at(bytes, 0)),
+            range: range(bytes),
+        })
     }
 }
 
@@ -74,24 +83,19 @@ fn range_bytes(large: bool) -> usize {
 }
 
 /// "process 2, offset 4, length 4"
-fn small_range(bytes: &[u8]) -> OwnedRange {
-    OwnedRange {
-        process: u16_at(bytes, 0).into(),
-        range: Range {
-            offset: u32_at(bytes, 2).into(),
-            length: u32_at(bytes, 6).into(),
-        },
+fn small_range(bytes: &[u8]) -> Range {
+    Range {
+        offset: u32_at(bytes, 2).into(),
+        length: u32_at(bytes, 6).into(),
     }
 }
 
-/// "process 2, pad 2, offset high 4, low 4, length high 4, low 4"
-fn large_range(bytes: &[u8]) -> OwnedRange {
-    OwnedRange {
-        process: u16_at(bytes, 0).into(),
-        range: Range {
-            offset: high_and_low(u32_at(bytes, 4), u32_at(bytes, 8)),
-            length: high_and_low(u32_at(bytes, 12), u32_at(bytes, 16)),
-        },
+/// "process 2, pad 2, offset high 4, low 4, length high 4, low 4"; "the pad of
+/// the 20-byte form is not looked at".
+fn large_range(bytes: &[u8]) -> Range {
+    Range {
+        offset: high_and_low(u32_at(bytes, 4), u32_at(bytes, 8)),
+        length: high_and_low(u32_at(bytes, 12), u32_at(bytes, 16)),
     }
 }
 
@@ -106,7 +110,7 @@ impl<'m> Request<'m> {
             },
             PROCESS_EXIT => Request::ProcessExit,
             // The byte area is behind ByteCount.
-            LOCKING_ANDX => locking(words, &rest[2..]),
+            LOCKING_ANDX => locking(words, &rest[2..], pid_high(message)),
             READ_ANDX => read(words),
             WRITE_ANDX => write(message, words),
             TREE_DISCONNECT => Request::TreeDisconnect,
@@ -118,22 +122,17 @@ impl<'m> Request<'m> {
 
 /// "FID 2, type 1, oplock 1, timeout 4, unlocks 2, locks 2; ranges, unlocks
 /// first"
-fn locking<'m>(words: &[u8], area: &'m [u8]) -> Request<'m> {
+fn locking<'m>(words: &[u8], area: &'m [u8], high: u16) -> Request<'m> {
     let kind = words[6];
     let large = kind & TYPE_LARGE != 0;
     let unlocks = usize::from(u16_at(words, 12));
     let (unlocks, locks) = area.split_at(unlocks * range_bytes(large));
+    let ranges = |bytes| Ranges { bytes, large, high };
     Request::Locking {
         fid: u16_at(words, 4),
         kind,
-        unlocks: Ranges {
-            bytes: unlocks,
-            large,
-        },
-        locks: Ranges {
-            bytes: locks,
-            large,
-        },
+        unlocks: ranges(unlocks),
+        locks: ranges(locks),
     }
 }
 

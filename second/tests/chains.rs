@@ -190,6 +190,7 @@ fn random_world(rng: &mut Rng) -> World {
     }
     world.header = Header {
         tid: rng.pick(&[1, 1, 1, 1, 1, 2]),
+        pid: rng.pick(&[7, 7, 65_543]),
         ..world.header
     };
     world

@@ -5,8 +5,8 @@
 use crate::sides::Given;
 use crate::tally::{commands, enough, status};
 use second::grammar::{blocks, LOCKING_ANDX, READ_ANDX, WRITE_ANDX};
+use second::header::header_numbers;
 use second::refusals::WireRefusal;
-use second::reply::header_numbers;
 use second::request::{OwnedRange, Request, TYPE_SHARED};
 use second::tables::{Lock, Range, Tables};
 use second::words::{unpack, HolderWords, Words};
@@ -201,7 +201,7 @@ impl<'m> Conflict<'m> {
         Ok(Conflict {
             requests,
             refused: begun - 1,
-            process: header_numbers(message).2.into(),
+            process: header_numbers(message).2,
             tables,
             list,
             place,

@@ -319,13 +319,11 @@ impl Planner {
         let (opens, trees) = (tables.opens.in_use(), tables.trees.in_use());
         let sessions = tables.sessions.in_use();
         let (mut uid, mut tid) = (self.any_number(), self.any_number());
-        let mut pid = self.rng.pick(&PROCESSES);
+        let mut pid = u32::from(self.rng.pick(&PROCESSES));
         if !opens.is_empty() && !self.once_in(40) {
             let open = self.rng.pick(opens);
             (uid, tid) = (open.uid, open.tid);
-            pid = self
-                .rng
-                .pick(&[pid, open.process as u16, open.process as u16]);
+            pid = self.rng.pick(&[pid, open.process, open.process]);
         } else if !trees.is_empty() && !self.once_in(4) {
             let tree = self.rng.pick(trees);
             (uid, tid) = (tree.uid, tree.tid);
@@ -559,9 +557,8 @@ impl Planner {
     /// A range to be locked.
     fn asked(&mut self, tables: &Tables, scene: &Scene, fresh: bool) -> Asked {
         let process = self.rng.pick(&PROCESSES);
-        let process = self
-            .rng
-            .pick(&[process, scene.header.pid, scene.header.pid]);
+        let own = scene.header.pid as u16;
+        let process = self.rng.pick(&[process, own, own]);
         let (small, length) = (self.rng.below(80) as u64, self.rng.below(12) as u64);
         let kind = self.rng.below(12);
         if fresh && kind != 0 || kind >= 10 {
@@ -620,7 +617,9 @@ impl Planner {
             return bytes;
         }
         bytes[24..26].copy_from_slice(&scene.header.tid.to_le_bytes());
-        bytes[26..28].copy_from_slice(&scene.header.pid.to_le_bytes());
+        let [low, high] = [scene.header.pid as u16, (scene.header.pid >> 16) as u16];
+        bytes[12..14].copy_from_slice(&high.to_le_bytes());
+        bytes[26..28].copy_from_slice(&low.to_le_bytes());
         bytes[28..30].copy_from_slice(&scene.header.uid.to_le_bytes());
         let read: Vec<_> = blocks(&bytes).flatten().collect();
         for block in read {

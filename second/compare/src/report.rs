@@ -3,6 +3,7 @@
 use crate::call::Trial;
 use linked::guarded::Side;
 use second::call::Call;
+use second::header::header_numbers;
 use second::listing::{answer, Answer};
 use second::request::{Ranges, Request};
 use second::words::{HolderWords, Words, WORDS};
@@ -169,9 +170,8 @@ fn explained(message: &[u8]) -> String {
             )
         }
         Answer::Chain(blocks) => {
-            let field = |place| u16::from_le_bytes([message[place], message[place + 1]]);
-            let (tid, pid, uid) = (field(24), field(26), field(28));
-            let mut text = format!("  TID {tid}, PID {pid}, UID {uid}\n");
+            let (uid, tid, process) = header_numbers(message);
+            let mut text = format!("  TID {tid}, process {process}, UID {uid}\n");
             for block in blocks {
                 text += &format!("  {}\n", request(&Request::read(message, &block)));
             }

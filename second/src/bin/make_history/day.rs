@@ -93,7 +93,7 @@ fn pick_open(rng: &mut Rng, tables: &Tables) -> Option<Open> {
 /// damaged.
 fn send(maker: &mut Maker, tables: &Tables, open: Open) {
     let user = sender(&mut maker.rng, tables, open);
-    let asks = chain(&mut maker.rng, tables, open, user.pid);
+    let asks = chain(&mut maker.rng, tables, open, user.pid as u16);
     let mut message = maker.message(user, &asks);
     match maker.rng.below(40) {
         0 => {
@@ -112,13 +112,14 @@ fn sender(rng: &mut Rng, tables: &Tables, open: Open) -> User {
         connection: session.connection,
         uid: open.uid,
         tid: open.tid,
-        pid: open.process as u16,
+        // A process below 65,536 asks, also through an open of one above.
+        pid: open.process & 0xFFFF,
     };
     match rng.below(60) {
         0 => user.connection = rng.pick(&CONNECTIONS),
         1 => user.uid = rng.below(18) as u16,
         2 => user.tid = rng.below(34) as u16,
-        3..=8 => user.pid = rng.pick(&PROCESSES),
+        3..=8 => user.pid = rng.pick(&PROCESSES).into(),
         _ => {}
     }
     user

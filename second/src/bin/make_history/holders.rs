@@ -26,8 +26,8 @@ struct Plant {
 
 pub fn holders(maker: &mut Maker) {
     for form in [0x00, 0x10] {
-        let one = maker.user(LINE, 1, ONE);
-        let other = maker.user(DESK, 1, OTHER);
+        let one = maker.user(LINE, 1, ONE.into());
+        let other = maker.user(DESK, 1, OTHER.into());
         let plant = Plant {
             one,
             elsewhere: maker.open(one, 1, 2),
@@ -70,12 +70,12 @@ impl Plant {
     }
 
     /// The place 1 of the list: the exclusive lock of the one.
-    fn first(&self) -> Held {
+    fn first(&self) -> Held<u16> {
         (self.fid, ONE, 1, 0, 10)
     }
 
     /// The exclusive lock of the other, at its place or where unlocks put it.
-    fn last(&self, place: u64) -> Held {
+    fn last(&self, place: u64) -> Held<u16> {
         (self.behind, OTHER, place, 100, 10)
     }
 
@@ -87,12 +87,12 @@ impl Plant {
     }
 
     /// A message of one request that is refused for the lock.
-    fn held(&self, maker: &mut Maker, user: User, ask: Ask, holder: Held) {
+    fn held(&self, maker: &mut Maker, user: User, ask: Ask, holder: Held<u16>) {
         maker.held(user, &[self.either_form(ask)], holder);
     }
 
     /// A request of the one for exclusive locks, refused for the lock.
-    fn barred(&self, maker: &mut Maker, unlocks: &[Asked], locks: &[Asked], holder: Held) {
+    fn barred(&self, maker: &mut Maker, unlocks: &[Asked], locks: &[Asked], holder: Held<u16>) {
         let ask = locking(self.fid, self.form, unlocks, locks);
         self.held(maker, self.one, ask, holder);
     }
@@ -101,7 +101,10 @@ impl Plant {
     fn reads(&self, maker: &mut Maker) {
         let Plant { one, other, .. } = *self;
         let (fid, behind) = (self.fid, self.behind);
-        let child = User { pid: CHILD, ..one };
+        let child = User {
+            pid: CHILD.into(),
+            ..one
+        };
         let childs = (fid, CHILD, 4, 50, 10);
         self.held(maker, other, read(behind, 5, 1), self.first());
         self.held(maker, other, read(behind, 0, 200), self.first());
@@ -194,7 +197,7 @@ impl Plant {
         maker.held(other, &asks, (fid, CHILD, 3, 50, 10));
         let lock = locking(fid, form, &[(ONE, 600, 5)], &[(5, 610, 5)]);
         let asks = [lock, write(fid, 0, b"0123456789"), read(fid, 605, 10)];
-        let granted = (fid, 5, 6, 610, 5);
+        let granted = (fid, 5u16, 6, 610, 5);
         maker.held(one, &asks, granted);
         let lock = locking(behind, form, &[], &[(OTHER, 614, 1)]);
         maker.held(other, &[lock, read(behind, 700, 1)], granted);

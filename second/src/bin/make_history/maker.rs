@@ -15,11 +15,12 @@ pub struct User {
     pub connection: u32,
     pub uid: u16,
     pub tid: u16,
-    pub pid: u16,
+    /// The process, PIDHigh and PIDLow.
+    pub pid: u32,
 }
 
 /// A lock in the way: FID, process, place, offset and length.
-pub type Held = (u16, u16, u64, u64, u64);
+pub type Held<P> = (u16, P, u64, u64, u64);
 
 pub struct Maker {
     state: State,
@@ -108,7 +109,7 @@ impl Maker {
     }
 
     /// A new session with a new tree.
-    pub fn user(&mut self, connection: u32, right: u8, pid: u16) -> User {
+    pub fn user(&mut self, connection: u32, right: u8, pid: u32) -> User {
         let uid = self.session(connection);
         User {
             connection,
@@ -120,8 +121,7 @@ impl Maker {
 
     /// A new open of the user's process.
     pub fn open(&mut self, user: User, file: u8, access: u8) -> u16 {
-        let process = user.pid.into();
-        self.host(open_call(user, process, file, access), 0)
+        self.host(open_call(user, user.pid, file, access), 0)
     }
 
     pub fn load(&mut self, file: u8, size: usize) {
@@ -174,7 +174,7 @@ impl Maker {
     }
 
     /// Sends a message that must be refused for this lock.
-    pub fn held(&mut self, user: User, asks: &[Ask], holder: Held) {
+    pub fn held<P: Into<u64>>(&mut self, user: User, asks: &[Ask], holder: Held<P>) {
         let answer = self.refused(user, asks, WireRefusal::Conflict);
         let (fid, process, place, offset, length) = holder;
         let wanted = [1, fid.into(), process.into(), place, offset, length];

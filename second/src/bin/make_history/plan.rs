@@ -690,7 +690,7 @@ fn tables_full(maker: &mut Maker) {
             connection: 0,
             uid: tree.uid,
             tid: tree.tid,
-            pid: place as u16 % 5,
+            pid: place as u32 % 5,
         };
         let access = tree.right * (place % 3) as u8;
         maker.open(user, (place % 16) as u8, access);

@@ -6,10 +6,10 @@ use second::grammar::{
     blocks, Block, Why, CLOSE, LOCKING_ANDX, LOGOFF_ANDX, PROCESS_EXIT, READ_ANDX, SERVED,
     TREE_DISCONNECT, WRITE_ANDX,
 };
+use second::header::header_numbers;
 use second::listing::{self, Dropped};
 use second::messages::SUCCESSIONS;
 use second::refusals::WireRefusal;
-use second::reply::header_numbers;
 use second::request::Request;
 use second::tables::{Lock, Range, Tables, FILE_BYTES, LOCKS, OPENS, SESSIONS, TREES};
 use std::collections::{BTreeMap, BTreeSet};
@@ -205,7 +205,7 @@ impl Tally {
                 barred.map(|asked| (fid, asked.process))
             }
             Request::Read { fid, .. } | Request::Write { fid, .. } => {
-                Some((fid, header_numbers(message).2.into()))
+                Some((fid, header_numbers(message).2))
             }
             _ => None,
         };

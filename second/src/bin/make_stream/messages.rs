@@ -116,7 +116,7 @@ impl Sent<'_> {
             let rng = &mut self.maker.rng;
             let open = rng.pick(tables.opens.in_use());
             let user = if open.fid == BEHIND { OTHER } else { TERMINAL };
-            let asks = chain(rng, &tables, open, user.pid);
+            let asks = chain(rng, &tables, open, user.pid as u16);
             if asks.iter().any(removes) {
                 continue;
             }
