@@ -32,3 +32,13 @@ pub fn pid_high(message: &[u8]) -> u16 {
 pub fn whole_process(high: u16, low: u16) -> u32 {
     u32::from(high) * 65_536 + u32::from(low)
 }
+
+/// Two processes that differ in the upper half only.
+pub fn twins(one: u32, other: u32) -> bool {
+    one != other && one as u16 == other as u16
+}
+
+/// A process whose upper half is not 0.
+pub fn above_65_535(process: u32) -> bool {
+    process > 0xFFFF
+}

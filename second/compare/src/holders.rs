@@ -5,7 +5,7 @@
 use crate::sides::Given;
 use crate::tally::{commands, enough, status};
 use second::grammar::{blocks, LOCKING_ANDX, READ_ANDX, WRITE_ANDX};
-use second::header::header_numbers;
+use second::header::{above_65_535, header_numbers, twins};
 use second::refusals::WireRefusal;
 use second::request::{OwnedRange, Request, TYPE_SHARED};
 use second::tables::{Lock, Range, Tables};
@@ -19,12 +19,14 @@ const LEAST: usize = 50;
 const PLACES: [&str; 4] = ["alone", "before others", "second", "third or later"];
 
 /// What is to be met of holders, besides each command at each place.
-const MET: [&str; 16] = [
+const MET: [&str; 19] = [
     "READ: a lock held through another FID",
     "READ: a lock held through the same FID by another process",
+    "READ: a lock held through the same FID by a twin",
     "WRITE: the writer's own shared lock",
     "WRITE: another's shared lock",
     "WRITE: another's exclusive lock",
+    "WRITE: an exclusive lock held through the same FID by a twin",
     "LOCKING: the asker's own lock",
     "LOCKING: for a shared lock",
     "LOCKING: moved by unlocks of the same request",
@@ -32,6 +34,7 @@ const MET: [&str; 16] = [
     "LOCKING: an own earlier range",
     "LOCKING: an own earlier range behind unlocks",
     "LOCKING: an own earlier range of another process than the header's",
+    "LOCKING: an own earlier range of a process above 65,535",
     "LOCKING: a lock held, in the way of a range behind the first",
     "LOCKING: while a later range meets an earlier lock",
     "LOCKING: at a place above 127",
@@ -43,6 +46,7 @@ const MET_BY_EACH: [&str; 3] = [
     "behind a lock of another file that overlaps",
     "behind a lock of length 0 inside the range",
 ];
+const ABOVE: &str = "a lock of a process above 65,535";
 
 #[derive(Default)]
 pub struct Holders {
@@ -142,6 +146,7 @@ fn holders() -> Vec<String> {
             }
         }
         all.extend(MET_BY_EACH.map(|what| format!("{command}: {what}")));
+        all.push(format!("{command}: {ABOVE}"));
     }
     all.extend(MET.map(str::to_string));
     all
@@ -234,6 +239,10 @@ impl<'m> Conflict<'m> {
             _ => PLACES[3],
         };
         holders.met(format!("{command} {place}"));
+        holders.met_if(
+            above_65_535(self.holder().process),
+            &format!("{command}: {ABOVE}"),
+        );
         match *self.request() {
             Request::Locking { fid, kind, .. } => {
                 self.count_locking(holders, fid, kind & TYPE_SHARED != 0)
@@ -248,7 +257,7 @@ impl<'m> Conflict<'m> {
                 let own = |lock: &Lock| lock.fid == fid && lock.process == self.process;
                 let range = Range { offset, length };
                 self.count_around(holders, command, fid, range, |l| l.shared || !own(l));
-                self.count_write(holders, own(self.holder()));
+                self.count_write(holders, fid, own(self.holder()));
             }
             _ => holders
                 .wrong
@@ -268,14 +277,23 @@ impl<'m> Conflict<'m> {
             false => "READ: a lock held through another FID",
             true => "READ: a lock held through the same FID by another process",
         });
+        let what = "READ: a lock held through the same FID by a twin";
+        holders.met_if(self.is_twins(fid), what);
     }
 
-    fn count_write(&self, holders: &mut Holders, own: bool) {
+    /// Whether the holder's process differs in the upper half only.
+    fn is_twins(&self, fid: u16) -> bool {
+        self.holder().fid == fid && twins(self.holder().process, self.process)
+    }
+
+    fn count_write(&self, holders: &mut Holders, fid: u16, own: bool) {
         holders.met(match (own, self.holder().shared) {
             (true, _) => "WRITE: the writer's own shared lock",
             (false, true) => "WRITE: another's shared lock",
             (false, false) => "WRITE: another's exclusive lock",
         });
+        let what = "WRITE: an exclusive lock held through the same FID by a twin";
+        holders.met_if(self.is_twins(fid) && !self.holder().shared, what);
     }
 
     /// Counts the others in the way, and those that are not, around the holder.
@@ -362,6 +380,8 @@ impl<'m> Conflict<'m> {
         let other = self.holder().process != self.process;
         let what = "LOCKING: an own earlier range of another process than the header's";
         holders.met_if(other, what);
+        let what = "LOCKING: an own earlier range of a process above 65,535";
+        holders.met_if(above_65_535(self.holder().process), what);
     }
 }
 

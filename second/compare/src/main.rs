@@ -11,6 +11,7 @@ mod crash;
 mod damage;
 mod holders;
 mod plan;
+mod processes;
 mod report;
 mod sides;
 mod stream;
@@ -48,9 +49,10 @@ impl Run {
         }
         let side = self.planner.rng.pick(&[Side::Start, Side::End]);
         let shift = self.planner.rng.below(4096);
+        let before = self.sides.words;
         let given = self.sides.make(trial, side, shift)?;
         let Sides { room, words, .. } = &self.sides;
-        self.tally.count(trial, given, room, words);
+        self.tally.count(trial, given, room, &before, words);
         Ok(given)
     }
 

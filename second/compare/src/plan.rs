@@ -3,9 +3,10 @@
 
 use crate::call::Trial;
 use crate::sides::LARGEST;
-use second::builder::{message, Ask, Asked, Header};
+use second::builder::{locking, message, Ask, Asked, Header};
 use second::call::Call;
 use second::grammar::blocks;
+use second::header::whole_process;
 use second::listing::dropped;
 use second::message::ROOM_BYTES;
 use second::messages::{all, Made};
@@ -13,7 +14,10 @@ use second::rng::Rng;
 use second::tables::{Lock, Tables};
 
 const CONNECTIONS: [u32; 6] = [0, 1, 2, 77, 0x1_0001, u32::MAX];
-const PROCESSES: [u16; 6] = [0, 1, 7, 8, 256, u16::MAX];
+/// The halves of processes. They are few, so that two processes often differ in
+/// one half only, or have each other's.
+const LOWS: [u16; 6] = [0, 1, 7, 8, 256, u16::MAX];
+const HIGHS: [u16; 5] = [0, 0, 1, 7, u16::MAX];
 const EDGES: [u64; 14] = [
     0,
     1,
@@ -58,8 +62,8 @@ impl Mood {
     fn asks(self) -> [usize; 7] {
         match self {
             Mood::Grow | Mood::Fill => [300, 200, 200, 4, 1, 1, 2],
-            Mood::Work => [300, 250, 300, 20, 3, 4, 6],
-            Mood::Locks => [700, 60, 90, 5, 1, 1, 2],
+            Mood::Work => [300, 250, 300, 20, 3, 4, 12],
+            Mood::Locks => [700, 60, 90, 5, 1, 1, 5],
             Mood::Shrink => [100, 80, 80, 60, 12, 16, 20],
         }
     }
@@ -203,14 +207,23 @@ impl Planner {
         let file = self.seldom(file, &[16, 17, 128, 255, any_file, any_file]);
         let access = self.rng.pick(&[0, 1, 2, 2, 2]);
         let access = self.seldom(access, &[3, 4, 255]);
-        let low = u32::from(self.rng.pick(&PROCESSES));
         Trial::plain(Call::AddOpen {
             uid: self.seldom_wide(uid.into()),
             tid: self.seldom_wide(tid.into()),
-            process: self.rng.pick(&[low, low, low, low + 0x1_0000, u32::MAX]),
+            process: self.process(),
             file: self.seldom_wide(file),
             access: self.seldom_wide(access),
         })
+    }
+
+    fn process(&mut self) -> u32 {
+        let low = self.rng.pick(&LOWS);
+        self.twin(low)
+    }
+
+    /// A process with this lower half.
+    fn twin(&mut self, low: u16) -> u32 {
+        whole_process(self.rng.pick(&HIGHS), low)
     }
 
     fn load_file(&mut self, tables: &Tables) -> Trial {
@@ -316,14 +329,20 @@ impl Planner {
     }
 
     fn scene(&mut self, tables: &Tables) -> Scene {
+        if self.once_in(6) {
+            if let Some(lock) = self.held(tables) {
+                return self.owners_scene(tables, lock);
+            }
+        }
         let (opens, trees) = (tables.opens.in_use(), tables.trees.in_use());
         let sessions = tables.sessions.in_use();
         let (mut uid, mut tid) = (self.any_number(), self.any_number());
-        let mut pid = u32::from(self.rng.pick(&PROCESSES));
+        let mut pid = self.process();
         if !opens.is_empty() && !self.once_in(40) {
             let open = self.rng.pick(opens);
             (uid, tid) = (open.uid, open.tid);
-            pid = self.rng.pick(&[pid, open.process, open.process]);
+            let twin = self.twin(open.process as u16);
+            pid = self.rng.pick(&[pid, twin, open.process, open.process]);
         } else if !trees.is_empty() && !self.once_in(4) {
             let tree = self.rng.pick(trees);
             (uid, tid) = (tree.uid, tree.tid);
@@ -344,6 +363,21 @@ impl Planner {
             connection,
             header: Header { tid, pid, uid },
             fids: fids.map(|open| open.fid).collect(),
+        }
+    }
+
+    /// The owner of a lock, or its twin, with the lock's open alone.
+    fn owners_scene(&mut self, tables: &Tables, lock: Lock) -> Scene {
+        let mut opens = tables.opens.in_use().iter();
+        let open = opens.find(|open| open.fid == lock.fid);
+        let (uid, tid) = open.map_or((0, 0), |open| (open.uid, open.tid));
+        let session = tables.session(uid);
+        let twin = self.twin(lock.process as u16);
+        let pid = self.rng.pick(&[lock.process, lock.process, twin]);
+        Scene {
+            connection: session.map_or(0, |session| session.connection),
+            header: Header { tid, pid, uid },
+            fids: vec![lock.fid],
         }
     }
 
@@ -420,14 +454,14 @@ impl Planner {
                 let some = self.rng.below(100) as u16;
                 Ask::Read {
                     fid,
-                    offset: self.place(tables, fid),
+                    offset: self.place(tables, scene, fid),
                     max: self
                         .rng
                         .pick(&[some, some, 0, 1, 2, 10, 4096, 4097, 65_535]),
                     long: self.once_in(2),
                 }
             }
-            2 => self.write(fid, tables),
+            2 => self.write(fid, tables, scene),
             3 => Ask::Close { fid },
             4 => Ask::Logoff,
             5 => Ask::TreeDisconnect,
@@ -435,14 +469,14 @@ impl Planner {
         }
     }
 
-    fn write(&mut self, fid: u16, tables: &Tables) -> Ask {
+    fn write(&mut self, fid: u16, tables: &Tables, scene: &Scene) -> Ask {
         let (few, some) = (self.rng.below(30), self.rng.below(300));
         let length = self.rng.pick(&[few, few, few, few, some, 0, 1, 2]);
         let length = self.seldom(length, &[2000, 4095, 4096, 4097, 6000]);
         let to_the_end = (4096 - length.min(4096)) as u64 + self.rng.below(3) as u64;
         let offset = match self.rng.below(6) {
             0 => to_the_end.saturating_sub(1),
-            _ => self.place(tables, fid),
+            _ => self.place(tables, scene, fid),
         };
         Ask::Write {
             fid,
@@ -454,10 +488,14 @@ impl Planner {
     }
 
     /// An offset for a read or a write.
-    fn place(&mut self, tables: &Tables, fid: u16) -> u64 {
+    fn place(&mut self, tables: &Tables, scene: &Scene, fid: u16) -> u64 {
         let open = tables.opens.in_use().iter().find(|o| o.fid == fid);
         let size = open.map_or(0, |open| tables.files[usize::from(open.file)].size);
-        match self.rng.below(12) {
+        let own = |lock: &Lock| {
+            let owner = (lock.fid, lock.process) == (fid, scene.header.pid);
+            owner && !lock.shared && lock.range.offset < 4096
+        };
+        match self.rng.below(14) {
             0..=4 => self.rng.below(120) as u64,
             5 | 6 => (size + self.rng.below(5) as u64).saturating_sub(2),
             7 => size / 2,
@@ -467,6 +505,9 @@ impl Planner {
                 None => 0,
             },
             10 => self.rng.below(5000) as u64,
+            11 | 12 => self
+                .held_that(tables, own)
+                .map_or(0, |lock| lock.range.offset),
             _ => self.rng.pick(&EDGES),
         }
     }
@@ -477,12 +518,23 @@ impl Planner {
         (!locks.is_empty()).then(|| self.rng.pick(&locks))
     }
 
+    /// A lock that passes the test.
+    fn held_that(&mut self, tables: &Tables, test: impl Fn(&Lock) -> bool) -> Option<Lock> {
+        let locks = tables.locks.in_use().iter().copied();
+        let locks: Vec<Lock> = locks.filter(test).collect();
+        (!locks.is_empty()).then(|| self.rng.pick(&locks))
+    }
+
     fn held(&mut self, tables: &Tables) -> Option<Lock> {
-        let locks = tables.locks.in_use();
-        (!locks.is_empty()).then(|| self.rng.pick(locks))
+        self.held_that(tables, |_| true)
     }
 
     fn locking(&mut self, fid: u16, tables: &Tables, scene: &Scene) -> Ask {
+        if self.once_in(6) {
+            if let Some(lock) = self.held_that(tables, |lock| lock.fid == fid && lock.shared) {
+                return self.shared_again(lock);
+            }
+        }
         let kind = self.rng.pick(&[0, 0, 1, 0x10, 0x10, 0x10, 0x11, 0x11]);
         let other = self
             .rng
@@ -513,22 +565,33 @@ impl Planner {
         }
     }
 
+    /// A shared lock once more, now for the process of the header's upper half.
+    fn shared_again(&mut self, lock: Lock) -> Ask {
+        let asked = (lock.process as u16, lock.range.offset, lock.range.length);
+        let kind = self.rng.pick(&[0x01, 0x11]);
+        locking(lock.fid, kind, &[], &[asked])
+    }
+
     /// Puts the last range on or beside an earlier one of the same request, a
     /// late one mostly.
     fn cross(&mut self, ranges: &mut [Asked]) {
         if let [earlier @ .., last] = ranges {
             if let Some(from) = earlier.len().checked_sub(1) {
                 let (_, offset, length) = earlier[from - self.rng.below(from.min(4) + 1)];
-                let process = self.rng.pick(&PROCESSES);
+                let process = self.rng.pick(&LOWS);
                 *last = (process, near(&mut self.rng, offset), length);
             }
         }
     }
 
-    /// Mostly ranges that the FID holds.
+    /// Mostly ranges that the FID holds, for processes of the header's upper
+    /// half.
     fn unlocks(&mut self, fid: u16, tables: &Tables, scene: &Scene) -> Vec<Asked> {
+        let any_half = self.once_in(6);
+        let high = |process: u32| process >> 16;
         let held = tables.locks.in_use().iter().filter(|l| l.fid == fid);
         let mut held: Vec<Asked> = held
+            .filter(|l| any_half || high(l.process) == high(scene.header.pid))
             .map(|l| (l.process as u16, l.range.offset, l.range.length))
             .collect();
         let most = self.rng.pick(&[0, 0, 0, 0, 1, 1, 1, 2, 4, 128]);
@@ -556,7 +619,7 @@ impl Planner {
 
     /// A range to be locked.
     fn asked(&mut self, tables: &Tables, scene: &Scene, fresh: bool) -> Asked {
-        let process = self.rng.pick(&PROCESSES);
+        let process = self.rng.pick(&LOWS);
         let own = scene.header.pid as u16;
         let process = self.rng.pick(&[process, own, own]);
         let (small, length) = (self.rng.below(80) as u64, self.rng.below(12) as u64);

@@ -2,6 +2,7 @@
 
 use crate::call::Trial;
 use crate::holders::Holders;
+use crate::processes::Processes;
 use crate::sides::Given;
 use second::call::Call;
 use second::grammar::SERVED;
@@ -33,6 +34,7 @@ pub struct Tally {
     /// Most sessions, trees, opens and locks at a time.
     most: [u64; 4],
     holders: Holders,
+    processes: Processes,
 }
 
 /// Every call's numbers, from "What a call returns".
@@ -134,8 +136,16 @@ pub fn commands(message: &[u8], reply: &[u8]) -> Vec<u8> {
 }
 
 impl Tally {
-    /// Counts a call, these being the reply room and the words after it.
-    pub fn count(&mut self, trial: &Trial, given: Given, room: &[u8], words: &Words) {
+    /// Counts a call, these being the reply room after it, and the words before
+    /// and after it.
+    pub fn count(
+        &mut self,
+        trial: &Trial,
+        given: Given,
+        room: &[u8],
+        before: &Words,
+        after: &Words,
+    ) {
         self.calls += 1;
         *self
             .numbers
@@ -146,12 +156,15 @@ impl Tally {
                 *self.wide.entry(name).or_default() += 1;
             }
         }
+        let reply = match (trial.call(), given.number) {
+            (Some(Call::TakeMessage { .. }), 0) => &room[..given.value],
+            _ => &[],
+        };
+        if let Some(call) = trial.call() {
+            self.processes.count(call, given, reply, before, after);
+        }
         if let Some(Call::TakeMessage { message, .. }) = trial.call() {
-            let reply = match given.number {
-                0 => &room[..given.value],
-                _ => &[],
-            };
-            self.holders.count(message, given, reply, words);
+            self.holders.count(message, given, reply, after);
             if given.number == 0 {
                 self.count_reply(message, reply);
             }
@@ -221,6 +234,7 @@ impl Tally {
             self.print_done(),
             self.print_chains(),
             self.holders.print(),
+            self.processes.print(),
         ];
         parts.into_iter().all(|good| good)
     }

@@ -1,0 +1,192 @@
+//! Counts what came of processes above 65,535, and of twins: two processes that
+//! differ in the upper half only (document 02, request 4). Their locks as
+//! holders are counted with the holders.
+
+use crate::sides::Given;
+use crate::tally::{commands, enough, status};
+use second::call::Call;
+use second::grammar::blocks;
+use second::header::{above_65_535, header_numbers, twins};
+use second::request::{Ranges, Request, TYPE_LARGE};
+use second::tables::{Lock, Open, Range, Tables};
+use second::words::{unpack, Words};
+use std::collections::BTreeMap;
+
+/// Fewest times for each thing.
+const LEAST: usize = 50;
+
+/// What is to be met.
+const MET: [&str; 8] = [
+    "open added for a process above 65,535",
+    "open added beside a twin's of the same UID",
+    "PROCESS_EXIT takes opens, a twin's stays",
+    "PROCESS_EXIT takes opens, a twin's stays with its lock",
+    "PROCESS_EXIT takes nothing, a twin's open stays",
+    "PROCESS_EXIT of a process above 65,535 takes opens",
+    "READ done over an own exclusive lock of a process above 65,535",
+    "WRITE done over an own exclusive lock of a process above 65,535",
+];
+/// Of ranges of 10 bytes and of 20.
+const MET_BY_FORM: [&str; 4] = [
+    "lock taken with PIDHigh not 0",
+    "unlock done with PIDHigh not 0",
+    "unlock done, a twin's lock alike standing before it",
+    "unlock refused 1/158, a twin holding such a lock",
+];
+
+#[derive(Default)]
+pub struct Processes {
+    met: BTreeMap<String, usize>,
+}
+
+impl Processes {
+    /// Counts a call, these being the words before and after it.
+    pub fn count(
+        &mut self,
+        call: &Call,
+        given: Given,
+        reply: &[u8],
+        before: &Words,
+        after: &Words,
+    ) {
+        let tables = unpack(before).zip(unpack(after));
+        let Some((before, after)) = tables.filter(|_| given.number == 0) else {
+            return;
+        };
+        match *call {
+            Call::AddOpen { uid, process, .. } => {
+                let mut opens = before.opens.in_use().iter();
+                let beside = opens.any(|o| u32::from(o.uid) == uid && twins(o.process, process));
+                self.met_if(
+                    above_65_535(process),
+                    "open added for a process above 65,535",
+                );
+                self.met_if(beside, "open added beside a twin's of the same UID");
+            }
+            Call::TakeMessage { ref message, .. } if blocks(message).all(|block| block.is_ok()) => {
+                self.count_first(message, reply, &before, &after)
+            }
+            _ => {}
+        }
+    }
+
+    fn met_if(&mut self, holds: bool, what: &str) {
+        if holds {
+            *self.met.entry(what.to_string()).or_default() += 1;
+        }
+    }
+
+    /// What became of the first command of a sentence, which found the tables
+    /// as they were before.
+    fn count_first(&mut self, message: &[u8], reply: &[u8], before: &Tables, after: &Tables) {
+        let Some(block) = blocks(message).flatten().next() else {
+            return;
+        };
+        let (uid, _, process) = header_numbers(message);
+        let done = status(reply) == (0, 0) || commands(message, reply).len() > 1;
+        let held = before.locks.in_use();
+        match Request::read(message, &block) {
+            Request::ProcessExit if done => {
+                self.count_exit(uid, process, before.opens.count, after);
+            }
+            Request::Locking {
+                fid,
+                kind,
+                unlocks,
+                locks,
+            } if done || status(reply) == (1, 158) => {
+                let form = match kind & TYPE_LARGE {
+                    0 => "10 bytes",
+                    _ => "20 bytes",
+                };
+                let taken = done && !locks.is_empty() && above_65_535(process);
+                self.met_if(taken, &format!("{form}: lock taken with PIDHigh not 0"));
+                self.count_unlocks(fid, unlocks, form, held, done);
+            }
+            Request::Read { fid, range } if done => {
+                let what = "READ done over an own exclusive lock of a process above 65,535";
+                self.met_if(
+                    above_65_535(process) && owned(held, fid, process, range),
+                    what,
+                );
+            }
+            Request::Write { fid, offset, data } if done => {
+                let length = data.len() as u64;
+                let range = Range { offset, length };
+                let what = "WRITE done over an own exclusive lock of a process above 65,535";
+                self.met_if(
+                    above_65_535(process) && owned(held, fid, process, range),
+                    what,
+                );
+            }
+            _ => {}
+        }
+    }
+
+    /// So many opens there were before.
+    fn count_exit(&mut self, uid: u16, process: u32, before: usize, after: &Tables) {
+        let takes = after.opens.count < before;
+        let is_twins = |open: &&Open| open.uid == uid && twins(open.process, process);
+        let left: Vec<u16> = after
+            .opens
+            .in_use()
+            .iter()
+            .filter(is_twins)
+            .map(|open| open.fid)
+            .collect();
+        let mut locks = after.locks.in_use().iter();
+        let locked = locks.any(|lock| left.contains(&lock.fid) && twins(lock.process, process));
+        let what = match takes {
+            true => "PROCESS_EXIT takes opens, a twin's stays",
+            false => "PROCESS_EXIT takes nothing, a twin's open stays",
+        };
+        self.met_if(!left.is_empty(), what);
+        let what = "PROCESS_EXIT takes opens, a twin's stays with its lock";
+        self.met_if(takes && locked, what);
+        let what = "PROCESS_EXIT of a process above 65,535 takes opens";
+        self.met_if(takes && above_65_535(process), what);
+    }
+
+    /// The unlocks in turn, up to the first that finds no lock.
+    fn count_unlocks(&mut self, fid: u16, unlocks: Ranges, form: &str, held: &[Lock], done: bool) {
+        let mut list = held.to_vec();
+        for unlock in unlocks.iter() {
+            let alike = |lock: &Lock| lock.fid == fid && lock.range == unlock.range;
+            let equal = |lock: &Lock| alike(lock) && lock.process == unlock.process;
+            let is_twins = |lock: &Lock| alike(lock) && twins(lock.process, unlock.process);
+            let Some(place) = list.iter().position(equal) else {
+                let what = format!("{form}: unlock refused 1/158, a twin holding such a lock");
+                return self.met_if(list.iter().any(is_twins), &what);
+            };
+            let behind = list[..place].iter().any(is_twins);
+            list.remove(place);
+            let what = format!("{form}: unlock done with PIDHigh not 0");
+            self.met_if(done && above_65_535(unlock.process), &what);
+            let what = format!("{form}: unlock done, a twin's lock alike standing before it");
+            self.met_if(done && behind, &what);
+        }
+    }
+
+    /// Prints the counts. False if something was met too seldom.
+    pub fn print(&self) -> bool {
+        let mut good = true;
+        println!("processes above 65,535, and twins, which differ in the upper half only:");
+        let mut all: Vec<String> = MET.map(str::to_string).into();
+        for form in ["10 bytes", "20 bytes"] {
+            all.extend(MET_BY_FORM.map(|what| format!("{form}: {what}")));
+        }
+        for what in all {
+            let count = self.met.get(&what).copied().unwrap_or(0);
+            println!("  {what}: {count}");
+            good &= enough(count, LEAST, &what);
+        }
+        good
+    }
+}
+
+/// Whether an exclusive lock of the owner overlaps the range.
+fn owned(held: &[Lock], fid: u16, process: u32, range: Range) -> bool {
+    held.iter().any(|lock| {
+        lock.fid == fid && lock.process == process && !lock.shared && lock.range.overlaps(range)
+    })
+}
