@@ -25,6 +25,8 @@ mod holders;
 mod maker;
 #[path = "make_history/plan.rs"]
 mod plan;
+#[path = "make_history/processes.rs"]
+mod processes;
 #[path = "make_history/tally.rs"]
 mod tally;
 
@@ -74,6 +76,7 @@ fn made() -> Maker {
     day::day(&mut maker);
     plan::after_the_day(&mut maker);
     holders::holders(&mut maker);
+    processes::processes(&mut maker);
     maker
 }
 

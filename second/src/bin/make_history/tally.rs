@@ -6,11 +6,11 @@ use second::grammar::{
     blocks, Block, Why, CLOSE, LOCKING_ANDX, LOGOFF_ANDX, PROCESS_EXIT, READ_ANDX, SERVED,
     TREE_DISCONNECT, WRITE_ANDX,
 };
-use second::header::header_numbers;
+use second::header::{above_65_535, header_numbers, twins};
 use second::listing::{self, Dropped};
 use second::messages::SUCCESSIONS;
 use second::refusals::WireRefusal;
-use second::request::Request;
+use second::request::{Ranges, Request, TYPE_LARGE};
 use second::tables::{Lock, Range, Tables, FILE_BYTES, LOCKS, OPENS, SESSIONS, TREES};
 use std::collections::{BTreeMap, BTreeSet};
 
@@ -18,7 +18,7 @@ use std::collections::{BTreeMap, BTreeSet};
 const NUMBERS: [u8; 7] = [0, 1, 5, 6, 7, 8, 9];
 
 /// Single things to be reached, with the least count.
-const SINGLE: [(&str, usize); 40] = [
+const SINGLE: [(&str, usize); 44] = [
     ("add a session: 5", 3),
     ("add a tree: 5", 3),
     ("add a tree: 6", 3),
@@ -48,7 +48,11 @@ const SINGLE: [(&str, usize); 40] = [
     ("lock of length 0", 5),
     ("lock that ends at 2^64", 3),
     ("locks removed with an open", 5),
-    ("open left by process exit for its high half", 1),
+    ("open of a process above 65,535", 10),
+    ("PROCESS_EXIT takes opens, a twin's stays", 5),
+    ("PROCESS_EXIT takes nothing, a twin's open stays", 5),
+    ("READ: holder a twin's lock of the same FID", 5),
+    ("WRITE: holder a twin's lock of the same FID", 5),
     ("chain refused behind a command that stands", 10),
     ("done: nobody holds", 300),
     ("number 1: holder not written", 10),
@@ -60,6 +64,8 @@ const SINGLE: [(&str, usize); 40] = [
     ("holder is WRITE's own owner", 5),
     ("holder is LOCKING's own owner", 5),
 ];
+/// The two forms of ranges.
+const FORMS: [&str; 2] = ["range of 10 bytes", "range of 20 bytes"];
 /// The commands that a lock can bar.
 const BARRED: [u8; 3] = [LOCKING_ANDX, READ_ANDX, WRITE_ANDX];
 
@@ -98,9 +104,13 @@ impl Tally {
                 self.note_add("a tree", "TID", answer);
                 self.count_if(answer.number == 0, &format!("tree of right {right}"));
             }
-            Call::AddOpen { access, .. } => {
+            Call::AddOpen {
+                access, process, ..
+            } => {
                 self.note_add("an open", "FID", answer);
                 self.count_if(answer.number == 0, &format!("open of access {access}"));
+                let above = answer.number == 0 && above_65_535(*process);
+                self.count_if(above, "open of a process above 65,535");
             }
             Call::LoadFile { .. } => self.count(format!("load a file: {}", answer.number)),
             Call::DropConnection { connection } => {
@@ -147,7 +157,8 @@ impl Tally {
             listing::Answer::Chain(blocks) => {
                 self.note_chain(message, &blocks, &answer.reply, !unchanged);
                 self.note_first(message, &blocks[0], &answer.reply, before);
-                self.note_hanging(&blocks, before, after);
+                self.note_hanging(before, after);
+                self.note_process(message, &blocks[0], answer, before, after);
             }
         }
     }
@@ -192,6 +203,8 @@ impl Tally {
             _ => "in a chain",
         };
         self.count(format!("holder for {command} {among}"));
+        let what = format!("holder for {command} of a process above 65,535");
+        self.count_if(above_65_535(lock.process), &what);
         let owner = match Request::read(message, &block) {
             Request::Locking {
                 fid,
@@ -205,7 +218,11 @@ impl Tally {
                 barred.map(|asked| (fid, asked.process))
             }
             Request::Read { fid, .. } | Request::Write { fid, .. } => {
-                Some((fid, header_numbers(message).2))
+                let process = header_numbers(message).2;
+                let twin = lock.fid == fid && twins(lock.process, process);
+                let what = format!("{command}: holder a twin's lock of the same FID");
+                self.count_if(twin, &what);
+                Some((fid, process))
             }
             _ => None,
         };
@@ -313,14 +330,68 @@ impl Tally {
         self.count_if(gap, "write over a gap");
     }
 
-    /// What a removal took with it or left.
-    fn note_hanging(&mut self, blocks: &[Block], before: &Tables, after: &Tables) {
+    /// What a removal took with it.
+    fn note_hanging(&mut self, before: &Tables, after: &Tables) {
         let fewer = after.opens.count < before.opens.count;
         let unlocked = after.locks.count < before.locks.count;
         self.count_if(fewer && unlocked, "locks removed with an open");
-        let exit = fewer && blocks[0].command == PROCESS_EXIT;
-        let high = after.opens.in_use().iter().any(|o| o.process > 0xFFFF);
-        self.count_if(exit && high, "open left by process exit for its high half");
+    }
+
+    /// What came of processes above 65,535 and of twins, which differ in the
+    /// upper half only.
+    fn note_process(
+        &mut self,
+        message: &[u8],
+        block: &Block,
+        answer: &Answer,
+        before: &Tables,
+        after: &Tables,
+    ) {
+        let (uid, _, process) = header_numbers(message);
+        let done = status(&answer.reply) == (0, 0) || reply_blocks(&answer.reply).len() > 1;
+        match Request::read(message, block) {
+            Request::ProcessExit => {
+                let takes = match after.opens.count < before.opens.count {
+                    true => "takes opens, a twin's stays",
+                    false => "takes nothing, a twin's open stays",
+                };
+                let mut left = after.opens.in_use().iter();
+                let twin = left.any(|open| open.uid == uid && twins(open.process, process));
+                self.count_if(done && twin, &format!("PROCESS_EXIT {takes}"));
+            }
+            Request::Locking {
+                fid,
+                kind,
+                unlocks,
+                locks,
+            } => {
+                let form = FORMS[usize::from(kind & TYPE_LARGE != 0)];
+                let above = done && above_65_535(process);
+                let what = format!("{form} locked with PIDHigh not 0");
+                self.count_if(above && !locks.is_empty(), &what);
+                let what = format!("{form} unlocked with PIDHigh not 0");
+                self.count_if(above && !unlocks.is_empty(), &what);
+                if status(&answer.reply) == WireRefusal::NotLocked.class_and_code() {
+                    self.note_not_locked(fid, unlocks, form, before);
+                }
+            }
+            _ => {}
+        }
+    }
+
+    /// Whether a release found nothing for the upper half alone.
+    fn note_not_locked(&mut self, fid: u16, unlocks: Ranges, form: &str, before: &Tables) {
+        let mut list = before.locks.in_use().to_vec();
+        for unlock in unlocks.iter() {
+            let alike = |lock: &Lock| lock.fid == fid && lock.range == unlock.range;
+            let equal = |lock: &Lock| alike(lock) && lock.process == unlock.process;
+            let Some(place) = list.iter().position(equal) else {
+                let is_twins = |lock: &Lock| alike(lock) && twins(lock.process, unlock.process);
+                let what = format!("{form} refused 1/158, a twin holding such a lock");
+                return self.count_if(list.iter().any(is_twins), &what);
+            };
+            list.remove(place);
+        }
     }
 
     /// What was not reached often enough.
@@ -364,6 +435,7 @@ pub fn required() -> Vec<(String, usize)> {
     }
     all.extend(refusals_by_command());
     all.extend(holders());
+    all.extend(processes());
     all
 }
 
@@ -382,6 +454,19 @@ fn holders() -> Vec<(String, usize)> {
     for command in BARRED.map(name) {
         all.push((format!("holder for {command} alone"), 5));
         all.push((format!("holder for {command} in a chain"), 2));
+    }
+    all
+}
+
+/// Processes above 65,535, as holders and in both forms of ranges.
+fn processes() -> Vec<(String, usize)> {
+    let holder = |command| format!("holder for {command} of a process above 65,535");
+    let mut all: Vec<_> = BARRED.map(name).map(|command| (holder(command), 5)).into();
+    for form in FORMS {
+        all.push((format!("{form} locked with PIDHigh not 0"), 5));
+        all.push((format!("{form} unlocked with PIDHigh not 0"), 2));
+        let refused = format!("{form} refused 1/158, a twin holding such a lock");
+        all.push((refused, 2));
     }
     all
 }
