@@ -38,7 +38,7 @@ static const struct gateway_tables expected = {
               {.fid = 2, .uid = 3, .tid = 4, .process = 7, .file = 5, .access = 1},
               {.fid = 3, .uid = 3, .tid = 4, .process = 8, .file = 6, .access = 0}},
     .lock_count = 2,
-    .locks = {{.fid = 1, .process = 4321, .offset = 10, .length = 20, .shared = 0},
+    .locks = {{.fid = 1, .process = 200929, .offset = 10, .length = 20, .shared = 0},
               {.fid = 2, .process = 1234, .offset = 4294967301, .length = 8589934598, .shared = 1}},
     .files = {[3] = {.size = 300}, [9] = {.size = 77}},
 };
@@ -95,14 +95,15 @@ static void put(uint8_t *message, size_t place, size_t count, uint64_t number)
 }
 
 /*
- * A LOCKING message of UID 3 and TID 4 on connection 70003; its ranges have 20 bytes, type bit 0x10. Gives the number that the
- * call returned. The holder's words are all ones before it.
+ * A LOCKING message of UID 3 and TID 4 on connection 70003; its ranges have 20 bytes, type bit 0x10. The process's upper half
+ * stands in the header. Gives the number that the call returned. The holder's words are all ones before it.
  */
-static uint8_t ask_lock(uint16_t fid, uint8_t type, uint16_t process, uint64_t offset, uint64_t length, size_t room_length)
+static uint8_t ask_lock(uint16_t fid, uint8_t type, uint32_t process, uint64_t offset, uint64_t length, size_t room_length)
 {
     uint8_t message[MESSAGE] = {0xFF, 0x53, 0x4D, 0x42, 0x24, [32] = 8, 0xFF};
     size_t reply_length = 0;
     memset(&holder, 0xFF, sizeof holder);
+    put(message, 12, 2, process >> 16); /* PIDHigh */
     put(message, 24, 2, 4); /* TID */
     put(message, 28, 2, 3); /* UID */
     put(message, 37, 2, fid);
@@ -128,7 +129,7 @@ static void require_status(unsigned class, unsigned code)
 }
 
 /* A lock that is granted. */
-static void lock(uint16_t fid, uint8_t type, uint16_t process, uint64_t offset, uint64_t length)
+static void lock(uint16_t fid, uint8_t type, uint32_t process, uint64_t offset, uint64_t length)
 {
     require_done(ask_lock(fid, type, process, offset, length, sizeof room), "gateway_take_message");
     require_status(0, 0);
@@ -151,7 +152,7 @@ static void fill(void)
     add_open(65541, 9, 2, 1);
     add_open(7, 5, 1, 2);
     add_open(8, 6, 0, 3);
-    lock(1, 0x00, 4321, 10, 20);
+    lock(1, 0x00, 200929, 10, 20);
     lock(2, 0x01, 1234, 4294967301, 8589934598);
 }
 
@@ -257,11 +258,11 @@ static void read_holder(void)
 {
     lock(3, 0x00, 5555, 0, 1);
     same_holder(0, (struct gateway_holder){0});
-    lock(2, 0x00, 62000, 5000000000007, 6000000000008);
+    lock(2, 0x00, 62000000, 5000000000007, 6000000000008);
     require_done(ask_lock(2, 0x00, 1234, 5000000000100, 1, sizeof room), "gateway_take_message");
     require_status(1, 33);
     same_holder(1, (struct gateway_holder){
-                       .held = 1, .fid = 2, .process = 62000, .place = 3, .offset = 5000000000007, .length = 6000000000008});
+                       .held = 1, .fid = 2, .process = 62000000, .place = 3, .offset = 5000000000007, .length = 6000000000008});
     require_done(ask_lock(9, 0x00, 1234, 5000000000100, 1, sizeof room), "gateway_take_message");
     require_status(1, 6);
     same_holder(2, (struct gateway_holder){0});

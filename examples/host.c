@@ -1,13 +1,14 @@
 /*
- * An example host: it serves one file, the revocation list, to two terminals.
+ * An example host: it serves one file, the revocation list, to two terminals and a test bench.
  *
  *     host [--show] [--pieces SIZE] [--list LIST] [CONNECTION=STREAM ..] > replies
  *
  * A stream is the bytes of a terminal's TCP connection: messages, each behind the four-byte session header of RFC 1002.
- * Terminal 1 is connection 5 and terminal 2 is connection 6. The files are read one after the other, and what is begun on a
- * connection at the end of one goes on in its next. With no file named, standard input is connection 5's stream. Replies go
- * to standard output in the same framing, in the order of their messages. A message that is dropped has no reply. With
- * --show a person can read what came of each message, and whose lock is in the way of one that is refused for a lock.
+ * Terminal 1 is connection 5, terminal 2 is connection 6 and the bench is connection 7. The files are read one after the
+ * other, and what is begun on a connection at the end of one goes on in its next. With no file named, standard input is
+ * connection 5's stream. Replies go to standard output in the same framing, in the order of their messages. A message that is
+ * dropped has no reply. With --show a person can read what came of each message, and whose lock is in the way of one that is
+ * refused for a lock.
  *
  * SIZE is how many bytes are read at a time at most, 1 to 4,096. LIST is a file of at most 4,096 bytes to serve; without it a
  * built-in list is served.
@@ -32,17 +33,22 @@
 enum { RIGHT_READ = 0, RIGHT_READ_WRITE = 1 };
 enum { ACCESS_READ = 0, ACCESS_BOTH = 2 };
 
-/* A terminal as the gateway knows it after login. Login itself is the host's matter and left out here. */
+/*
+ * A terminal as the gateway knows it after login, with an open for each of its processes. Login itself is the host's matter
+ * and left out here.
+ */
 struct terminal {
     uint32_t connection;
-    uint32_t process;
     uint32_t right;
     uint32_t access;
+    size_t process_count;
+    uint32_t processes[2]; /* PIDHigh * 65,536 + PIDLow of the request that opens the file */
 };
 
 static const struct terminal terminals[] = {
-    {5, 7, RIGHT_READ_WRITE, ACCESS_BOTH},
-    {6, 8, RIGHT_READ, ACCESS_READ},
+    {5, RIGHT_READ_WRITE, ACCESS_BOTH, 1, {7}},
+    {6, RIGHT_READ, ACCESS_READ, 1, {8}},
+    {7, RIGHT_READ_WRITE, ACCESS_BOTH, 2, {65537, 1}}, /* the bench: two that differ in PIDHigh only */
 };
 
 #define TERMINALS (sizeof terminals / sizeof terminals[0])
@@ -121,9 +127,11 @@ static void add_terminal(struct host *host, const struct terminal *terminal)
     uint16_t uid, tid, fid;
     require_done(gateway_add_session(&host->tables, terminal->connection, &uid), "gateway_add_session");
     require_done(gateway_add_tree(&host->tables, uid, terminal->right, &tid), "gateway_add_tree");
-    uint8_t number = gateway_add_open(&host->tables, uid, tid, terminal->process, REVOCATION_LIST, terminal->access,
-                                      &fid);
-    require_done(number, "gateway_add_open");
+    for (size_t place = 0; place < terminal->process_count; place++) {
+        uint8_t number = gateway_add_open(&host->tables, uid, tid, terminal->processes[place], REVOCATION_LIST,
+                                          terminal->access, &fid);
+        require_done(number, "gateway_add_open");
+    }
 }
 
 static void prepare(struct host *host, const char *path)
@@ -238,7 +246,7 @@ static void serve_file(struct host *host, const char *word)
         close(stream);
         return;
     }
-    stop("a stream of no terminal; CONNECTION=STREAM is needed, and 5 or 6 for CONNECTION");
+    stop("a stream of no terminal; CONNECTION=STREAM is needed, and 5, 6 or 7 for CONNECTION");
 }
 
 /* Every stream ends with nothing begun. */
