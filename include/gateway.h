@@ -66,14 +66,14 @@ struct gateway_open {
     uint64_t fid;     /* 1 to 64; fits up to 65,535 */
     uint64_t uid;     /* its tree's session's; fits up to 65,535 */
     uint64_t tid;     /* its tree's; fits up to 65,535 */
-    uint64_t process; /* the client's process; fits up to 4,294,967,295 */
+    uint64_t process; /* PIDHigh * 65,536 + PIDLow of the request that opened the file; fits up to 4,294,967,295 */
     uint64_t file;    /* 0 to 15; fits up to 255 */
     uint64_t access;  /* 0 read, 1 write, 2 both; fits up to 255 */
 };
 
 struct gateway_lock {
     uint64_t fid;     /* its open's; fits up to 65,535 */
-    uint64_t process; /* the owner's process; fits up to 4,294,967,295 */
+    uint64_t process; /* the owner's: the 16 bits of its range, PIDHigh above them; fits up to 4,294,967,295 */
     uint64_t offset;  /* the first byte locked */
     uint64_t length;  /* how many bytes */
     uint64_t shared;  /* 1 shared, 0 exclusive; nothing else fits */
@@ -106,7 +106,7 @@ struct gateway_tables {
 struct gateway_holder {
     uint64_t held;    /* 1 if the reply's Status is 1/33; otherwise 0, and so is all else */
     uint64_t fid;     /* of the open through which the lock is held */
-    uint64_t process; /* the owner's process */
+    uint64_t process; /* the owner's process, as in its lock */
     uint64_t place;   /* the lock's place in that list, from 0 */
     uint64_t offset;  /* the first byte locked */
     uint64_t length;  /* how many bytes, at least 1: the last is offset + (length - 1) */
@@ -134,7 +134,10 @@ uint8_t gateway_add_session(struct gateway_tables *tables, uint32_t connection, 
 /* Adds a tree to the session of that UID. On GATEWAY_DONE its TID is in *tid. */
 uint8_t gateway_add_tree(struct gateway_tables *tables, uint32_t uid, uint32_t right, uint16_t *tid);
 
-/* Opens a file through the tree of that TID and UID, for a process. On GATEWAY_DONE the FID is in *fid. */
+/*
+ * Opens a file through the tree of that TID and UID, for a process: PIDHigh * 65,536 + PIDLow of the request that opens it.
+ * On GATEWAY_DONE the FID is in *fid.
+ */
 uint8_t gateway_add_open(struct gateway_tables *tables, uint32_t uid, uint32_t tid, uint32_t process, uint32_t file,
                          uint32_t access, uint16_t *fid);
 
