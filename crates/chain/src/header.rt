@@ -8,6 +8,8 @@ pub const COMMAND: usize = 4;
 
 const FLAGS: usize = 9;
 
+pub const PID_HIGH: usize = 12;
+
 pub const TID: usize = 24;
 
 pub const PID_LOW: usize = 26;
