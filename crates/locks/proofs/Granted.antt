@@ -15,12 +15,14 @@ use Rattle.lists.specs.declared.Found.the-variants.{At, Nothing}
 use Rattle.records.specs.declared.Lock.{Lock}
 use Rattle.locks.specs.Range.{overlaps, passesEnd}
 use Rattle.locks.specs.Answer.{bars, inWay, answersFor, answers}
-use Rattle.locks.specs.Wire.{rangeAt, rangesAt, length-ranges, ranges-more}
-use Rattle.locks.specs.Request.{rangePasses, askOf, lockOf, holderAt, Grants, granted, blocked, afterWalk, grantAll}
+use Rattle.locks.specs.Wire.{rangeAt, rangesAt}
+use Rattle.locks.specs.Request.{ofHeader, rangesOf, rangePasses, askOf, lockOf, holderAt, Grants, granted, blocked, afterWalk, grantAll}
 use Rattle.locks.specs.Blocked.{rangeMeets, blockedAt, conflictOf}
 use Rattle.locks.specs.declared.types.Ask.{Ask}
 use Rattle.locks.specs.declared.types.LockRange.{LockRange}
+use Rattle.locks.specs.declared.types.Request.{Request}
 use Rattle.locks.specs.declared.types.Purpose.the-variants.{Grant}
+use Rattle.locks.proofs.Whole.{map-snoc, length-of, of-more}
 
 -- a range passes 2^64 where its numbers say so
 pub range-passes : {r w : LockRange} {t u : Bool} → r ≡ w → t ≡ passesEnd (r .offset) (r .length) → t ≡ u → rangePasses w ≡ u
@@ -33,11 +35,6 @@ after-granted : (f : Found) (list : List Lock) (g : Grants) (l : List Lock) → 
 unfolding blockedAt afterWalk
 after-granted (At k) list g l h e = let no : _≡_ {A = ℕ} 0 1 = cc in absurd (omega arith)
 after-granted Nothing list g l h e = h e
-
--- the lock of one range more
-pub map-snoc : (f : LockRange → Lock) (rs : List LockRange) (r : LockRange) → map f (rs ++ (r ∷ [])) ≡ map f rs ++ (f r ∷ [])
-map-snoc f [] r = refl
-map-snoc f (x ∷ rs) r = ap (λ (l : List Lock). f x ∷ l) (map-snoc f rs r)
 
 -- a walk that starts at a place counts from 0 there
 pub found-whole : {A : Type 0} (p : A → Bool) (from : ℕ) (l : List A) → found p l ≡ foundFrom (from - from) p l
@@ -92,14 +89,18 @@ module _ (file : ℕ → ℕ) (fid : ℕ) (shared : Bool) (r : LockRange) where
   unfolding found askOf
   own-exclusive e q f xs = rw f (meets-bars e xs 0)
 
-module _ (fid : ℕ) (shared large : Bool) (s : List ℕ) (from : ℕ) where
-  -- the request's own locks, those of its ranges from..k
+module _ (q : Request) (s : List ℕ) where
+  -- range k of the request
+  abbrev nth : ℕ → LockRange
+  nth k = ofHeader (q .high) (rangeAt (q .large) s k)
+
+  -- the request's own locks, those of its ranges before k
   abbrev pub own : ℕ → List Lock
-  own k = map (lockOf fid shared) (rangesAt large s from (k - from))
+  own k = map (lockOf (q .fid) (q .shared)) (rangesOf q s (q .unlocks) (k - q .unlocks))
 
   -- as many as there are ranges
-  pub length-own : (k : ℕ) → length (own k) ≡ k - from
-  length-own k = rw (length-map, length-ranges)
+  pub length-own : (k : ℕ) → length (own k) ≡ k - q .unlocks
+  length-own k = rw (length-map, length-of)
 
   module _ (list : List Lock) where
     -- the list with them behind it
@@ -107,13 +108,14 @@ module _ (fid : ℕ) (shared large : Bool) (s : List ℕ) (from : ℕ) where
     along k = list ++ own k
 
     -- at first there are none of them
-    pub along-start : along from ≡ list
-    unfolding rangesAt
-    along-start = let e : from - from ≡ 0 = omega arith in rw e (append-nil list)
+    pub along-start : along (q .unlocks) ≡ list
+    unfolding rangesOf rangesAt
+    along-start = let e : q .unlocks - q .unlocks ≡ 0 = omega arith in rw e (append-nil list)
 
     -- one lock more
-    pub along-more : (k : ℕ) → from ≤ k → along (k + 1) ≡ along k ++ (lockOf fid shared (rangeAt large s k) ∷ [])
-    along-more k h = rw (ranges-more large s from k h, map-snoc) (sym (append-assoc list (own k) (lockOf fid shared (rangeAt large s k) ∷ [])))
+    pub along-more : (k : ℕ) → q .unlocks ≤ k → along (k + 1) ≡ along k ++ (lockOf (q .fid) (q .shared) (nth k) ∷ [])
+    along-more k h =
+        rw (of-more q s (q .unlocks) k h, map-snoc (lockOf (q .fid) (q .shared))) (sym (append-assoc list (own k) (lockOf (q .fid) (q .shared) (nth k) ∷ [])))
 
 module _ (file : ℕ → ℕ) (fid : ℕ) (shared : Bool) where
   -- where nothing stands in the way all locks are granted, in order
@@ -127,42 +129,39 @@ module _ (file : ℕ → ℕ) (fid : ℕ) (shared : Bool) where
       (λ h. granted-all rs (list ++ (lockOf fid shared r ∷ [])) h ∙ ap granted (append-assoc list (lockOf fid shared r ∷ []) (map (lockOf fid shared) rs)))
       e
 
-  module _ (large : Bool) (s : List ℕ) (from : ℕ) (list : List Lock) where
-    -- at first all ranges stand against the list alone
-    pub grant-start : (rs : List LockRange) → grantAll file fid shared rs list ≡ grantAll file fid shared rs (along fid shared large s from list from)
-    grant-start rs = ap (grantAll file fid shared rs) (sym (along-start fid shared large s from list))
+module _ (file : ℕ → ℕ) (q : Request) (s : List ℕ) (list : List Lock) where
+  -- at first all ranges stand against the list alone
+  pub grant-start : (rs : List LockRange) → grantAll file (q .fid) (q .shared) rs list ≡ grantAll file (q .fid) (q .shared) rs (along q s list (q .unlocks))
+  grant-start rs = ap (grantAll file (q .fid) (q .shared) rs) (sym (along-start q s list))
 
-    module _ (k : ℕ) where
-      -- a lock in the way of range k blocks the request
-      pub grant-stop : (rs : List LockRange) (place : ℕ) → At place ≡ conflictOf file fid shared large s from k list
-          → grantAll file fid shared (rangeAt large s k ∷ rs) (along fid shared large s from list k) ≡ blocked (holderAt (along fid shared large s from list k) place)
-      unfolding grantAll afterWalk conflictOf
-      grant-stop rs place e = rw (← e)
+  module _ (k : ℕ) where
+    -- a lock in the way of range k blocks the request
+    pub grant-stop : (rs : List LockRange) (place : ℕ) → At place ≡ conflictOf file q s k list
+        → grantAll file (q .fid) (q .shared) (nth q s k ∷ rs) (along q s list k) ≡ blocked (holderAt (along q s list k) place)
+    unfolding grantAll afterWalk conflictOf
+    grant-stop rs place e = rw (← e)
 
-      -- with none in its way it is granted
-      pub grant-more : (rs : List LockRange) → from ≤ k → Nothing ≡ conflictOf file fid shared large s from k list
-          → grantAll file fid shared (rangeAt large s k ∷ rs) (along fid shared large s from list k)
-          ≡ grantAll file fid shared rs (along fid shared large s from list (k + 1))
-      unfolding grantAll afterWalk conflictOf
-      grant-more rs h e = rw (← e, along-more fid shared large s from list k h)
+    -- with none in its way it is granted
+    pub grant-more : (rs : List LockRange) → q .unlocks ≤ k → Nothing ≡ conflictOf file q s k list
+        → grantAll file (q .fid) (q .shared) (nth q s k ∷ rs) (along q s list k) ≡ grantAll file (q .fid) (q .shared) rs (along q s list (k + 1))
+    unfolding grantAll afterWalk conflictOf
+    grant-more rs h e = rw (← e, along-more q s list k h)
 
-      -- whether a lock is in the way of range k
-      abbrev asked : Lock → Bool
-      asked = answers file (askOf fid (Grant shared) (rangeAt large s k))
+    -- whether a lock is in the way of range k
+    abbrev asked : Lock → Bool
+    asked = answers file (askOf (q .fid) (Grant (q .shared)) (nth q s k))
 
-      -- a listed lock is in the way of range k
-      pub conflict-listed : (place : ℕ) → At place ≡ found asked list → At place ≡ conflictOf file fid shared large s from k list
-      unfolding conflictOf firstOf
-      conflict-listed place e = rw (found-append, ← e)
+    -- a listed lock is in the way of range k
+    pub conflict-listed : (place : ℕ) → At place ≡ found asked list → At place ≡ conflictOf file q s k list
+    unfolding conflictOf firstOf
+    conflict-listed place e = rw (found-append, ← e)
 
-      -- none is, and none of the request's own
-      pub conflict-none : Nothing ≡ found asked list → Nothing ≡ found asked (own fid shared large s from k)
-          → Nothing ≡ conflictOf file fid shared large s from k list
-      unfolding conflictOf firstOf shifted
-      conflict-none e g = rw (found-append, ← e, ← g)
+    -- none is, and none of the request's own
+    pub conflict-none : Nothing ≡ found asked list → Nothing ≡ found asked (own q s k) → Nothing ≡ conflictOf file q s k list
+    unfolding conflictOf firstOf shifted
+    conflict-none e g = rw (found-append, ← e, ← g)
 
-      -- none is, but one of the request's own
-      pub conflict-own : (place n : ℕ) → length list ≡ n → Nothing ≡ found asked list → At place ≡ found asked (own fid shared large s from k)
-          → At (n + place) ≡ conflictOf file fid shared large s from k list
-      unfolding conflictOf firstOf shifted
-      conflict-own place n l e g = rw (found-append, ← e, ← g, l)
+    -- none is, but one of the request's own
+    pub conflict-own : (place n : ℕ) → length list ≡ n → Nothing ≡ found asked list → At place ≡ found asked (own q s k) → At (n + place) ≡ conflictOf file q s k list
+    unfolding conflictOf firstOf shifted
+    conflict-own place n l e g = rw (found-append, ← e, ← g, l)

@@ -19,10 +19,11 @@ use Rattle.tables.specs.Words.{lockArray}
 use Rattle.tables.specs.Written.{locksIn}
 use Rattle.locks.specs.Wire.{rangeAt, rangesAt}
 use Rattle.locks.specs.Answer.{answers}
-use Rattle.locks.specs.Request.{askOf, lockOf, holderAt, Grants, granted, blocked, afterWalk, grantAll}
+use Rattle.locks.specs.Request.{ofHeader, rangesOf, askOf, lockOf, holderAt, Grants, granted, blocked, afterWalk, grantAll}
 use Rattle.locks.specs.Blocked.{blockedAt}
 use Rattle.locks.specs.Listed.{listed-at}
 use Rattle.locks.specs.declared.types.LockRange.{LockRange}
+use Rattle.locks.specs.declared.types.Request.{Request}
 use Rattle.locks.specs.declared.types.Holder.{Holder}
 use Rattle.locks.specs.declared.types.Purpose.the-variants.{Grant}
 
@@ -76,17 +77,17 @@ holder-listed w more k h =
     List·getD-append (locksIn w) more noLock k h ∙ listed-at w k h
 
 -- the lock of the i-th of the request's ranges
-range-lock : (f : LockRange → Lock) (large : Bool) (s : List ℕ) (from n i : ℕ) (d : Lock) → i < n
-    → getD (map f (rangesAt large s from n)) i d ≡ f (rangeAt large s (from + i))
-unfolding rangesAt
-range-lock f large s from zero i d h = absurd (omega arith)
-range-lock f large s from (suc n) zero d h = rw add-zero
-range-lock f large s from (suc n) (suc i) d h =
+range-lock : (f : LockRange → Lock) (q : Request) (s : List ℕ) (from n i : ℕ) (d : Lock) → i < n
+    → getD (map f (rangesOf q s from n)) i d ≡ f (ofHeader (q .high) (rangeAt (q .large) s (from + i)))
+unfolding rangesOf rangesAt
+range-lock f q s from zero i d h = absurd (omega arith)
+range-lock f q s from (suc n) zero d h = rw add-zero
+range-lock f q s from (suc n) (suc i) d h =
     let e : suc from + i ≡ from + suc i = omega arith in
-    rw (← e) (range-lock f large s (suc from) n i d (omega arith))
+    rw (← e) (range-lock f q s (suc from) n i d (omega arith))
 
 -- a place behind the list is that of one of the request's locks
-pub holder-own : (list : List Lock) (f : LockRange → Lock) (large : Bool) (s : List ℕ) (from n i k : ℕ) → i < n → k ≡ length list + i
-    → getD (list ++ map f (rangesAt large s from n)) k noLock ≡ f (rangeAt large s (from + i))
-holder-own list f large s from n i k h e =
-    rw e (getD-append-add list (map f (rangesAt large s from n)) i noLock ∙ range-lock f large s from n i noLock h)
+pub holder-own : (list : List Lock) (f : LockRange → Lock) (q : Request) (s : List ℕ) (from n i k : ℕ) → i < n → k ≡ length list + i
+    → getD (list ++ map f (rangesOf q s from n)) k noLock ≡ f (ofHeader (q .high) (rangeAt (q .large) s (from + i)))
+holder-own list f q s from n i k h e =
+    rw e (getD-append-add list (map f (rangesOf q s from n)) i noLock ∙ range-lock f q s from n i noLock h)

@@ -1,4 +1,5 @@
 pub mod Ahead
+pub mod Whole
 pub mod Lent
 pub mod Purposes
 pub mod Removed

@@ -20,7 +20,7 @@ use Rattle.tables.specs.Words.{word, lockArray}
 use Rattle.tables.specs.Written.{locksIn}
 use Rattle.tables.specs.ChangeLaws.{lockArray-count, count-set}
 use Rattle.locks.specs.Wire.{rangeSize, rangesAt}
-use Rattle.locks.specs.Request.{lockOf, releaseAll, holderAt, Grants, grantAll, granted, blocked, afterGrants, rangePasses, afterReleases, Result, done, refused, request, settle, locking}
+use Rattle.locks.specs.Request.{rangesOf, lockOf, releaseAll, holderAt, Grants, grantAll, granted, blocked, afterGrants, rangePasses, afterReleases, Result, done, refused, request, settle, locking}
 use Rattle.locks.specs.Blocked.{blockedAt}
 use Rattle.locks.specs.Changed.{Unlocks, isDone, Tried, Settles}
 use Rattle.locks.specs.declared.types.LockRange.{LockRange}
@@ -190,12 +190,12 @@ settles-malformed file w q area h =
 -- one of their size
 pub locking-sized : (file : ℕ → ℕ) (locks : List Lock) (count : ℕ) (q : Request) (area : List ℕ) → length area ≡ (q .unlocks + q .locks) * rangeSize (q .large)
     → locking file locks count q area
-    ≡ settle locks count (request file (q .fid) (q .shared) (rangesAt (q .large) area 0 (q .unlocks)) (rangesAt (q .large) area (q .unlocks) (q .locks)) (take count locks))
+    ≡ settle locks count (request file (q .fid) (q .shared) (rangesOf q area 0 (q .unlocks)) (rangesOf q area (q .unlocks) (q .locks)) (take count locks))
 unfolding locking
 locking-sized file locks count q area h = rw (eq-eqb (length area) ((q .unlocks + q .locks) * rangeSize (q .large)) h)
 
 -- without unlocks there are only the locks
-pub no-unlocks : (file : ℕ → ℕ) (fid : ℕ) (shared large : Bool) (area : List ℕ) (n : ℕ) (locks : List LockRange) (list : List Lock) → n ≡ 0
-    → request file fid shared (rangesAt large area 0 n) locks list ≡ afterReleases file fid shared locks (some list)
-unfolding request releaseAll rangesAt
-no-unlocks file fid shared large area n locks list e = rw e
+pub no-unlocks : (file : ℕ → ℕ) (q : Request) (area : List ℕ) (locks : List LockRange) (list : List Lock) → q .unlocks ≡ 0
+    → request file (q .fid) (q .shared) (rangesOf q area 0 (q .unlocks)) locks list ≡ afterReleases file (q .fid) (q .shared) locks (some list)
+unfolding request releaseAll rangesOf rangesAt
+no-unlocks file q area locks list e = rw e

@@ -7,18 +7,19 @@ use Rattle.lists.specs.Walk.{found}
 use Rattle.lists.specs.declared.Found.{Found}
 use Rattle.lists.specs.declared.Found.the-variants.{At, Nothing}
 use Rattle.locks.specs.Range.{overlaps}
-use Rattle.locks.specs.Wire.{rangeAt, rangesAt}
+use Rattle.locks.specs.Wire.{rangeAt}
 use Rattle.locks.specs.Answer.{answers}
-use Rattle.locks.specs.Request.{lockOf, askOf, Grants, granted, blocked}
+use Rattle.locks.specs.Request.{ofHeader, rangesOf, lockOf, askOf, Grants, granted, blocked}
 use Rattle.records.specs.declared.Lock.{Lock}
 use Rattle.locks.specs.declared.types.LockRange.{LockRange}
+use Rattle.locks.specs.declared.types.Request.{Request}
 use Rattle.locks.specs.declared.types.Purpose.the-variants.{Grant}
 
--- range k against the list and, behind it, the request's own locks from..k
-unfoldable pub conflictOf : (ℕ → ℕ) → ℕ → Bool → Bool → List ℕ → ℕ → ℕ → List Lock → Found
-conflictOf file fid shared large area from k list =
-    found (answers file (askOf fid (Grant shared) (rangeAt large area k)))
-    (list ++ map (lockOf fid shared) (rangesAt large area from (k - from)))
+-- range k against the list and, behind it, the request's own locks before k
+unfoldable pub conflictOf : (ℕ → ℕ) → Request → List ℕ → ℕ → List Lock → Found
+conflictOf file q area k list =
+    found (answers file (askOf (q .fid) (Grant (q .shared)) (ofHeader (q .high) (rangeAt (q .large) area k))))
+    (list ++ map (lockOf (q .fid) (q .shared)) (rangesOf q area (q .unlocks) (k - q .unlocks)))
 
 -- a range overlaps the bytes from an offset
 unfoldable pub rangeMeets : ℕ → ℕ → LockRange → Bool

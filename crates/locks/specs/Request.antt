@@ -2,7 +2,7 @@
 -- The list is kept in order of grant. Assumes nothing.
 use Prim.Native.Nat.{ℕ, suc, _+_, _*_}
 use mathlib.Core.Bool.{Bool, cond, not}
-use mathlib.Core.List.{List, [], _∷_, _++_}
+use mathlib.Core.List.{List, [], _∷_, _++_, map}
 use mathlib.Core.Option.{Option, none, some}
 use lib.ListN.{length, take, drop, getD}
 use lib.Dec.{leb, eqb}
@@ -24,6 +24,14 @@ use Rattle.locks.specs.declared.types.Holder.{Holder}
 use Rattle.locks.specs.declared.types.Outcome.{Outcome}
 use Rattle.locks.specs.declared.types.Outcome.the-variants.{Done, Malformed, NoSuchLock, PassesEnd, Conflict, NoRecord}
 use Rattle.locks.specs.declared.types.Locking.{Locking}
+
+-- document 02, CR 4: "a 16-bit process in a lock range takes its upper half from the header"
+unfoldable pub ofHeader : ℕ → LockRange → LockRange
+ofHeader high r = record { process = 65536 * high + r .process; offset = r .offset; length = r .length }
+
+-- n ranges of a request, unlocks and locks alike, the first standing k-th in its area
+unfoldable pub rangesOf : Request → List ℕ → ℕ → ℕ → List LockRange
+rangesOf q area k n = map (ofHeader (q .high)) (rangesAt (q .large) area k n)
 
 -- what is asked of the list for one range of a request
 unfoldable pub askOf : ℕ → Purpose → LockRange → Ask
@@ -100,5 +108,5 @@ unfoldable pub locking : (ℕ → ℕ) → List Lock → ℕ → Request → Lis
 locking file locks count q area =
     settle locks count
     (cond (eqb (length area) ((q .unlocks + q .locks) * rangeSize (q .large)))
-    (request file (q .fid) (q .shared) (rangesAt (q .large) area 0 (q .unlocks)) (rangesAt (q .large) area (q .unlocks) (q .locks)) (take count locks))
+    (request file (q .fid) (q .shared) (rangesOf q area 0 (q .unlocks)) (rangesOf q area (q .unlocks) (q .locks)) (take count locks))
     (refused Malformed))

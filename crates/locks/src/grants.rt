@@ -11,6 +11,7 @@ use crate::types::Purpose;
 use crate::types::Request;
 use crate::walk::first_answer;
 use crate::wire_form::range_at;
+use crate::wire_form::range_of;
 use lists::Found;
 use tables::lock::lock_at;
 use tables::lock::put_lock;
@@ -26,7 +27,7 @@ ghost use Rattle.tables.specs.Words.{word, lockArray, lockLimits, recordsFit, t
 ghost use Rattle.tables.specs.Written.{locksIn};
 ghost use Rattle.locks.specs.Answer.{fileIn};
 ghost use Rattle.locks.specs.Wire.{rangesAt};
-ghost use Rattle.locks.specs.Request.{lockOf, holderAt, grantAll};
+ghost use Rattle.locks.specs.Request.{rangesOf, lockOf, holderAt, grantAll};
 ghost use Rattle.locks.specs.Blocked.{rangeMeets, blockedAt, conflictOf};
 
 // The first of the ranges from..to that overlaps what is asked.
@@ -58,10 +59,10 @@ fn conflict_of(
 ) -> Found
     requires { ⌜ (length (now words) ≡ 641) × (held ≡ length (locksIn (now words))) ⌝ }
     requires { ⌜ (q .unlocks ≤ k) × (k < 131072) ⌝ }
-    ensures { λ r. ⌜ r ≡ conflictOf (fileIn (now (files .entry))) (q .fid) (q .shared) (q .large) (now (area .entry)) (q .unlocks) k (locksIn (now (words .entry))) ⌝ }
+    ensures { λ r. ⌜ r ≡ conflictOf (fileIn (now (files .entry))) q (now (area .entry)) k (locksIn (now (words .entry))) ⌝ }
 {
     let from = q.unlocks as usize;
-    let ask = ask_of(q.fid, Purpose::Grant(q.shared), range_at(area, q.large, k));
+    let ask = ask_of(q.fid, Purpose::Grant(q.shared), range_of(area, q, k));
     let first = first_answer(files, words, ask);
     if let Found::At(place) = first {
         return Found::At(place);
@@ -85,7 +86,7 @@ pub(crate) fn first_conflict(
     area: &[u8],
 ) -> Found
     requires { ⌜ (length (now words) ≡ 641) × (held ≡ length (locksIn (now words))) ⌝ }
-    ensures { λ r. ⌜ r ≡ blockedAt (grantAll (fileIn (now (files .entry))) (q .fid) (q .shared) (rangesAt (q .large) (now (area .entry)) (q .unlocks) (q .locks)) (locksIn (now (words .entry)))) ⌝ }
+    ensures { λ r. ⌜ r ≡ blockedAt (grantAll (fileIn (now (files .entry))) (q .fid) (q .shared) (rangesOf q (now (area .entry)) (q .unlocks) (q .locks)) (locksIn (now (words .entry)))) ⌝ }
 {
     let from = q.unlocks as usize;
     let to = from + q.locks as usize;
@@ -105,7 +106,7 @@ pub(crate) fn first_conflict(
 pub(crate) fn holder_at(words: &[u64], held: usize, q: Request, area: &[u8], place: usize) -> Holder
     requires { ⌜ (length (now words) ≡ 641) × (held ≡ length (locksIn (now words))) ⌝ }
     requires { ⌜ place < held + q .locks ⌝ }
-    ensures { λ r. ⌜ r ≡ holderAt (locksIn (now (words .entry)) ++ map (lockOf (q .fid) (q .shared)) (rangesAt (q .large) (now (area .entry)) (q .unlocks) (q .locks))) place ⌝ }
+    ensures { λ r. ⌜ r ≡ holderAt (locksIn (now (words .entry)) ++ map (lockOf (q .fid) (q .shared)) (rangesOf q (now (area .entry)) (q .unlocks) (q .locks))) place ⌝ }
 {
     if place < held {
         return Holder {
@@ -115,7 +116,7 @@ pub(crate) fn holder_at(words: &[u64], held: usize, q: Request, area: &[u8], pla
     }
     let own = q.unlocks as usize + (place - held);
     Holder {
-        lock: lock_of(q.fid, q.shared, range_at(area, q.large, own)),
+        lock: lock_of(q.fid, q.shared, range_of(area, q, own)),
         place,
     }
 }
@@ -123,7 +124,7 @@ pub(crate) fn holder_at(words: &[u64], held: usize, q: Request, area: &[u8], pla
 // The request's locks, written behind the first `held` records, and the count.
 pub(crate) fn append_locks(words: &mut [u64], held: usize, q: Request, area: &[u8])
     requires { ⌜ (length (now words) ≡ 641) × (held + q .locks ≤ 128) ⌝ }
-    ensures { λ _. ⌜ lockArray (now (words .exit)) ≡ stored noLock (lockArray (now (words .entry))) held (take held (lockArray (now (words .entry))) ++ map (lockOf (q .fid) (q .shared)) (rangesAt (q .large) (now (area .entry)) (q .unlocks) (q .locks))) ⌝ }
+    ensures { λ _. ⌜ lockArray (now (words .exit)) ≡ stored noLock (lockArray (now (words .entry))) held (take held (lockArray (now (words .entry))) ++ map (lockOf (q .fid) (q .shared)) (rangesOf q (now (area .entry)) (q .unlocks) (q .locks))) ⌝ }
     ensures { λ _. ⌜ word (now (words .exit)) 0 ≡ held + q .locks ⌝ }
     ensures { λ _. ⌜ (recordsFit lockLimits held (now (words .entry)) ≡ true → tableFits lockLimits 128 (now (words .exit)) ≡ true) ⌝ }
 {
@@ -132,11 +133,7 @@ pub(crate) fn append_locks(words: &mut [u64], held: usize, q: Request, area: &[u
     let mut k = from;
     while k < to {
         let at = held + (k - from);
-        put_lock(
-            words,
-            at,
-            lock_of(q.fid, q.shared, range_at(area, q.large, k)),
-        );
+        put_lock(words, at, lock_of(q.fid, q.shared, range_of(area, q, k)));
         k += 1;
     }
     words[0] = (held + (to - from)) as u64;

@@ -18,8 +18,7 @@ ghost use lib.ListN.{length};
 ghost use Rattle.tables.specs.Words.{word, lockArray, lockLimits, tableFits};
 ghost use Rattle.tables.specs.Written.{locksIn};
 ghost use Rattle.locks.specs.Answer.{fileIn};
-ghost use Rattle.locks.specs.Wire.{rangesAt};
-ghost use Rattle.locks.specs.Request.{afterReleases, request, settle, locking};
+ghost use Rattle.locks.specs.Request.{rangesOf, afterReleases, request, settle, locking};
 ghost use Rattle.locks.specs.Changed.{isDone, Tried, Settles};
 
 const LOCKS: usize = 128;
@@ -50,7 +49,7 @@ fn is_done(why: Outcome) -> bool
 // The request's locks, after its unlocks: all of them granted, or the words as they were.
 fn grant_all(files: &[u8; 65], words: &mut [u64], q: Request, area: &[u8]) -> Outcome
     requires { ⌜ length (now words) ≡ 641 ⌝ }
-    ensures { λ r. ⌜ Settles (now (words .entry)) (now (words .exit)) r (settle (lockArray (now (words .entry))) (word (now (words .entry)) 0) (afterReleases (fileIn (now (files .entry))) (q .fid) (q .shared) (rangesAt (q .large) (now (area .entry)) (q .unlocks) (q .locks)) (some (locksIn (now (words .entry)))))) ⌝ }
+    ensures { λ r. ⌜ Settles (now (words .entry)) (now (words .exit)) r (settle (lockArray (now (words .entry))) (word (now (words .entry)) 0) (afterReleases (fileIn (now (files .entry))) (q .fid) (q .shared) (rangesOf q (now (area .entry)) (q .unlocks) (q .locks)) (some (locksIn (now (words .entry)))))) ⌝ }
     ensures { λ _. ⌜ (tableFits lockLimits 128 (now (words .entry)) ≡ true → tableFits lockLimits 128 (now (words .exit)) ≡ true) ⌝ }
 {
     let from = q.unlocks as usize;
@@ -73,7 +72,7 @@ fn grant_all(files: &[u8; 65], words: &mut [u64], q: Request, area: &[u8]) -> Ou
 // The request's unlocks and locks, on words that are thrown away if it is refused.
 fn unlock_and_grant(files: &[u8; 65], words: &mut [u64], q: Request, area: &[u8]) -> Outcome
     requires { ⌜ length (now words) ≡ 641 ⌝ }
-    ensures { λ r. ⌜ Tried (now (words .exit)) r (settle (lockArray (now (words .entry))) (word (now (words .entry)) 0) (request (fileIn (now (files .entry))) (q .fid) (q .shared) (rangesAt (q .large) (now (area .entry)) 0 (q .unlocks)) (rangesAt (q .large) (now (area .entry)) (q .unlocks) (q .locks)) (locksIn (now (words .entry))))) ⌝ }
+    ensures { λ r. ⌜ Tried (now (words .exit)) r (settle (lockArray (now (words .entry))) (word (now (words .entry)) 0) (request (fileIn (now (files .entry))) (q .fid) (q .shared) (rangesOf q (now (area .entry)) 0 (q .unlocks)) (rangesOf q (now (area .entry)) (q .unlocks) (q .locks)) (locksIn (now (words .entry))))) ⌝ }
     ensures { λ _. ⌜ (tableFits lockLimits 128 (now (words .entry)) ≡ true → tableFits lockLimits 128 (now (words .exit)) ≡ true) ⌝ }
 {
     let held = held_in(words);

@@ -27,10 +27,11 @@ pub struct Ask {
     pub purpose: Purpose,
 }
 
-// A LOCKING request without its ranges: type bits 0x01 and 0x10, and how many ranges to unlock and
-// to lock.
+// A LOCKING request without its ranges: the upper half of the asker's process, type bits 0x01 and
+// 0x10, and how many ranges to unlock and to lock.
 pub struct Request {
     pub fid: u16,
+    pub high: u16,
     pub shared: bool,
     pub large: bool,
     pub unlocks: u16,

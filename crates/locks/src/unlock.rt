@@ -5,7 +5,7 @@ use crate::grant::ask_of;
 use crate::types::Purpose;
 use crate::types::Request;
 use crate::walk::first_answer;
-use crate::wire_form::range_at;
+use crate::wire_form::range_of;
 use lists::Found;
 use records::Lock;
 use tables::lock::lock_at;
@@ -19,8 +19,7 @@ ghost use Rattle.records.specs.Empty.{noLock};
 ghost use Rattle.tables.specs.Words.{word, lockArray, lockLimits, tableFits};
 ghost use Rattle.tables.specs.Written.{locksIn};
 ghost use Rattle.locks.specs.Answer.{fileIn};
-ghost use Rattle.locks.specs.Wire.{rangesAt};
-ghost use Rattle.locks.specs.Request.{removeAt, releaseAll};
+ghost use Rattle.locks.specs.Request.{rangesOf, removeAt, releaseAll};
 ghost use Rattle.locks.specs.Changed.{Unlocks};
 
 // The record at a place taken out: those behind it move forward, and the last is emptied.
@@ -52,13 +51,13 @@ fn remove_at(words: &mut [u64], place: usize)
 // not, the words are left as they are then.
 pub(crate) fn release_all(files: &[u8; 65], words: &mut [u64], q: Request, area: &[u8]) -> bool
     requires { ⌜ (length (now words) ≡ 641) × (word (now words) 0 ≤ 128) ⌝ }
-    ensures { λ r. ⌜ Unlocks (releaseAll (fileIn (now (files .entry))) (q .fid) (rangesAt (q .large) (now (area .entry)) 0 (q .unlocks)) (locksIn (now (words .entry)))) (now (words .entry)) (now (words .exit)) r ⌝ }
+    ensures { λ r. ⌜ Unlocks (releaseAll (fileIn (now (files .entry))) (q .fid) (rangesOf q (now (area .entry)) 0 (q .unlocks)) (locksIn (now (words .entry)))) (now (words .entry)) (now (words .exit)) r ⌝ }
     ensures { λ _. ⌜ (tableFits lockLimits 128 (now (words .entry)) ≡ true → tableFits lockLimits 128 (now (words .exit)) ≡ true) ⌝ }
 {
     let unlocks = q.unlocks as usize;
     let mut k: usize = 0;
     while k < unlocks {
-        let r = range_at(area, q.large, k);
+        let r = range_of(area, q, k);
         let Found::At(place) = first_answer(files, words, ask_of(q.fid, Purpose::Release, r)) else {
             return false;
         };

@@ -2,11 +2,13 @@
 // at the block's byte area.
 
 use crate::types::LockRange;
+use crate::types::Request;
 ghost use mathlib.Core.Path.{_≡_};
 ghost use Prim.Native.Nat.{ℕ, _+_, _*_, _≤_, _<_, _^_};
 ghost use lib.ListN.{length};
 ghost use Rattle.wire.specs.LittleEndian.{le32At};
 ghost use Rattle.locks.specs.Wire.{rangeSize, numberAt, rangeFrom, rangeAt};
+ghost use Rattle.locks.specs.Request.{ofHeader};
 
 // How many bytes a range takes.
 pub fn range_size(large: bool) -> usize
@@ -110,4 +112,18 @@ pub(crate) fn range_at(area: &[u8], large: bool, k: usize) -> LockRange
         return range_inside(area, large, at);
     }
     range_past(area, large, at)
+}
+
+// The k-th range of a request: its process takes the upper half from the header (document 02, CR 4).
+pub(crate) fn range_of(area: &[u8], q: Request, k: usize) -> LockRange
+    requires { ⌜ k < 2 ^ 17 ⌝ }
+    ensures { λ r. ⌜ r ≡ ofHeader (q .high) (rangeAt (q .large) (now (area .entry)) k) ⌝ }
+{
+    let r = range_at(area, q.large, k);
+    let process = 65536 * (q.high as u32) + r.process;
+    LockRange {
+        process,
+        offset: r.offset,
+        length: r.length,
+    }
 }

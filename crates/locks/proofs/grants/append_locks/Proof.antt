@@ -15,7 +15,7 @@ use native.Mathlib.Omega.{arith}
 
 abbrev Inv-loop : tie.InvT-loop
 Inv-loop words₀ held q area from to k₀ words k =
-    (from ≤ k) × (k ≤ to) × (length words ≡ 641) × (lockArray words ≡ appended (lockArray words₀) held (q .fid) (q .shared) (q .large) area (q .unlocks) k)
+    (from ≤ k) × (k ≤ to) × (length words ≡ 641) × (lockArray words ≡ appended (lockArray words₀) held q area k)
     × (recordsFit lockLimits held words₀ ≡ true → recordsFit lockLimits (held + (k - from)) words ≡ true)
 
 abbrev μ-loop : tie.MeasureT-loop
@@ -38,7 +38,7 @@ loop-holds c =
       omega arith,
       omega arith,
       c .before .before .before .before .pre .0,
-      appended-start (lockArray (args .words .now)) (args .held) (args .q .fid) (args .q .shared) (args .q .large) (args .area .now) (args .q .unlocks) (omega arith),
+      appended-start (lockArray (args .words .now)) (args .held) (args .q) (args .area .now) (omega arith),
       λ f. rw first f,
     )
 
@@ -48,8 +48,8 @@ sub-at c = omega arith
 add-at : tie.Need-add-at Inv-loop μ-loop
 add-at c = omega arith
 
-range-at-requires : tie.Need-range-at-requires Inv-loop μ-loop
-range-at-requires c κs = search needs
+range-of-requires : tie.Need-range-of-requires Inv-loop μ-loop
+range-of-requires c κs = search needs
 
 lock-of-requires : tie.Need-lock-of-requires Inv-loop μ-loop
 lock-of-requires c κs = search needs
@@ -73,9 +73,9 @@ loop-again c =
       omega arith,
       wrote .kept .0 ∙ loop .inv .2,
       wrote .ensures .array
-          ∙ rw (loop .inv .3, c .before .before .before .lock-of .ensures, c .before .before .before .before .range-at .ensures)
+          ∙ rw (loop .inv .3, c .before .before .before .lock-of .ensures, c .before .before .before .before .range-of .ensures)
           (
-          appended-more (lockArray (args .words .now)) (args .held) (args .q .fid) (args .q .shared) (args .q .large) (args .area .now) (args .q .unlocks)
+          appended-more (lockArray (args .words .now)) (args .held) (args .q) (args .area .now)
           (omega arith) (loop .k) (omega arith) (omega arith)
           ),
       λ f. fit-behind (args .held + (loop .k - args .q .unlocks)) _ (omega arith) (wrote .ensures) (loop .inv .4 f),
@@ -119,7 +119,7 @@ append-locks-spec =
     loop-holds
     sub-at
     add-at
-    range-at-requires
+    range-of-requires
     lock-of-requires
     put-lock-requires
     add-k

@@ -28,8 +28,8 @@ cast-own c = search needs
 add-own : tie.Need-add-own
 add-own c = search needs
 
-range-at-requires : tie.Need-range-at-requires
-range-at-requires c κs = search needs
+range-of-requires : tie.Need-range-of-requires
+range-of-requires c κs = search needs
 
 lock-of-requires : tie.Need-lock-of-requires
 lock-of-requires c κs = search needs
@@ -41,11 +41,11 @@ returns-2 c =
     let q = args .q in
     let held = c .before .before .before .before .before .before .pre .0 .1 in
     let low = c .before .before .before .before .before .before .pre .1 in
-    let mine = c .lock-of .ensures ∙ ap (lockOf (q .fid) (q .shared)) (c .before .range-at .ensures) in
+    let mine = c .lock-of .ensures ∙ ap (lockOf (q .fid) (q .shared)) (c .before .range-of .ensures) in
     ap (λ (l : Lock). record { lock = l; place = args .place })
-    (mine ∙ sym (holder-own (locksIn (args .words .now)) (lockOf (q .fid) (q .shared)) (q .large) (args .area .now) (q .unlocks) (q .locks) (args .place - args .held) (args .place) (omega arith) (omega arith)))
+    (mine ∙ sym (holder-own (locksIn (args .words .now)) (lockOf (q .fid) (q .shared)) q (args .area .now) (q .unlocks) (q .locks) (args .place - args .held) (args .place) (omega arith) (omega arith)))
 
 pub holder-at-spec : {M : Type 1} → statement M
 holder-at-spec =
     tie.close
-    (tie.spec lock-at-requires returns cast-own add-own range-at-requires lock-of-requires returns-2)
+    (tie.spec lock-at-requires returns cast-own add-own range-of-requires lock-of-requires returns-2)

@@ -2,11 +2,10 @@
 -- Assumes nothing.
 use mathlib.Core.Path.{_≡_, sym, _∙_}
 use mathlib.Core.Bool.{false}
-use Prim.Native.Nat.{_+_, _-_}
 use native.Mathlib.Omega.{arith}
 use Rattle.lists.specs.Walk.{any}
-use Rattle.locks.specs.Wire.{rangesAt, length-ranges}
-use Rattle.locks.specs.Request.{rangePasses}
+use Rattle.locks.specs.Request.{rangesOf, rangePasses}
+use Rattle.locks.proofs.Whole.{length-of, passes-of}
 use Rattle.locks.proofs.Lent.{held-most, held-front, fit-held}
 use Rattle.locks.proofs.Holding.{blocked-below}
 use Rattle.locks.proofs.Settling.{locks-pass, locks-conflict, locks-full, locks-granted, length-whole, settles-refused, settles-done}
@@ -29,8 +28,7 @@ some-passes-requires c κs = search needs
 returns : tie.Need-returns
 returns c =
     let args = c .before .before .before .before .before .before .args in
-    let asked : args .q .unlocks + args .q .locks - args .q .unlocks ≡ args .q .locks = omega arith in
-    (settles-refused (args .words .now) _ _ (locks-pass _ _ _ _ _ (sym (c .if1 .taken) ∙ rw asked at (c .before .some-passes .ensures))), λ f. f)
+    (settles-refused (args .words .now) _ _ (locks-pass _ _ _ _ _ (sym (c .if1 .taken) ∙ c .before .some-passes .ensures ∙ passes-of (args .q) (args .area .now))), λ f. f)
 
 held-in-requires : tie.Need-held-in-requires
 held-in-requires c κs = search needs
@@ -45,7 +43,7 @@ holder-at-requires : tie.Need-holder-at-requires
 holder-at-requires c κs =
     let args = c .before .before .before .before .before .before .before .before .before .before .before .before .before .before .args in
     let held = c .before .before .before .before .before .before .held-in .ensures in
-    let many = length-ranges (args .q .large) (args .area .now) (args .q .unlocks) (args .q .locks) in
+    let many = length-of (args .q) (args .area .now) (args .q .unlocks) (args .q .locks) in
     let below = blocked-below _ _ _ _ _ _ (sym (c .before .before .first .given .1) ∙ c .before .before .before .before .first-conflict .ensures) in
     ((c .before .before .before .before .before .before .before .before .before .before .before .before .before .before .pre, held), omega arith)
 
@@ -55,9 +53,8 @@ same-length c = search needs
 returns-2 : tie.Need-returns-2
 returns-2 c =
     let args = c .before .before .before .before .before .before .before .before .before .before .before .before .before .before .before .args in
-    let asked : args .q .unlocks + args .q .locks - args .q .unlocks ≡ args .q .locks = omega arith in
-    let within : false ≡ any rangePasses (rangesAt (args .q .large) (args .area .now) (args .q .unlocks) (args .q .locks)) =
-    sym (c .before .before .before .before .before .before .before .before .before .if1 .left) ∙ rw asked at (c .before .before .before .before .before .before .before .before .before .before .some-passes .ensures)
+    let within : false ≡ any rangePasses (rangesOf (args .q) (args .area .now) (args .q .unlocks) (args .q .locks)) =
+    sym (c .before .before .before .before .before .before .before .before .before .if1 .left) ∙ c .before .before .before .before .before .before .before .before .before .before .some-passes .ensures ∙ passes-of (args .q) (args .area .now)
     in
     (settles-refused (args .words .now) _ _ (locks-conflict _ _ _ _ _ within (sym (c .before .before .before .first .given .1) ∙ c .before .before .before .before .before .first-conflict .ensures) (c .holder-at .ensures)), λ f. f)
 
@@ -73,14 +70,13 @@ same-length-2 c = search needs
 returns-3 : tie.Need-returns-3
 returns-3 c =
     let args = c .before .before .before .before .before .before .before .before .before .before .before .before .before .args in
-    let asked : args .q .unlocks + args .q .locks - args .q .unlocks ≡ args .q .locks = omega arith in
-    let within : false ≡ any rangePasses (rangesAt (args .q .large) (args .area .now) (args .q .unlocks) (args .q .locks)) =
-    sym (c .before .before .before .before .before .before .before .if1 .left) ∙ rw asked at (c .before .before .before .before .before .before .before .before .some-passes .ensures)
+    let within : false ≡ any rangePasses (rangesOf (args .q) (args .area .now) (args .q .unlocks) (args .q .locks)) =
+    sym (c .before .before .before .before .before .before .before .if1 .left) ∙ c .before .before .before .before .before .before .before .before .some-passes .ensures ∙ passes-of (args .q) (args .area .now)
     in
     let most = held-most (args .words .now) in
     let held = c .before .before .before .before .before .held-in .ensures in
     let free = sym (c .before .enum-told .given .1) ∙ c .before .before .before .first-conflict .ensures in
-    let many = length-ranges (args .q .large) (args .area .now) (args .q .unlocks) (args .q .locks) in
+    let many = length-of (args .q) (args .area .now) (args .q .unlocks) (args .q .locks) in
     (settles-refused (args .words .now) _ _ (locks-full _ _ _ _ _ within free _ _ held many (omega arith)), λ f. f)
 
 append-locks-requires : tie.Need-append-locks-requires
@@ -92,14 +88,13 @@ same-length-3 c = search needs
 returns-4 : tie.Need-returns-4
 returns-4 c =
     let args = c .before .before .before .before .before .before .before .before .before .before .before .before .before .before .before .before .before .args in
-    let asked : args .q .unlocks + args .q .locks - args .q .unlocks ≡ args .q .locks = omega arith in
-    let within : false ≡ any rangePasses (rangesAt (args .q .large) (args .area .now) (args .q .unlocks) (args .q .locks)) =
-    sym (c .before .before .before .before .before .before .before .before .before .before .before .if1 .left) ∙ rw asked at (c .before .before .before .before .before .before .before .before .before .before .before .before .some-passes .ensures)
+    let within : false ≡ any rangePasses (rangesOf (args .q) (args .area .now) (args .q .unlocks) (args .q .locks)) =
+    sym (c .before .before .before .before .before .before .before .before .before .before .before .if1 .left) ∙ c .before .before .before .before .before .before .before .before .before .before .before .before .some-passes .ensures ∙ passes-of (args .q) (args .area .now)
     in
     let most = held-most (args .words .now) in
     let held = c .before .before .before .before .before .before .before .before .before .held-in .ensures in
     let free = sym (c .before .before .before .before .before .enum-told .given .1) ∙ c .before .before .before .before .before .before .before .first-conflict .ensures in
-    let many = length-ranges (args .q .large) (args .area .now) (args .q .unlocks) (args .q .locks) in (
+    let many = length-of (args .q) (args .area .now) (args .q .unlocks) (args .q .locks) in (
       settles-done (args .words .now) _ _ _
           (locks-granted _ _ _ _ _ within free _ _ held many (omega arith))
           (rw (held-front (args .words .now) (c .before .before .before .before .before .before .before .before .before .held-in .result) held, held) at (c .before .before .append-locks .ensures .0))

@@ -6,8 +6,9 @@ use native.Mathlib.Omega.{arith}
 use lib.ListN.{length}
 use Rattle.tables.specs.Words.{word, lockArray}
 use Rattle.tables.specs.Written.{locksIn}
-use Rattle.locks.specs.Wire.{place-small, rangeSize, rangesAt}
+use Rattle.locks.specs.Wire.{place-small, rangeSize}
 use Rattle.locks.specs.Answer.{fileIn}
+use Rattle.locks.specs.Request.{rangesOf}
 use Rattle.locks.proofs.Settling.{settles-malformed, locking-sized, no-unlocks, settles-tried, settles-back}
 use borrow.Author.Needs.{needs}
 use Rattle.locks.proofs.locking.lock_request.Statement.{statement}
@@ -52,7 +53,7 @@ returns-2 c =
     let sized : length (args .area .now) ≡ (q .unlocks + q .locks) * rangeSize (q .large) = rw (← (c .before .before .before .before .before .before .before .range-size .ensures)) (c .before .before .before .before .before .before .if1 .left) in (
       rw (
         locking-sized (fileIn (args .files .now)) (lockArray w) (word w 0) q (args .area .now) sized,
-        no-unlocks (fileIn (args .files .now)) (q .fid) (q .shared) (q .large) (args .area .now) (q .unlocks) (rangesAt (q .large) (args .area .now) (q .unlocks) (q .locks)) (locksIn w) (c .before .before .before .before .if2 .taken),
+        no-unlocks (fileIn (args .files .now)) q (args .area .now) (rangesOf q (args .area .now) (q .unlocks) (q .locks)) (locksIn w) (c .before .before .before .before .if2 .taken),
       )
           (c .before .before .grant-all .ensures .0),
       c .before .before .grant-all .ensures .1,

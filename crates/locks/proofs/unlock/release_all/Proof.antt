@@ -3,12 +3,12 @@
 use mathlib.Core.Path.{_≡_, sym, _∙_}
 use mathlib.Core.Bool.{true, false≢true}
 use Prim.Native.Nat.{_-_}
+use mathlib.Core.List.{map}
 use lib.ListN.{length}
 use Rattle.tables.specs.Words.{word, lockArray, lockLimits, tableFits}
 use Rattle.tables.specs.Written.{locksIn}
-use Rattle.locks.specs.Wire.{rangesAt}
 use Rattle.locks.specs.Answer.{fileIn}
-use Rattle.locks.specs.Request.{releaseAll}
+use Rattle.locks.specs.Request.{ofHeader, rangesOf, releaseAll}
 use Rattle.locks.proofs.Ahead.{Ahead, ahead-start, ahead-here, ahead-more, ahead-none}
 use Rattle.tables.specs.ChangeLaws.{length-lockArray}
 use Rattle.locks.proofs.Unlocked.{Left, left-start, left-below, left-step, left-list, release-more, release-stop}
@@ -21,8 +21,8 @@ abbrev Inv-loop : tie.InvT-loop
 Inv-loop files words₀ q area unlocks k₀ words k =
     (length words ≡ 641)
     × Left (lockArray words₀) (word words₀ 0) (lockArray words) (word words 0)
-    × Ahead (releaseAll (fileIn files) (q .fid) (rangesAt (q .large) area 0 (q .unlocks)) (locksIn words₀))
-    (λ rs. releaseAll (fileIn files) (q .fid) rs (locksIn words)) (q .large) area 0 (q .unlocks) k
+    × Ahead (releaseAll (fileIn files) (q .fid) (rangesOf q area 0 (q .unlocks)) (locksIn words₀))
+    (λ rs. releaseAll (fileIn files) (q .fid) (map (ofHeader (q .high)) rs) (locksIn words)) (q .large) area 0 (q .unlocks) k
     × (tableFits lockLimits 128 words₀ ≡ true → tableFits lockLimits 128 words ≡ true)
 
 abbrev μ-loop : tie.MeasureT-loop
@@ -32,14 +32,15 @@ cast-unlocks : tie.Need-cast-unlocks Inv-loop μ-loop
 cast-unlocks c = omega arith
 
 loop-holds : tie.Need-loop-holds Inv-loop μ-loop
+unfolding rangesOf
 loop-holds c =
     let args = c .before .before .before .args in
     let all : args .q .unlocks - 0 ≡ args .q .unlocks = omega arith in
     let long : length (lockArray (args .words .now)) ≡ 128 = length-lockArray (args .words .now) in
     (c .before .before .before .pre .0, left-start (lockArray (args .words .now)) (word (args .words .now) 0) (omega arith), ahead-start (omega arith) (rw all), λ f. f)
 
-range-at-requires : tie.Need-range-at-requires Inv-loop μ-loop
-range-at-requires c κs = search needs
+range-of-requires : tie.Need-range-of-requires Inv-loop μ-loop
+range-of-requires c κs = search needs
 
 ask-of-requires : tie.Need-ask-of-requires Inv-loop μ-loop
 ask-of-requires c κs = search needs
@@ -64,7 +65,7 @@ returns c = (
     count = λ e. absurd (false≢true e);
     missing =
         λ _. ahead-here (c .before .before .before .before .before .before .before .loop .inv .2) (omega arith)
-        (λ rs. release-stop _ _ _ _ (c .before .before .before .before .before .range-at .ensures) (c .before .before .before .ask-of .ensures) (c .before .before .first-answer .ensures) rs (c .enum-told .given .1));
+        (λ rs. release-stop _ _ _ _ (c .before .before .before .before .before .range-of .ensures) (c .before .before .before .ask-of .ensures) (c .before .before .first-answer .ensures) (map _ rs) (c .enum-told .given .1));
   },
   c .before .before .before .before .before .before .before .loop .inv .3,
 )
@@ -95,7 +96,7 @@ loop-again c =
           (
           λ rs.
           rw (gone .1 .0, left-list left below (gone .0))
-          (release-more _ _ _ _ (c .before .before .before .before .before .before .before .before .before .before .range-at .ensures) (c .before .before .before .before .before .before .before .before .ask-of .ensures) (c .before .before .before .before .before .before .before .first-answer .ensures) rs (c .before .before .before .before .before .place .given .1))
+          (release-more _ _ _ _ (c .before .before .before .before .before .before .before .before .before .before .range-of .ensures) (c .before .before .before .before .before .before .before .before .ask-of .ensures) (c .before .before .before .before .before .before .before .first-answer .ensures) (map _ rs) (c .before .before .before .before .before .place .given .1))
           ),
       λ f. gone .1 .1 (loop .inv .3 f),
     )
@@ -123,7 +124,7 @@ release-all-spec =
     μ-loop
     cast-unlocks
     loop-holds
-    range-at-requires
+    range-of-requires
     ask-of-requires
     first-answer-requires
     enum-known-place
