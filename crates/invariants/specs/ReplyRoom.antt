@@ -11,8 +11,8 @@ use lib.Dec.{eqb}
 use Rattle.records.specs.declared.Tables.{Tables}
 use Rattle.records.specs.Empty.{noOpen}
 use Rattle.records.specs.Held.{opensOf, locksOf}
-use Rattle.locks.specs.Wire.{rangeSize, rangesAt}
-use Rattle.locks.specs.Request.{Result, refused as refusedBy, settle, request, locking}
+use Rattle.locks.specs.Wire.{rangeSize}
+use Rattle.locks.specs.Request.{rangesOf, Result, refused as refusedBy, settle, request, locking}
 use Rattle.locks.specs.declared.types.Request.{Request}
 use Rattle.locks.specs.declared.types.Outcome.the-variants.{Malformed}
 use Rattle.soundness.specs.File.{fileOf}
@@ -63,10 +63,10 @@ module _ (n : ℕ) (c : Caller) (t : Tables) (memory : List ℕ) where
   unfolding locking settle lockingAfter lockingEnd replySize
   request-says q area h =
       cond-case (λ (r : Result). Says n (lockingAfter t memory (settle (t .locks) (t .nlocks) r))) (eqb (length area) ((q .unlocks + q .locks) * rangeSize (q .large)))
-      (request (fileOf (opensOf t)) (q .fid) (q .shared) (rangesAt (q .large) area 0 (q .unlocks)) (rangesAt (q .large) area (q .unlocks) (q .locks)) (locksOf t))
+      (request (fileOf (opensOf t)) (q .fid) (q .shared) (rangesOf q area 0 (q .unlocks)) (rangesOf q area (q .unlocks) (q .locks)) (locksOf t))
       (refusedBy Malformed)
       (λ _. request-case (λ (r : Result). Says n (lockingAfter t memory (settle (t .locks) (t .nlocks) r))) says-refused says-refused (λ k. says-refused) says-refused
-      (fileOf (opensOf t)) (q .fid) (q .shared) (rangesAt (q .large) area (q .unlocks) (q .locks)) (rangesAt (q .large) area 0 (q .unlocks)) (locksOf t)
+      (fileOf (opensOf t)) (q .fid) (q .shared) (rangesOf q area (q .unlocks) (q .locks)) (rangesOf q area 0 (q .unlocks)) (locksOf t)
       (λ left list _ _ _ _. says-done h))
       (λ _. says-refused)
 
@@ -74,7 +74,7 @@ module _ (n : ℕ) (c : Caller) (t : Tables) (memory : List ℕ) where
   unfolding doLocking
   locking-says f area h =
       open-case (Says n) c t (f .fid) _ says-refused says-refused says-refused
-      (λ k e. cond-case (Says n) (servedType (f .kind)) _ (refused LockType) (λ _. request-says (requestOf f) area h) (λ _. says-refused))
+      (λ k e. cond-case (Says n) (servedType (f .kind)) _ (refused LockType) (λ _. request-says (requestOf c f) area h) (λ _. says-refused))
 
   read-says : (f : ReadFields) → Good t → 4123 ≤ n → Says n (doRead c t memory f)
   unfolding doRead replySize

@@ -18,8 +18,8 @@ use Rattle.records.specs.Empty.{noOpen, noFile}
 use Rattle.records.specs.Held.{sessionsOf, treesOf, opensOf, locksOf, withLocks, withFiles}
 use Rattle.numbers.specs.Number.{contains}
 use Rattle.numbers.specs.Column.{fidOf}
-use Rattle.locks.specs.Wire.{rangeSize, rangesAt}
-use Rattle.locks.specs.Request.{Result, done as doneWith, refused as refusedBy, settle, request, locking}
+use Rattle.locks.specs.Wire.{rangeSize}
+use Rattle.locks.specs.Request.{rangesOf, Result, done as doneWith, refused as refusedBy, settle, request, locking}
 use Rattle.locks.specs.declared.types.Request.{Request}
 use Rattle.locks.specs.declared.types.Outcome.the-variants.{Malformed}
 use Rattle.soundness.specs.File.{fileOf}
@@ -119,14 +119,14 @@ module _ (t : Tables) (g : Good t) where
   unfolding locking settle lockingAfter lockingEnd
   request-keeps memory q area known =
       cond-case (λ (r : Result). Keeps (lockingAfter t memory (settle (t .locks) (t .nlocks) r))) (eqb (length area) ((q .unlocks + q .locks) * rangeSize (q .large)))
-      (request (fileOf (opensOf t)) (q .fid) (q .shared) (rangesAt (q .large) area 0 (q .unlocks)) (rangesAt (q .large) area (q .unlocks) (q .locks)) (locksOf t))
+      (request (fileOf (opensOf t)) (q .fid) (q .shared) (rangesOf q area 0 (q .unlocks)) (rangesOf q area (q .unlocks) (q .locks)) (locksOf t))
       (refusedBy Malformed)
       (λ _. request-case (λ (r : Result). Keeps (lockingAfter t memory (settle (t .locks) (t .nlocks) r))) keeps-refused keeps-refused (λ k. keeps-refused) keeps-refused
-      (fileOf (opensOf t)) (q .fid) (q .shared) (rangesAt (q .large) area (q .unlocks) (q .locks)) (rangesAt (q .large) area 0 (q .unlocks)) (locksOf t)
+      (fileOf (opensOf t)) (q .fid) (q .shared) (rangesOf q area (q .unlocks) (q .locks)) (rangesOf q area 0 (q .unlocks)) (locksOf t)
       (λ left list e low f h. keeps-done (rw (locks-left t list)
       (locks-good list h
-      (grant-ok (opensOf t) (q .fid) (q .shared) known (rangesAt (q .large) area (q .unlocks) (q .locks)) left list low
-      (release-ok (opensOf t) (fileOf (opensOf t)) (q .fid) (rangesAt (q .large) area 0 (q .unlocks)) (locksOf t) left (listed .locks) e) f)))))
+      (grant-ok (opensOf t) (q .fid) (q .shared) known (rangesOf q area (q .unlocks) (q .locks)) left list low
+      (release-ok (opensOf t) (fileOf (opensOf t)) (q .fid) (rangesOf q area 0 (q .unlocks)) (locksOf t) left (listed .locks) e) f)))))
       (λ _. keeps-refused)
 
   -- ---- a write
@@ -159,7 +159,7 @@ module _ (t : Tables) (g : Good t) where
     locking-keeps f area =
         open-case Keeps c t (f .fid) _ keeps-refused keeps-refused keeps-refused
         (λ k e. cond-case Keeps (servedType (f .kind)) _ (refused LockType)
-        (λ _. request-keeps memory (requestOf f) area (open-known c t (f .fid) k e)) (λ _. keeps-refused))
+        (λ _. request-keeps memory (requestOf c f) area (open-known c t (f .fid) k e)) (λ _. keeps-refused))
 
     read-keeps : (f : ReadFields) → Keeps (doRead c t memory f)
     unfolding doRead

@@ -81,11 +81,12 @@ withOpen c t fid next = withTree c t (openAt (found (isOpen c fid) (opensOf t)) 
 unfoldable pub servedType : ℕ → Bool
 servedType kind = eqb kind 0 || (eqb kind 1 || (eqb kind 16 || eqb kind 17))
 
--- "Type bit 0x01 means shared"
-unfoldable pub requestOf : LockingFields → Request
-requestOf f =
+-- "Type bit 0x01 means shared"; the ranges have the upper half of the caller's process (document 02, CR 4)
+unfoldable pub requestOf : Caller → LockingFields → Request
+requestOf c f =
     record {
       fid = f .fid;
+      high = c .process / 65536;
       shared = eqb (f .kind % 2) 1;
       large = eqb (f .kind / 16 % 2) 1;
       unlocks = f .unlocks;
@@ -122,7 +123,7 @@ doLocking c t memory f area =
     withOpen c t (f .fid)
     (λ o.
     cond (servedType (f .kind))
-    (lockingAfter t memory (locking (fileOf (opensOf t)) (t .locks) (t .nlocks) (requestOf f) area))
+    (lockingAfter t memory (locking (fileOf (opensOf t)) (t .locks) (t .nlocks) (requestOf c f) area))
     (refused LockType))
 
 -- ---- reading and writing
