@@ -21,14 +21,14 @@ use Rattle.message.specs.Command.{Given, refused, done, read, wrote, withOpen, 
 
 -- ---- LOCKING
 
-unfoldable pub lockOpen : Tables → List ℕ → LockingFields → List ℕ → Given
-lockOpen t memory f area =
+unfoldable pub lockOpen : Caller → Tables → List ℕ → LockingFields → List ℕ → Given
+lockOpen c t memory f area =
     cond (servedType (f .kind))
-    (lockingAfter t memory (locking (fileOf (opensOf t)) (t .locks) (t .nlocks) (requestOf f) area))
+    (lockingAfter t memory (locking (fileOf (opensOf t)) (t .locks) (t .nlocks) (requestOf c f) area))
     (refused LockType)
 
 pub locking-steps : (c : Caller) (t : Tables) (memory : List ℕ) (f : LockingFields) (area : List ℕ)
-    → doLocking c t memory f area ≡ withOpen c t (f .fid) (λ o. lockOpen t memory f area)
+    → doLocking c t memory f area ≡ withOpen c t (f .fid) (λ o. lockOpen c t memory f area)
 unfolding doLocking lockOpen
 locking-steps c t memory f area = refl
 

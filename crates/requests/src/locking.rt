@@ -36,12 +36,15 @@ fn served_type(kind: u8) -> bool
     kind == 17
 }
 
-// "Type bit 0x01 means shared"; bit 0x10 the larger form of a range.
-fn request_of(f: LockingFields) -> Request
-    ensures { λ r. ⌜ r ≡ requestOf f ⌝ }
+// "Type bit 0x01 means shared"; bit 0x10 the larger form of a range. The ranges have the upper half of
+// the caller's process.
+fn request_of(c: Caller, f: LockingFields) -> Request
+    ensures { λ r. ⌜ r ≡ requestOf c f ⌝ }
 {
+    let high = (c.process / 65536) as u16;
     Request {
         fid: f.fid,
+        high,
         shared: f.kind % 2 == 1,
         large: f.kind / 16 % 2 == 1,
         unlocks: f.unlocks,
@@ -64,17 +67,17 @@ fn lock_answer(outcome: Outcome) -> Answer
 }
 
 // The request on an open that the caller may use; "locks need no access".
-fn lock_open(words: &mut [u64], f: LockingFields, area: &[u8]) -> Answer
+fn lock_open(c: Caller, words: &mut [u64], f: LockingFields, area: &[u8]) -> Answer
     requires { ⌜ length (now words) ≡ 1172 ⌝ }
     requires { ⌜ Good (tablesOf (now words)) ⌝ }
-    ensures { λ r. ⌜ Leaves (λ m. lockOpen (tablesOf (now (words .entry))) m f (now (area .entry))) (tablesOf (now (words .entry))) (performed r (tablesOf (now (words .exit)))) ⌝ }
+    ensures { λ r. ⌜ Leaves (λ m. lockOpen c (tablesOf (now (words .entry))) m f (now (area .entry))) (tablesOf (now (words .entry))) (performed r (tablesOf (now (words .exit)))) ⌝ }
     ensures { λ _. ⌜ (inUseFit (now (words .entry)) ≡ true → inUseFit (now (words .exit)) ≡ true) ⌝ }
 {
     if !served_type(f.kind) {
         return Answer::Refused(Refusal::LockType);
     }
     let files = file_table(&words[130..515]);
-    let q = request_of(f);
+    let q = request_of(c, f);
     let outcome = lock_request(&files, &mut words[515..1156], q, area);
     lock_answer(outcome)
 }
@@ -88,7 +91,7 @@ pub(crate) fn do_locking(c: Caller, words: &mut [u64], f: LockingFields, area: &
 {
     let at = reach_open(c, words, f.fid);
     match at {
-        NamedOpen::Open(_) => lock_open(words, f, area),
+        NamedOpen::Open(_) => lock_open(c, words, f, area),
         NamedOpen::Refused(why) => Answer::Refused(why),
     }
 }
