@@ -5,6 +5,7 @@ use crate::run::run_chain;
 use chain::command::is_served;
 use chain::header::COMMAND;
 use chain::header::FIRST;
+use chain::header::PID_HIGH;
 use chain::header::PID_LOW;
 use chain::header::SHORTEST;
 use chain::header::TID;
@@ -66,11 +67,14 @@ fn refuse_call(number: u8) -> Taken
 fn caller_of(connection: u32, s: &[u8]) -> Caller
     ensures { λ r. ⌜ r ≡ callerOf connection (now (s .entry)) ⌝ }
 {
+    let high = wire::le16_at(s, PID_HIGH) as u32;
+    let low = wire::le16_at(s, PID_LOW) as u32;
+    let process = 65536 * high + low;
     Caller {
         connection,
         uid: wire::le16_at(s, UID),
         tid: wire::le16_at(s, TID),
-        process: wire::le16_at(s, PID_LOW) as u32,
+        process,
     }
 }
 
