@@ -16,8 +16,8 @@ use Rattle.records.specs.declared.Tables.{Tables}
 use Rattle.records.specs.Empty.{noOpen}
 use Rattle.records.specs.Held.{sessionsOf, treesOf, opensOf, locksOf, withLocks}
 use Rattle.locks.specs.Answer.{answers}
-use Rattle.locks.specs.Wire.{rangeSize, rangesAt}
-use Rattle.locks.specs.Request.{askOf, lockOf, releaseAll, afterWalk, grantAll, Result, afterGrants, rangePasses, afterReleases, request, settle, locking}
+use Rattle.locks.specs.Wire.{rangeSize}
+use Rattle.locks.specs.Request.{rangesOf, askOf, lockOf, releaseAll, afterWalk, grantAll, Result, afterGrants, rangePasses, afterReleases, request, settle, locking}
 use Rattle.locks.specs.declared.types.Ask.{Ask}
 use Rattle.locks.specs.declared.types.LockRange.{LockRange}
 use Rattle.locks.specs.declared.types.Request.{Request}
@@ -121,8 +121,8 @@ module _ (t : Tables) (memory : List ℕ) where
   unfolding requestBefore locking request resultGives plainly onward lockingAfter settle lockingEnd statusOf
   request-before q area =
       chosen resultGives (eqb (length area) ((q .unlocks + q .locks) * rangeSize (q .large)))
-      (releases-before (q .fid) (q .shared) (rangesAt (q .large) area (q .unlocks) (q .locks))
-      (releaseAll (fileOf (opensOf t)) (q .fid) (rangesAt (q .large) area 0 (q .unlocks)) (locksOf t)))
+      (releases-before (q .fid) (q .shared) (rangesOf q area (q .unlocks) (q .locks))
+      (releaseAll (fileOf (opensOf t)) (q .fid) (rangesOf q area 0 (q .unlocks)) (locksOf t)))
       refl
 
 -- ---- who may ask
@@ -151,7 +151,7 @@ module _ (c : Caller) (t : Tables) (memory : List ℕ) where
   locking-before : (f : LockingFields) (area : List ℕ) → lockingBefore c t memory f area ≡ plainly (doLocking c t memory f area)
   unfolding lockingBefore doLocking onward plainly
   locking-before f area =
-      on-open _ c t (f .fid) _ _ (λ o. on-choice _ (servedType (f .kind)) _ _ _ _ (request-before t memory (requestOf f) area) refl)
+      on-open _ c t (f .fid) _ _ (λ o. on-choice _ (servedType (f .kind)) _ _ _ _ (request-before t memory (requestOf c f) area) refl)
 
   -- ---- reading and writing
 

@@ -12,8 +12,8 @@ use Rattle.records.specs.declared.Lock.{Lock}
 use Rattle.records.specs.declared.Tables.{Tables}
 use Rattle.records.specs.Held.{opensOf, locksOf, withLocks}
 use Rattle.locks.specs.Answer.{answers}
-use Rattle.locks.specs.Wire.{rangeSize, rangesAt}
-use Rattle.locks.specs.Request.{askOf, lockOf, releaseAll, rangePasses}
+use Rattle.locks.specs.Wire.{rangeSize}
+use Rattle.locks.specs.Request.{rangesOf, askOf, lockOf, releaseAll, rangePasses}
 use Rattle.locks.specs.declared.types.Ask.{Ask}
 use Rattle.locks.specs.declared.types.LockRange.{LockRange}
 use Rattle.locks.specs.declared.types.Request.{Request}
@@ -72,15 +72,15 @@ afterReleasesBefore t memory fid shared locks (some list) =
 unfoldable pub requestBefore : Tables → List ℕ → Request → List ℕ → Gave
 requestBefore t memory q area =
     cond (eqb (length area) ((q .unlocks + q .locks) * rangeSize (q .large)))
-    (afterReleasesBefore t memory (q .fid) (q .shared) (rangesAt (q .large) area (q .unlocks) (q .locks))
-    (releaseAll (fileOf (opensOf t)) (q .fid) (rangesAt (q .large) area 0 (q .unlocks)) (locksOf t)))
+    (afterReleasesBefore t memory (q .fid) (q .shared) (rangesOf q area (q .unlocks) (q .locks))
+    (releaseAll (fileOf (opensOf t)) (q .fid) (rangesOf q area 0 (q .unlocks)) (locksOf t)))
     (refusedWith (status 2 1))
 
 -- from "2/91 no session" to "2/65535 lock type bit other than 0x01 and 0x10", then the request
 unfoldable pub lockingBefore : Caller → Tables → List ℕ → LockingFields → List ℕ → Gave
 lockingBefore c t memory f area =
     onward (withOpen c t (f .fid) (λ o. cond (servedType (f .kind)) (done t memory locked) (refused LockType)))
-    (λ _. requestBefore t memory (requestOf f) area)
+    (λ _. requestBefore t memory (requestOf c f) area)
 
 -- ---- reading and writing
 

@@ -5,7 +5,7 @@ use mathlib.Core.Logic.{_⊎_, inl, inr, _↔_}
 use Prim.Native.Nat.{ℕ, _+_, _*_, _/_, _%_, _≤_, _<_}
 use native.Mathlib.Omega.{arith}
 use mathlib.Core.Bool.{Bool, true, false, cond, not, _||_, and-false}
-use mathlib.Core.List.{List}
+use mathlib.Core.List.{List, map}
 use mathlib.Core.Option.{Option, none, some}
 use lib.ListN.{length, getD}
 use lib.Dec.{leb, ltb, eqb}
@@ -21,7 +21,7 @@ use Rattle.records.specs.declared.Tables.{Tables}
 use Rattle.records.specs.Empty.{noOpen}
 use Rattle.records.specs.Held.{opensOf, locksOf}
 use Rattle.locks.specs.Wire.{rangeSize, rangesAt}
-use Rattle.locks.specs.Request.{releaseAll, Grants, granted, blocked, grantAll, afterGrants, rangePasses, afterReleases, Result, request, settle, locking}
+use Rattle.locks.specs.Request.{ofHeader, rangesOf, releaseAll, Grants, granted, blocked, grantAll, afterGrants, rangePasses, afterReleases, Result, request, settle, locking}
 use Rattle.locks.specs.declared.types.LockRange.{LockRange}
 use Rattle.locks.specs.declared.types.Purpose.the-variants.{Read as Reading, Write as Writing}
 use Rattle.soundness.specs.File.{fileOf}
@@ -95,29 +95,29 @@ pub data WriteStatus (c : Caller) (t : Tables) (f : WriteFields) : Status → Ty
 abbrev pub OnlyTwoBits : ℕ → Type 0
 OnlyTwoBits kind = kind ≡ kind % 2 + kind / 16 % 2 * 16
 
--- the request's unlocks and locks, and whether they are shared: "Type bit 0x01 means shared"
-abbrev pub unlocksIn : LockingFields → List ℕ → List LockRange
-unlocksIn f area = rangesAt (eqb (f .kind / 16 % 2) 1) area 0 (f .unlocks)
+-- the request's unlocks and locks, each with the upper half of the caller's process (document 02, CR 4)
+abbrev pub unlocksIn : Caller → LockingFields → List ℕ → List LockRange
+unlocksIn c f area = map (ofHeader (c .process / 65536)) (rangesAt (eqb (f .kind / 16 % 2) 1) area 0 (f .unlocks))
 
-abbrev pub locksIn : LockingFields → List ℕ → List LockRange
-locksIn f area = rangesAt (eqb (f .kind / 16 % 2) 1) area (f .unlocks) (f .locks)
+abbrev pub locksIn : Caller → LockingFields → List ℕ → List LockRange
+locksIn c f area = map (ofHeader (c .process / 65536)) (rangesAt (eqb (f .kind / 16 % 2) 1) area (f .unlocks) (f .locks))
 
 -- LOCKING: "2/65535 lock type bit other than 0x01 and 0x10; 1/158 no such lock to release; 1/87 lock range passes 2^64; 1/33 lock conflict; 1/8 no lock record free"
 pub data LockingStatus (c : Caller) (t : Tables) (f : LockingFields) (area : List ℕ) : Status → Type 0 where
   -- 2/91, 2/5 or 1/6: Admitted.antt
   locking-not : {n : Status} → NoOpenFor c t (f .fid) n → LockingStatus c t f area n
   locking-type : {o : Open} → Admitted c t (f .fid) o → (OnlyTwoBits (f .kind) → ⊥) → LockingStatus c t f area (status 2 65535)
-  locking-unnamed : {o : Open} → Admitted c t (f .fid) o → OnlyTwoBits (f .kind) → Unnamed (f .fid) (unlocksIn f area) (locksOf t)
+  locking-unnamed : {o : Open} → Admitted c t (f .fid) o → OnlyTwoBits (f .kind) → Unnamed (f .fid) (unlocksIn c f area) (locksOf t)
       → LockingStatus c t f area (status 1 158)
-  locking-past : {o : Open} {left : List Lock} → Admitted c t (f .fid) o → OnlyTwoBits (f .kind) → Released (f .fid) (unlocksIn f area) (locksOf t) left
-      → PastEnd (locksIn f area) → LockingStatus c t f area (status 1 87)
-  locking-blocked : {o : Open} {left : List Lock} → Admitted c t (f .fid) o → OnlyTwoBits (f .kind) → Released (f .fid) (unlocksIn f area) (locksOf t) left
-      → (PastEnd (locksIn f area) → ⊥) → OneBlocked t o (f .fid) (sharedIn f) (locksIn f area) left → LockingStatus c t f area (status 1 33)
-  locking-full : {o : Open} {left last : List Lock} → Admitted c t (f .fid) o → OnlyTwoBits (f .kind) → Released (f .fid) (unlocksIn f area) (locksOf t) left
-      → (PastEnd (locksIn f area) → ⊥) → AllGranted t o (f .fid) (sharedIn f) (locksIn f area) left last → 128 < length last
+  locking-past : {o : Open} {left : List Lock} → Admitted c t (f .fid) o → OnlyTwoBits (f .kind) → Released (f .fid) (unlocksIn c f area) (locksOf t) left
+      → PastEnd (locksIn c f area) → LockingStatus c t f area (status 1 87)
+  locking-blocked : {o : Open} {left : List Lock} → Admitted c t (f .fid) o → OnlyTwoBits (f .kind) → Released (f .fid) (unlocksIn c f area) (locksOf t) left
+      → (PastEnd (locksIn c f area) → ⊥) → OneBlocked t o (f .fid) (sharedIn f) (locksIn c f area) left → LockingStatus c t f area (status 1 33)
+  locking-full : {o : Open} {left last : List Lock} → Admitted c t (f .fid) o → OnlyTwoBits (f .kind) → Released (f .fid) (unlocksIn c f area) (locksOf t) left
+      → (PastEnd (locksIn c f area) → ⊥) → AllGranted t o (f .fid) (sharedIn f) (locksIn c f area) left last → 128 < length last
       → LockingStatus c t f area (status 1 8)
-  locking-done : {o : Open} {left last : List Lock} → Admitted c t (f .fid) o → OnlyTwoBits (f .kind) → Released (f .fid) (unlocksIn f area) (locksOf t) left
-      → (PastEnd (locksIn f area) → ⊥) → AllGranted t o (f .fid) (sharedIn f) (locksIn f area) left last → length last ≤ 128
+  locking-done : {o : Open} {left last : List Lock} → Admitted c t (f .fid) o → OnlyTwoBits (f .kind) → Released (f .fid) (unlocksIn c f area) (locksOf t) left
+      → (PastEnd (locksIn c f area) → ⊥) → AllGranted t o (f .fid) (sharedIn f) (locksIn c f area) left last → length last ≤ 128
       → LockingStatus c t f area (status 0 0)
 
 -- of each command
@@ -404,18 +404,18 @@ module _ (c : Caller) (t : Tables) (memory : List ℕ) (ok : sound t ≡ true) w
 
     -- the request, with what its unlocks give
     abbrev after-unlocks : Option (List Lock) → Status
-    after-unlocks x = ends (afterReleases file-of (f .fid) (sharedIn f) (locksIn f area) x)
+    after-unlocks x = ends (afterReleases file-of (f .fid) (sharedIn f) (locksIn c f area) x)
 
     locking-is : (k : ℕ) → May c t (f .fid) k → servedType (f .kind) ≡ true
-        → statusIn (doLocking c t memory f area) ≡ after-unlocks (releaseAll file-of (f .fid) (unlocksIn f area) (locksOf t))
-    unfolding doLocking requestOf locking request
+        → statusIn (doLocking c t memory f area) ≡ after-unlocks (releaseAll file-of (f .fid) (unlocksIn c f area) (locksOf t))
+    unfolding doLocking requestOf locking rangesOf request
     locking-is k may e =
         ap statusIn (with-open c t (f .fid) k _ may
         ∙ rw (e, eq-eqb (length area) ((f .unlocks + f .locks) * rangeSize (eqb (f .kind / 16 % 2) 1)) announced))
 
     module _ {o : Open} (a : Admitted c t (f .fid) o) (bits : OnlyTwoBits (f .kind)) where
-      grants-reason : {left : List Lock} → Released (f .fid) (unlocksIn f area) (locksOf t) left → (PastEnd (locksIn f area) → ⊥)
-          → (x : Grants) → Granting t o (f .fid) (sharedIn f) (locksIn f area) left x → LockingStatus c t f area (ends (afterGrants x))
+      grants-reason : {left : List Lock} → Released (f .fid) (unlocksIn c f area) (locksOf t) left → (PastEnd (locksIn c f area) → ⊥)
+          → (x : Grants) → Granting t o (f .fid) (sharedIn f) (locksIn c f area) left x → LockingStatus c t f area (ends (afterGrants x))
       unfolding afterGrants settle lockingAfter lockingEnd statusIn statusOf
       grants-reason r low (granted last) (all-granted g) =
           elim (decided (leb (length last) 128)) [
@@ -424,15 +424,15 @@ module _ (c : Caller) (t : Tables) (memory : List ℕ) (ok : sound t ≡ true) w
           ]
       grants-reason r low (blocked h) (one-blocked b) = locking-blocked a bits r low b
 
-      releases-reason : (x : Option (List Lock)) → Releasing (f .fid) (unlocksIn f area) (locksOf t) x → LockingStatus c t f area (after-unlocks x)
+      releases-reason : (x : Option (List Lock)) → Releasing (f .fid) (unlocksIn c f area) (locksOf t) x → LockingStatus c t f area (after-unlocks x)
       unfolding afterReleases settle lockingAfter lockingEnd statusIn statusOf
       releases-reason none (one-unnamed u) = locking-unnamed a bits u
       releases-reason (some left) (all-released r) =
-          elim (decided (any rangePasses (locksIn f area))) [
-            | inl e ↦ rw e (locking-past a bits r (past-means (locksIn f area) e))
-            | inr e ↦ rw e (grants-reason r (λ w. not-decided-twice (any rangePasses (locksIn f area)) (past-is (locksIn f area) w) e)
-                (grantAll file-of (f .fid) (sharedIn f) (locksIn f area) left)
-                (grant-means t ok o (f .fid) (a .opened .listed) (a .opened .of-fid) (sharedIn f) (locksIn f area) left (left-opened r)))
+          elim (decided (any rangePasses (locksIn c f area))) [
+            | inl e ↦ rw e (locking-past a bits r (past-means (locksIn c f area) e))
+            | inr e ↦ rw e (grants-reason r (λ w. not-decided-twice (any rangePasses (locksIn c f area)) (past-is (locksIn c f area) w) e)
+                (grantAll file-of (f .fid) (sharedIn f) (locksIn c f area) left)
+                (grant-means t ok o (f .fid) (a .opened .listed) (a .opened .of-fid) (sharedIn f) (locksIn c f area) left (left-opened r)))
           ]
 
     -- LOCKING: the status has its reason
@@ -441,28 +441,28 @@ module _ (c : Caller) (t : Tables) (memory : List ℕ) (ok : sound t ≡ true) w
         elim (open-or c t (f .fid)) [
           | inl h ↦ rw (locking-given-open (h .1)) (locking-not (h .1))
           | inr (k, may, a) ↦ elim (decided (servedType (f .kind))) [
-            | inl e ↦ rw (locking-is k may e) (releases-reason a (served-means (f .kind) e) (releaseAll file-of (f .fid) (unlocksIn f area) (locksOf t))
-                (release-means file-of (f .fid) (unlocksIn f area) (locksOf t)))
+            | inl e ↦ rw (locking-is k may e) (releases-reason a (served-means (f .kind) e) (releaseAll file-of (f .fid) (unlocksIn c f area) (locksOf t))
+                (release-means file-of (f .fid) (unlocksIn c f area) (locksOf t)))
             | inr e ↦ rw (locking-refused k may e) (locking-type a (λ b. not-decided-twice (servedType (f .kind)) (served-is (f .kind) b) e))
           ]
         ]
 
     -- a request of a served type, through an open
     locking-asked : {o : Open} → Admitted c t (f .fid) o → OnlyTwoBits (f .kind)
-        → statusIn (doLocking c t memory f area) ≡ after-unlocks (releaseAll file-of (f .fid) (unlocksIn f area) (locksOf t))
+        → statusIn (doLocking c t memory f area) ≡ after-unlocks (releaseAll file-of (f .fid) (unlocksIn c f area) (locksOf t))
     locking-asked {o} a bits = let m = admitted-may c t (f .fid) ok o a in locking-is (m .0) (m .1) (served-is (f .kind) bits)
 
     -- whose unlocks are done
-    locking-released : {o : Open} {left : List Lock} → Admitted c t (f .fid) o → OnlyTwoBits (f .kind) → Released (f .fid) (unlocksIn f area) (locksOf t) left
+    locking-released : {o : Open} {left : List Lock} → Admitted c t (f .fid) o → OnlyTwoBits (f .kind) → Released (f .fid) (unlocksIn c f area) (locksOf t) left
         → statusIn (doLocking c t memory f area) ≡ after-unlocks (some left)
     locking-released a bits r = locking-asked a bits ∙ ap after-unlocks (released-is file-of (f .fid) r)
 
     -- and whose locks lie below 2^64
-    locking-walked : {o : Open} {left : List Lock} → Admitted c t (f .fid) o → OnlyTwoBits (f .kind) → Released (f .fid) (unlocksIn f area) (locksOf t) left
-        → (PastEnd (locksIn f area) → ⊥) → statusIn (doLocking c t memory f area) ≡ ends (afterGrants (grantAll file-of (f .fid) (sharedIn f) (locksIn f area) left))
+    locking-walked : {o : Open} {left : List Lock} → Admitted c t (f .fid) o → OnlyTwoBits (f .kind) → Released (f .fid) (unlocksIn c f area) (locksOf t) left
+        → (PastEnd (locksIn c f area) → ⊥) → statusIn (doLocking c t memory f area) ≡ ends (afterGrants (grantAll file-of (f .fid) (sharedIn f) (locksIn c f area) left))
     unfolding afterReleases
     locking-walked a bits r low =
-        rw (fails (any rangePasses (locksIn f area)) (λ e. low (past-means (locksIn f area) e))) at (locking-released a bits r)
+        rw (fails (any rangePasses (locksIn c f area)) (λ e. low (past-means (locksIn c f area) e))) at (locking-released a bits r)
 
     -- and where the reason holds, the status is given
     locking-given : {n : Status} → LockingStatus c t f area n → statusIn (doLocking c t memory f area) ≡ n
@@ -472,7 +472,7 @@ module _ (c : Caller) (t : Tables) (memory : List ℕ) (ok : sound t ≡ true) w
         let m = admitted-may c t (f .fid) ok o a in
         locking-refused (m .0) (m .1) (fails (servedType (f .kind)) (λ e. h (served-means (f .kind) e)))
     locking-given (locking-unnamed a bits u) = locking-asked a bits ∙ ap after-unlocks (unnamed-is file-of (f .fid) u)
-    locking-given (locking-past a bits r w) = locking-released a bits r ∙ rw (past-is (locksIn f area) w)
+    locking-given (locking-past a bits r w) = locking-released a bits r ∙ rw (past-is (locksIn c f area) w)
     locking-given (locking-blocked {o} a bits r low b) =
         let w = blocked-is t ok o (f .fid) (a .opened .listed) (a .opened .of-fid) (sharedIn f) (left-opened r) b in
         locking-walked a bits r low ∙ ap (λ (x : Grants). ends (afterGrants x)) (w .1)

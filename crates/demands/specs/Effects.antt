@@ -26,7 +26,7 @@ use Rattle.demands.specs.RefusedCall.{Untouched}
 use Rattle.demands.specs.Admitted.{Admitted}
 use Rattle.demands.specs.FileCommands.{WroteFile, write-leaves, write-nothing}
 use Rattle.demands.specs.CallEffects.{ReadCall, read-call, counted, write-given, write-open, write-count-call, close-call, disconnect-call, logoff-call, exit-call}
-use Rattle.demands.specs.WireFields.{readFrom, readFields, writeFrom, writeFields, writeData, FirstBlock, one-first, first-body, first-data}
+use Rattle.demands.specs.WireFields.{senderProcess, readFrom, readFields, writeFrom, writeFields, writeData, FirstBlock, one-first, first-body, first-data}
 
 -- ---- the plain words
 
@@ -136,7 +136,7 @@ module _ (connection : ℕ) (s : List ℕ) {span : Span} (r : Reading s (span �
   unfolding bodyAt callerOf
   logoff-reading e = logoff-call connection s (only .block) (only .is-read) t memory room g fit z (first-body only LOGOFF e)
 
-  -- "PROCESS_EXIT the opens of that UID and process": PIDLow at 26
-  pub exit-reading : headerCommand s ≡ PROCESS_EXIT → Exited (le16At s 28) (le16At s 26) t (call .tables) × (call .memory ≡ memory)
+  -- "PROCESS_EXIT the opens of that UID and process": all 32 bits of it
+  pub exit-reading : headerCommand s ≡ PROCESS_EXIT → Exited (le16At s 28) (senderProcess s) t (call .tables) × (call .memory ≡ memory)
   unfolding bodyAt callerOf
   exit-reading e = exit-call connection s (only .block) (only .is-read) t memory room g fit z (first-body only PROCESS_EXIT e)

@@ -5,7 +5,6 @@ use mathlib.Core.Logic.{_↔_}
 use Prim.Native.Nat.{ℕ}
 use mathlib.Core.Bool.{false}
 use mathlib.Core.List.{List, [], _∷_}
-use Rattle.wire.specs.LittleEndian.{le16At}
 use Rattle.records.specs.declared.Open.{Open}
 use Rattle.records.specs.declared.Tables.{Tables}
 use Rattle.records.specs.Held.{locksOf}
@@ -26,17 +25,17 @@ use Rattle.demands.specs.LoneCall.{FirstConflict, first-read-call, first
 use Rattle.demands.specs.Admitted.{Admitted}
 use Rattle.demands.specs.CommandReasons.{SessionStatus, TreeStatus, CloseStatus, ReadStatus, WriteStatus, LockingStatus, Reason}
 use Rattle.demands.specs.ReasonCalls.{call-exact}
-use Rattle.demands.specs.WireFields.{readFrom, readFields, writeFrom, writeFields, FirstBlock, reading-first, one-first, first-body, first-area}
+use Rattle.demands.specs.WireFields.{senderProcess, readFrom, readFields, writeFrom, writeFields, FirstBlock, reading-first, one-first, first-body, first-area}
 
--- "an exclusive lock of another owner overlaps offset and max": the owner is the message's FID with its PIDLow, at 26
+-- "an exclusive lock of another owner overlaps offset and max": the owner is the message's FID with its sender's process
 abbrev pub BarsReadOn : List ℕ → Tables → Open → Type 0
 BarsReadOn s t o =
-    InWay t o (locksOf t) (readFrom s) (readMax s FIRST) (λ l. (l .shared ≡ false) × (Owner (fidAfterAndx s FIRST) (le16At s 26) l → ⊥))
+    InWay t o (locksOf t) (readFrom s) (readMax s FIRST) (λ l. (l .shared ≡ false) × (Owner (fidAfterAndx s FIRST) (senderProcess s) l → ⊥))
 
 -- "any lock overlaps it save the writer's own exclusive ones"
 abbrev pub BarsWriteOn : List ℕ → Tables → Open → Type 0
 BarsWriteOn s t o =
-    InWay t o (locksOf t) (writeFrom s) (dataLength s FIRST) (λ l. (l .shared ≡ false) × Owner (fidAfterAndx s FIRST) (le16At s 26) l → ⊥)
+    InWay t o (locksOf t) (writeFrom s) (dataLength s FIRST) (λ l. (l .shared ≡ false) × Owner (fidAfterAndx s FIRST) (senderProcess s) l → ⊥)
 
 module _ (connection : ℕ) (s : List ℕ) {spans : List Span} (r : Reading s spans) (t : Tables) (memory room : List ℕ) (fit : Fit s t memory room) (o : Open)
     (valid : Admitted (callerOf connection s) t (fidAfterAndx s FIRST) o) where

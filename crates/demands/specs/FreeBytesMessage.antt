@@ -41,7 +41,7 @@ module _ (s t : List ℕ) (header : take 32 t ≡ take 32 s) where
   -- the same caller
   pub header-caller : (connection : ℕ) → callerOf connection t ≡ callerOf connection s
   unfolding callerOf
-  header-caller connection = rw (header-number 28 (omega arith), header-number 24 (omega arith), header-number 26 (omega arith))
+  header-caller connection = rw (header-number 28 (omega arith), header-number 24 (omega arith), header-number 12 (omega arith), header-number 26 (omega arith))
 
   -- its last eight bytes
   header-last : take 8 (drop 24 t) ≡ take 8 (drop 24 s)

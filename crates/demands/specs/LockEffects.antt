@@ -6,7 +6,7 @@ use mathlib.Core.Logic.{_↔_}
 use Prim.Native.Nat.{ℕ, zero, suc, min, _+_, _*_, _/_, _%_, _≤_, _<_}
 use native.Mathlib.Omega.{arith}
 use mathlib.Core.Bool.{Bool, true, false}
-use mathlib.Core.List.{List, [], _∷_, _++_}
+use mathlib.Core.List.{List, [], _∷_, _++_, map}
 use lib.ListN.{length, drop, length-take}
 use lib.Seq.{getD-take, getD-drop}
 use lib.Dec.{eqb}
@@ -17,7 +17,7 @@ use Rattle.records.specs.declared.Lock.{Lock}
 use Rattle.records.specs.declared.Tables.{Tables}
 use Rattle.records.specs.Held.{locksOf, withLocks}
 use Rattle.locks.specs.Wire.{rangeSize, numberAt, rangeFrom, rangeAt, rangesAt}
-use Rattle.locks.specs.Request.{lockOf}
+use Rattle.locks.specs.Request.{ofHeader, lockOf}
 use Rattle.locks.specs.declared.types.LockRange.{LockRange}
 use Rattle.chain.specs.Layout.{LOCKING, headerCommand, FIRST, byteArea, byteCount, fidAfterAndx, lockType, unlockCount, lockCount}
 use Rattle.chain.specs.Grammar.{Span, Reading}
@@ -43,12 +43,12 @@ use Rattle.demands.specs.CommandReasons.{Announced}
 use Rattle.demands.specs.ReasonCalls.{one-announced}
 use Rattle.demands.specs.DoneCall.{past-open}
 use Rattle.demands.specs.CallEffects.{gives-body, the-command}
-use Rattle.demands.specs.WireFields.{FirstBlock, one-first, first-body, first-area}
+use Rattle.demands.specs.WireFields.{upperHalf, FirstBlock, one-first, first-body, first-area}
 
 -- ---- the plain words
 
 -- the k-th range of the message's LOCKING block, unlocks first, from 0: "process 2, offset 4, length 4; or process 2, pad 2, offset high 4, low 4,
--- length high 4, low 4", the longer form with type bit 0x10
+-- length high 4, low 4", the longer form with type bit 0x10. Document 02, CR 4: "a 16-bit process in a lock range takes its upper half from the header"
 abbrev pub shortAt : List ℕ → ℕ → ℕ
 shortAt s k = byteArea s FIRST + k * 10
 
@@ -56,9 +56,9 @@ abbrev pub longAt : List ℕ → ℕ → ℕ
 longAt s k = byteArea s FIRST + k * 20
 
 pub data RangeOn (s : List ℕ) (k : ℕ) (r : LockRange) : Type 0 where
-  short-range : lockType s FIRST / 16 % 2 ≡ 0 → r .process ≡ le16At s (shortAt s k) → r .offset ≡ le32At s (shortAt s k + 2) → r .length ≡ le32At s (shortAt s k + 6)
+  short-range : lockType s FIRST / 16 % 2 ≡ 0 → r .process ≡ 65536 * upperHalf s + le16At s (shortAt s k) → r .offset ≡ le32At s (shortAt s k + 2) → r .length ≡ le32At s (shortAt s k + 6)
       → RangeOn s k r
-  long-range : lockType s FIRST / 16 % 2 ≡ 1 → r .process ≡ le16At s (longAt s k) → r .offset ≡ 4294967296 * le32At s (longAt s k + 4) + le32At s (longAt s k + 8)
+  long-range : lockType s FIRST / 16 % 2 ≡ 1 → r .process ≡ 65536 * upperHalf s + le16At s (longAt s k) → r .offset ≡ 4294967296 * le32At s (longAt s k + 4) + le32At s (longAt s k + 8)
       → r .length ≡ 4294967296 * le32At s (longAt s k + 12) + le32At s (longAt s k + 16) → RangeOn s k r
 
 -- the lock that is granted for a range: of the message's FID and of the range's process, offset and length; "Type bit 0x01 means shared"
@@ -125,23 +125,30 @@ module _ (s : List ℕ) where
       same-32 s (byteArea s FIRST + j + m) area (j + m)
       (λ i l. let e : byteArea s FIRST + (j + m + i) ≡ byteArea s FIRST + j + m + i = omega arith in area-byte (j + m + i) (omega arith) ∙ ap (byteAt s) e)
 
-  range-on-by : (b : Bool) → large ≡ b → (n : ℕ) → n * rangeSize b ≤ byteCount s FIRST → (k : ℕ) → k < n → RangeOn s k (rangeAt b area k)
-  unfolding rangeAt rangeFrom numberAt rangeSize
+  -- the k-th range, and m of them from the k-th on
+  abbrev pub rangeIn : ℕ → LockRange
+  rangeIn k = ofHeader (upperHalf s) (rangeAt large area k)
+
+  abbrev pub rangesIn : ℕ → ℕ → List LockRange
+  rangesIn k m = map (ofHeader (upperHalf s)) (rangesAt large area k m)
+
+  range-on-by : (b : Bool) → large ≡ b → (n : ℕ) → n * rangeSize b ≤ byteCount s FIRST → (k : ℕ) → k < n → RangeOn s k (ofHeader (upperHalf s) (rangeAt b area k))
+  unfolding ofHeader rangeAt rangeFrom numberAt rangeSize
   range-on-by true e n fits k h =
       let low : k * 20 + 4 + 4 ≡ k * 20 + 8 = omega arith in
       let end : k * 20 + 12 + 4 ≡ k * 20 + 16 = omega arith in
-      long-range (eqb-true (lockType s FIRST / 16 % 2) 1 e) (area-16 (k * 20) (omega arith))
+      long-range (eqb-true (lockType s FIRST / 16 % 2) 1 e) (ap (λ (n : ℕ). 65536 * upperHalf s + n) (area-16 (k * 20) (omega arith)))
       (rw (low, area-32 (k * 20) 4 (omega arith), area-32 (k * 20) 8 (omega arith)))
       (rw (end, area-32 (k * 20) 12 (omega arith), area-32 (k * 20) 16 (omega arith)))
   range-on-by false e n fits k h =
       let other = eqb-false (lockType s FIRST / 16 % 2) 1 e in
-      short-range (omega arith) (area-16 (k * 10) (omega arith)) (area-32 (k * 10) 2 (omega arith)) (area-32 (k * 10) 6 (omega arith))
+      short-range (omega arith) (ap (λ (n : ℕ). 65536 * upperHalf s + n) (area-16 (k * 10) (omega arith))) (area-32 (k * 10) 2 (omega arith)) (area-32 (k * 10) 6 (omega arith))
 
   module _ (n : ℕ) (fits : n * rangeSize large ≤ byteCount s FIRST) where
-    pub range-on : (k : ℕ) → k < n → RangeOn s k (rangeAt large area k)
+    pub range-on : (k : ℕ) → k < n → RangeOn s k (rangeIn k)
     range-on = range-on-by large refl n fits
 
-    pub unlocked-from : (k m : ℕ) → k + m ≤ n → {list left : List Lock} → Released (fidAfterAndx s FIRST) (rangesAt large area k m) list left → Unlocked s k m list left
+    pub unlocked-from : (k m : ℕ) → k + m ≤ n → {list left : List Lock} → Released (fidAfterAndx s FIRST) (rangesIn k m) list left → Unlocked s k m list left
     unfolding rangesAt
     unlocked-from k zero h none-to-release = none-to-unlock
     unlocked-from k (suc m) h (release-then out more) = unlock-then (range-on k (omega arith)) out (unlocked-from (suc k) m (omega arith) more)
@@ -158,11 +165,11 @@ module _ (s : List ℕ) where
         }
 
     pub locked-from : (t : Tables) (o : Open) (k m : ℕ) → k + m ≤ n → {list last : List Lock}
-        → AllGranted t o (fidAfterAndx s FIRST) (sharedIn (lockingFields s)) (rangesAt large area k m) list last → Locked s t o k m list last
+        → AllGranted t o (fidAfterAndx s FIRST) (sharedIn (lockingFields s)) (rangesIn k m) list last → Locked s t o k m list last
     unfolding rangesAt lockOf
     locked-from t o k zero h none-to-grant = none-to-lock
     locked-from t o k (suc m) h (grant-then free more) =
-        lock-then (range-on k (omega arith)) (granted-lock (rangeAt large area k)) free (locked-from t o (suc k) m (omega arith) more)
+        lock-then (range-on k (omega arith)) (granted-lock (rangeIn k)) free (locked-from t o (suc k) m (omega arith) more)
 
 -- all the ranges that a first block announces are in its byte area
 pub locking-fits : {s : List ℕ} {later : List Block} (q : FirstBlock s later) → headerCommand s ≡ LOCKING
@@ -179,7 +186,7 @@ locking-fits {s} {later} q e =
 pub locking-reading : (connection : ℕ) (s : List ℕ) {span : Span} → Reading s (span ∷ []) → (t : Tables) (memory room : List ℕ) → Good t → Fit s t memory room
     → statusRead (take-message connection s t memory room .room) ≡ status 0 0 → headerCommand s ≡ LOCKING
     → LockingDone connection s t memory (take-message connection s t memory room)
-unfolding perform doLocking bodyAt blocks Announced
+unfolding callerOf perform doLocking bodyAt blocks Announced
 locking-reading connection s r t memory room g fit z e =
     let only = one-first r in
     let b = only .block in

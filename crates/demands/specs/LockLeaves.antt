@@ -17,7 +17,7 @@ use Rattle.records.specs.declared.Lock.{Lock}
 use Rattle.records.specs.declared.Tables.{Tables}
 use Rattle.records.specs.Held.{opensOf, locksOf, withLocks}
 use Rattle.locks.specs.Wire.{rangeSize}
-use Rattle.locks.specs.Request.{releaseAll, Grants, granted, blocked, grantAll, Result, afterGrants, rangePasses, afterReleases, request, settle, locking}
+use Rattle.locks.specs.Request.{rangesOf, releaseAll, Grants, granted, blocked, grantAll, Result, afterGrants, rangePasses, afterReleases, request, settle, locking}
 use Rattle.soundness.specs.File.{fileOf}
 use Rattle.soundness.specs.Sound.{sound}
 use Rattle.invariants.specs.Shaped.{locks-with}
@@ -34,13 +34,13 @@ use Rattle.demands.specs.LoneLock.{sharedIn}
 use Rattle.demands.specs.CommandReasons.{Announced, unlocksIn, locksIn}
 
 -- the tables and the file memory after a LOCKING of the open o that is done, and what it says
-pub record LocksLeft (t : Tables) (memory : List ℕ) (f : LockingFields) (area : List ℕ) (o : Open) (after : Tables) (left-memory : List ℕ) (said : Said) : Type 0 where
+pub record LocksLeft (c : Caller) (t : Tables) (memory : List ℕ) (f : LockingFields) (area : List ℕ) (o : Open) (after : Tables) (left-memory : List ℕ) (said : Said) : Type 0 where
   -- "Unlocks go first, in order": what they leave of the list
   pub left : List Lock
-  pub unlocked : Released (f .fid) (unlocksIn f area) (locksOf t) left
+  pub unlocked : Released (f .fid) (unlocksIn c f area) (locksOf t) left
   -- "Then locks in order, each against the list as it stands": what stands there then
   pub last : List Lock
-  pub all-locked : AllGranted t o (f .fid) (sharedIn f) (locksIn f area) left last
+  pub all-locked : AllGranted t o (f .fid) (sharedIn f) (locksIn c f area) left last
   -- "1/8 exactly if over 128 would then be held": these are not over
   pub not-over : length last ≤ 128
   -- these are the locks held, "in order of grant"
@@ -72,8 +72,8 @@ ends t memory r = lockingAfter t memory (settle (t .locks) (t .nlocks) r)
 module _ (c : Caller) (t : Tables) (memory : List ℕ) (ok : sound t ≡ true) {u : Tables} {m : List ℕ} {said : Said} (f : LockingFields) (area : List ℕ) (o : Open)
     (a : Admitted c t (f .fid) o) where
   -- the list that is left stands in the tables, and nothing else is changed
-  list-left : {left last : List Lock} → Released (f .fid) (unlocksIn f area) (locksOf t) left → AllGranted t o (f .fid) (sharedIn f) (locksIn f area) left last → length last ≤ 128
-      → done (withLocks t last) memory locked ≡ done u m said → LocksLeft t memory f area o u m said
+  list-left : {left last : List Lock} → Released (f .fid) (unlocksIn c f area) (locksOf t) left → AllGranted t o (f .fid) (sharedIn f) (locksIn c f area) left last → length last ≤ 128
+      → done (withLocks t last) memory locked ≡ done u m said → LocksLeft c t memory f area o u m said
   unfolding withLockList withLocks
   list-left {left} {last} r g low e =
       let w : u ≡ withLocks t last = cc in
@@ -92,8 +92,8 @@ module _ (c : Caller) (t : Tables) (memory : List ℕ) (ok : sound t ≡ true) {
         says = s;
       }
 
-  grants-left : {left : List Lock} → Released (f .fid) (unlocksIn f area) (locksOf t) left → (x : Grants) → Granting t o (f .fid) (sharedIn f) (locksIn f area) left x
-      → ends t memory (afterGrants x) ≡ done u m said → LocksLeft t memory f area o u m said
+  grants-left : {left : List Lock} → Released (f .fid) (unlocksIn c f area) (locksOf t) left → (x : Grants) → Granting t o (f .fid) (sharedIn f) (locksIn c f area) left x
+      → ends t memory (afterGrants x) ≡ done u m said → LocksLeft c t memory f area o u m said
   unfolding afterGrants settle lockingAfter lockingEnd withLockList withLocks
   grants-left r (granted last) (all-granted g) e =
       elim (decided (leb (length last) 128)) [
@@ -102,24 +102,24 @@ module _ (c : Caller) (t : Tables) (memory : List ℕ) (ok : sound t ≡ true) {
       ]
   grants-left r (blocked h) (one-blocked b) e = never cc
 
-  releases-left : (x : Option (List Lock)) → Releasing (f .fid) (unlocksIn f area) (locksOf t) x
-      → ends t memory (afterReleases (file-of t) (f .fid) (sharedIn f) (locksIn f area) x) ≡ done u m said → LocksLeft t memory f area o u m said
+  releases-left : (x : Option (List Lock)) → Releasing (f .fid) (unlocksIn c f area) (locksOf t) x
+      → ends t memory (afterReleases (file-of t) (f .fid) (sharedIn f) (locksIn c f area) x) ≡ done u m said → LocksLeft c t memory f area o u m said
   unfolding afterReleases settle lockingAfter lockingEnd Opened
   releases-left none (one-unnamed n) e = never cc
   releases-left (some left) (all-released r) e =
-      elim (decided (any rangePasses (locksIn f area))) [
+      elim (decided (any rangePasses (locksIn c f area))) [
         | inl b ↦ let z = rw b at e in never cc
-        | inr b ↦ grants-left r (grantAll (file-of t) (f .fid) (sharedIn f) (locksIn f area) left)
-            (grant-means t ok o (f .fid) (a .opened .listed) (a .opened .of-fid) (sharedIn f) (locksIn f area) left
+        | inr b ↦ grants-left r (grantAll (file-of t) (f .fid) (sharedIn f) (locksIn c f area) left)
+            (grant-means t ok o (f .fid) (a .opened .listed) (a .opened .of-fid) (sharedIn f) (locksIn c f area) left
             (λ l n. sound-plain t .0 ok .lock-open l (released-was r n)))
             (rw b at e)
       ]
 
   -- "Unlocks go first, in order .. Then locks in order, each against the list as it stands": just that is left, and it is all that changes
-  pub locking-leaves : Announced (LockingBody f) area → doLocking c t memory f area ≡ done u m said → LocksLeft t memory f area o u m said
-  unfolding doLocking requestOf locking request Announced
+  pub locking-leaves : Announced (LockingBody f) area → doLocking c t memory f area ≡ done u m said → LocksLeft c t memory f area o u m said
+  unfolding doLocking requestOf locking rangesOf request Announced
   locking-leaves announced e =
       let w = admitted-may c t (f .fid) ok o a in
       let h = test-passed (servedType (f .kind)) LockType _ (sym (with-open c t (f .fid) (w .0) _ (w .1)) ∙ e) in
-      releases-left (releaseAll (file-of t) (f .fid) (unlocksIn f area) (locksOf t)) (release-means (file-of t) (f .fid) (unlocksIn f area) (locksOf t))
+      releases-left (releaseAll (file-of t) (f .fid) (unlocksIn c f area) (locksOf t)) (release-means (file-of t) (f .fid) (unlocksIn c f area) (locksOf t))
       (rw (eq-eqb (length area) ((f .unlocks + f .locks) * rangeSize (eqb (f .kind / 16 % 2) 1)) (announced f refl)) at h)

@@ -14,8 +14,8 @@ use Rattle.records.specs.declared.Open.{Open}
 use Rattle.records.specs.declared.Lock.{Lock}
 use Rattle.records.specs.declared.Tables.{Tables}
 use Rattle.records.specs.Held.{locksOf}
-use Rattle.locks.specs.Wire.{rangeSize, rangeAt, rangesAt}
-use Rattle.locks.specs.Request.{lockOf}
+use Rattle.locks.specs.Wire.{rangeSize, rangesAt}
+use Rattle.locks.specs.Request.{ofHeader, lockOf}
 use Rattle.locks.specs.declared.types.LockRange.{LockRange}
 use Rattle.chain.specs.Layout.{LOCKING, headerCommand, FIRST, byteCount, fidAfterAndx, lockType, unlockCount, lockCount}
 use Rattle.chain.specs.Grammar.{Span, Reading}
@@ -31,7 +31,7 @@ use Rattle.demands.specs.LoneCall.{FirstConflict, lockingFields, lone-lo
 use Rattle.demands.specs.LockWords.{Named, TakenOut, Released, none-to-release, release-then, Unnamed, names-none, later-names-none, PastEnd, AllGranted, none-to-grant, grant-then, OneBlocked, blocked-here, blocked-later}
 use Rattle.demands.specs.CommandReasons.{OnlyTwoBits, LockingStatus, locking-not, locking-type, locking-unnamed, locking-past, locking-blocked, locking-full, locking-done}
 use Rattle.demands.specs.WireFields.{reading-first, one-first}
-use Rattle.demands.specs.LockEffects.{RangeOn, short-range, long-range, GrantedLock, BarsGrant, Unlocked, none-to-unlock, unlock-then, Locked, none-to-lock, lock-then, area, large, range-on, unlocked-from, granted-lock, locked-from, locking-fits}
+use Rattle.demands.specs.LockEffects.{RangeOn, short-range, long-range, GrantedLock, BarsGrant, Unlocked, none-to-unlock, unlock-then, Locked, none-to-lock, lock-then, area, large, rangeIn, rangesIn, range-on, unlocked-from, granted-lock, locked-from, locking-fits}
 use Rattle.demands.specs.FirstReadings.{locking-exact}
 
 -- ---- the reasons
@@ -102,32 +102,26 @@ module _ (s : List ℕ) where
       λ i. record { fid = g .of-fid i; process = g .of-process i; offset = g .of-offset i; length = g .of-length i; shared = shared i }
 
   module _ (n : ℕ) (fits : n * rangeSize (large s) ≤ byteCount s FIRST) where
-    abbrev pub nth : ℕ → LockRange
-    nth k = rangeAt (large s) (area s) k
-
-    abbrev pub ranges : ℕ → ℕ → List LockRange
-    ranges k m = rangesAt (large s) (area s) k m
-
-    range-is : {k : ℕ} {r : LockRange} → k < n → RangeOn s k r → r ≡ nth k
+    range-is : {k : ℕ} {r : LockRange} → k < n → RangeOn s k r → r ≡ rangeIn s k
     range-is {k} h on = range-one on (range-on s n fits k h)
 
-    pub lock-is : {k : ℕ} {r : LockRange} {l : Lock} → k < n → RangeOn s k r → GrantedLock s r l → l ≡ lockFor (nth k)
+    pub lock-is : {k : ℕ} {r : LockRange} {l : Lock} → k < n → RangeOn s k r → GrantedLock s r l → l ≡ lockFor (rangeIn s k)
     lock-is {k} {r} {l} h on g = lock-one r l g ∙ ap lockFor (range-is h on)
 
     -- ---- unlocks
 
-    pub released-from : {k m : ℕ} {list left : List Lock} → k + m ≤ n → Unlocked s k m list left → Released (fidAfterAndx s FIRST) (ranges k m) list left
+    pub released-from : {k m : ℕ} {list left : List Lock} → k + m ≤ n → Unlocked s k m list left → Released (fidAfterAndx s FIRST) (rangesIn s k m) list left
     unfolding rangesAt
     released-from h none-to-unlock = none-to-release
     released-from h (unlock-then {k} {n = m} {r} {list} {left} on out more) =
         release-then (subst (λ (x : LockRange). TakenOut (fidAfterAndx s FIRST) x list left) (range-is (omega arith) on) out) (released-from (omega arith) more)
 
-    fails-from : (k m : ℕ) {list : List Lock} → k + m ≤ n → Unnamed (fidAfterAndx s FIRST) (ranges k m) list → UnlockFails s k m list
+    fails-from : (k m : ℕ) {list : List Lock} → k + m ≤ n → Unnamed (fidAfterAndx s FIRST) (rangesIn s k m) list → UnlockFails s k m list
     unfolding rangesAt
     fails-from k (suc m) h (names-none f) = unlock-none (range-on s n fits k (omega arith)) f
     fails-from k (suc m) h (later-names-none out more) = unlock-later (range-on s n fits k (omega arith)) out (fails-from (suc k) m (omega arith) more)
 
-    unnamed-from : {k m : ℕ} {list : List Lock} → k + m ≤ n → UnlockFails s k m list → Unnamed (fidAfterAndx s FIRST) (ranges k m) list
+    unnamed-from : {k m : ℕ} {list : List Lock} → k + m ≤ n → UnlockFails s k m list → Unnamed (fidAfterAndx s FIRST) (rangesIn s k m) list
     unfolding rangesAt
     unnamed-from h (unlock-none {k} {n = m} {r} {list} on f) =
         names-none (subst (λ (x : LockRange). (l : Lock) → In l list → Named (fidAfterAndx s FIRST) x l → ⊥) (range-is (omega arith) on) f)
@@ -136,16 +130,16 @@ module _ (s : List ℕ) where
 
     -- ---- ranges past 2^64
 
-    in-ranges : (k m j : ℕ) → k ≤ j → j < k + m → In (nth j) (ranges k m)
+    in-ranges : (k m j : ℕ) → k ≤ j → j < k + m → In (rangeIn s j) (rangesIn s k m)
     unfolding rangesAt
     in-ranges k zero j h l = absurd (omega arith)
     in-ranges k (suc m) j h l =
         elim (ℕ-discrete j k) [
-          | yes e ↦ here (ap nth e)
+          | yes e ↦ here (ap (rangeIn s) e)
           | no e ↦ there (in-ranges (suc k) m j (omega arith) (omega arith))
         ]
 
-    pub ranges-in : (k m : ℕ) {r : LockRange} → In r (ranges k m) → (j : ℕ) × (k ≤ j) × (j < k + m) × (r ≡ nth j)
+    pub ranges-in : (k m : ℕ) {r : LockRange} → In r (rangesIn s k m) → (j : ℕ) × (k ≤ j) × (j < k + m) × (r ≡ rangeIn s j)
     unfolding rangesAt
     ranges-in k (suc m) i =
         elim (first-or-later i) [
@@ -156,47 +150,47 @@ module _ (s : List ℕ) where
               (w .0, omega arith, omega arith, w .3)
         ]
 
-    pub passes-from : (k m : ℕ) → k + m ≤ n → PastEnd (ranges k m) → PassesOn s k m
+    pub passes-from : (k m : ℕ) → k + m ≤ n → PastEnd (rangesIn s k m) → PassesOn s k m
     unfolding PastEnd
     passes-from k m h p =
         let w = ranges-in k m (p .1) in
         let below : w .0 < k + m = w .2 in
         record { place = w .0; from = w .1; below = below; range = p .0; is-there = subst (λ (x : LockRange). RangeOn s (w .0) x) (sym (w .3)) (range-on s n fits (w .0) (omega arith)); passes = p .2 }
 
-    pub past-from : (k m : ℕ) → k + m ≤ n → PassesOn s k m → PastEnd (ranges k m)
+    pub past-from : (k m : ℕ) → k + m ≤ n → PassesOn s k m → PastEnd (rangesIn s k m)
     unfolding PastEnd
     past-from k m h p =
         let below : p .place < k + m = p .below in
-        let e : p .range ≡ nth (p .place) = range-is (omega arith) (p .is-there) in
+        let e : p .range ≡ rangeIn s (p .place) = range-is (omega arith) (p .is-there) in
         (p .range, rw e (in-ranges k m (p .place) (p .from) below), p .passes)
 
     -- ---- locks
 
     module _ (t : Tables) (o : Open) where
       pub granted-from : {k m : ℕ} {list last : List Lock} → k + m ≤ n → Locked s t o k m list last
-          → AllGranted t o (fidAfterAndx s FIRST) (sharedIn (lockingFields s)) (ranges k m) list last
+          → AllGranted t o (fidAfterAndx s FIRST) (sharedIn (lockingFields s)) (rangesIn s k m) list last
       unfolding rangesAt lockOf
       granted-from h none-to-lock = none-to-grant
       granted-from h (lock-then {k} {n = m} {r} {l} {list} {last} on g free more) =
-          let e : l ≡ lockFor (nth k) = lock-is (omega arith) on g in
+          let e : l ≡ lockFor (rangeIn s k) = lock-is (omega arith) on g in
           grant-then (subst (λ (x : Lock). BarsGrant t o list x → ⊥) e free)
-          (subst (λ (x : Lock). AllGranted t o (fidAfterAndx s FIRST) (sharedIn (lockingFields s)) (ranges (suc k) m) (list ++ (x ∷ [])) last) e (granted-from (omega arith) more))
+          (subst (λ (x : Lock). AllGranted t o (fidAfterAndx s FIRST) (sharedIn (lockingFields s)) (rangesIn s (suc k) m) (list ++ (x ∷ [])) last) e (granted-from (omega arith) more))
 
-      blocked-from : (k m : ℕ) {list : List Lock} → k + m ≤ n → OneBlocked t o (fidAfterAndx s FIRST) (sharedIn (lockingFields s)) (ranges k m) list → LockBlocked s t o k m list
+      blocked-from : (k m : ℕ) {list : List Lock} → k + m ≤ n → OneBlocked t o (fidAfterAndx s FIRST) (sharedIn (lockingFields s)) (rangesIn s k m) list → LockBlocked s t o k m list
       unfolding rangesAt lockOf
-      blocked-from k (suc m) h (blocked-here bar) = blocked-now (range-on s n fits k (omega arith)) (granted-lock s n fits (nth k)) bar
+      blocked-from k (suc m) h (blocked-here bar) = blocked-now (range-on s n fits k (omega arith)) (granted-lock s n fits (rangeIn s k)) bar
       blocked-from k (suc m) h (blocked-later free more) =
-          blocked-then (range-on s n fits k (omega arith)) (granted-lock s n fits (nth k)) free (blocked-from (suc k) m (omega arith) more)
+          blocked-then (range-on s n fits k (omega arith)) (granted-lock s n fits (rangeIn s k)) free (blocked-from (suc k) m (omega arith) more)
 
       one-blocked-from : {k m : ℕ} {list : List Lock} → k + m ≤ n → LockBlocked s t o k m list
-          → OneBlocked t o (fidAfterAndx s FIRST) (sharedIn (lockingFields s)) (ranges k m) list
+          → OneBlocked t o (fidAfterAndx s FIRST) (sharedIn (lockingFields s)) (rangesIn s k m) list
       unfolding rangesAt lockOf
       one-blocked-from h (blocked-now {k} {n = m} {r} {l} {list} on g bar) =
           blocked-here (subst (λ (x : Lock). BarsGrant t o list x) (lock-is (omega arith) on g) bar)
       one-blocked-from h (blocked-then {k} {n = m} {r} {l} {list} on g free more) =
-          let e : l ≡ lockFor (nth k) = lock-is (omega arith) on g in
+          let e : l ≡ lockFor (rangeIn s k) = lock-is (omega arith) on g in
           blocked-later (subst (λ (x : Lock). BarsGrant t o list x → ⊥) e free)
-          (subst (λ (x : Lock). OneBlocked t o (fidAfterAndx s FIRST) (sharedIn (lockingFields s)) (ranges (suc k) m) (list ++ (x ∷ []))) e (one-blocked-from (omega arith) more))
+          (subst (λ (x : Lock). OneBlocked t o (fidAfterAndx s FIRST) (sharedIn (lockingFields s)) (rangesIn s (suc k) m) (list ++ (x ∷ []))) e (one-blocked-from (omega arith) more))
 
 -- ---- the reasons are those of the command's fields
 
@@ -208,6 +202,7 @@ module _ (connection : ℕ) (s : List ℕ) (t : Tables) (fits : (unlockCount s F
   m = lockCount s FIRST
 
   to-wire : {n : Status} → LockingStatus (callerOf connection s) t (lockingFields s) (area s) n → LockingReason connection s t n
+  unfolding callerOf
   to-wire (locking-not h) = reason-not h
   to-wire (locking-type a b) = reason-type a b
   to-wire (locking-unnamed a b f) = reason-unnamed a b (fails-from s (u + m) fits 0 u (omega arith) f)
@@ -220,6 +215,7 @@ module _ (connection : ℕ) (s : List ℕ) (t : Tables) (fits : (unlockCount s F
       reason-done a b (unlocked-from s (u + m) fits 0 u (omega arith) r) (λ w. p (past-from s (u + m) fits u m (omega arith) w)) (locked-from s (u + m) fits t o u m (omega arith) k) l
 
   from-wire : {n : Status} → LockingReason connection s t n → LockingStatus (callerOf connection s) t (lockingFields s) (area s) n
+  unfolding callerOf
   from-wire (reason-not h) = locking-not h
   from-wire (reason-type a b) = locking-type a b
   from-wire (reason-unnamed a b f) = locking-unnamed a b (unnamed-from s (u + m) fits (omega arith) f)
@@ -245,11 +241,11 @@ pub lone-lock-wire : (connection : ℕ) (s : List ℕ) {spans : List Span} → R
     → headerCommand s ≡ LOCKING → unlockCount s FIRST ≡ 0 → lockCount s FIRST ≡ 1 → OnlyTwoBits (lockType s FIRST)
     → Admitted (callerOf connection s) t (fidAfterAndx s FIRST) o → (l : Lock) (r : LockRange) → RangeOn s 0 r → GrantedLock s r l → r .offset + r .length ≤ 2 ^ 64
     → FirstConflict (take-message connection s t memory room) ↔ BarsGrant t o (locksOf t) l
-unfolding lockOf
+unfolding ofHeader lockOf
 lone-lock-wire connection s read t memory room fit o command none one bits valid l r on g low =
     let fits = locking-fits (reading-first read .1) command in
     let n : 0 < unlockCount s FIRST + lockCount s FIRST = omega arith in
-    let same : r ≡ rangeAt (large s) (area s) 0 = range-is s (unlockCount s FIRST + lockCount s FIRST) fits n on in
-    let e : l ≡ lockFor s (rangeAt (large s) (area s) 0) = lock-is s (unlockCount s FIRST + lockCount s FIRST) fits n on g in
+    let same : r ≡ rangeIn s 0 = range-is s (unlockCount s FIRST + lockCount s FIRST) fits n on in
+    let e : l ≡ lockFor s (rangeIn s 0) = lock-is s (unlockCount s FIRST + lockCount s FIRST) fits n on g in
     subst (λ (x : Lock). FirstConflict (take-message connection s t memory room) ↔ BarsGrant t o (locksOf t) x) (sym e)
     (lone-lock-reading connection s read t memory room fit o command none one bits valid (subst (λ (x : LockRange). x .offset + x .length ≤ 2 ^ 64) same low))

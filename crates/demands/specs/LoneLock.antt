@@ -20,7 +20,7 @@ use Rattle.records.specs.Held.{sessionsOf, treesOf, opensOf, locksOf}
 use Rattle.locks.specs.Range.{Overlap, overlaps, overlap-iff}
 use Rattle.locks.specs.Wire.{rangeSize, rangeAt, rangesAt}
 use Rattle.locks.specs.Answer.{owns, bars, inWay, answersFor, answers}
-use Rattle.locks.specs.Request.{askOf as askFor, lockOf, releaseAll, granted, afterWalk, grantAll, afterGrants, rangePasses, afterReleases, request, settle, locking, Result, done as doneWith, refused as refusedBy}
+use Rattle.locks.specs.Request.{ofHeader, rangesOf, askOf as askFor, lockOf, releaseAll, granted, afterWalk, grantAll, afterGrants, rangePasses, afterReleases, request, settle, locking, Result, done as doneWith, refused as refusedBy}
 use Rattle.locks.specs.declared.types.Ask.{Ask}
 use Rattle.locks.specs.declared.types.LockRange.{LockRange}
 use Rattle.locks.specs.declared.types.Holder.{Holder}
@@ -218,7 +218,7 @@ lone-exact t memory Nothing before list = (
   λ h. let f = h .1 in let z : _≡_ {A = ℕ} 0 1 = cc in absurd (omega arith),
 )
 
--- the range of a request with one range, and whether it is to be shared: "Type bit 0x01 means shared"
+-- the range of a request with one range, as its bytes say it (a conflict does not go by its process), and whether it is to be shared: "Type bit 0x01 means shared"
 abbrev pub loneRange : LockingFields → List ℕ → LockRange
 loneRange f area = rangeAt (eqb (f .kind / 16 % 2) 1) area 0
 
@@ -229,9 +229,9 @@ module _ (c : Caller) (t : Tables) (memory : List ℕ) (k : ℕ) (ok : sound t �
   -- a request with no unlocks and one range within 2^64 is the walk of that range
   lone-is : f .unlocks ≡ 0 → f .locks ≡ 1 → servedType (f .kind) ≡ true → length area ≡ 1 * rangeSize (eqb (f .kind / 16 % 2) 1) → rangePasses (loneRange f area) ≡ false
       → doLocking c t memory f area
-      ≡ lockingAfter t memory (settle (t .locks) (t .nlocks) (afterGrants (afterWalk (found (answers (fileOf (opensOf t)) (askFor (f .fid) (Grant (sharedIn f)) (loneRange f area))) (locksOf t)) (locksOf t)
-      (granted (locksOf t ++ (lockOf (f .fid) (sharedIn f) (loneRange f area) ∷ []))))))
-  unfolding doLocking requestOf locking request releaseAll afterReleases grantAll rangesAt any
+      ≡ lockingAfter t memory (settle (t .locks) (t .nlocks) (afterGrants (afterWalk (found (answers (fileOf (opensOf t)) (askFor (f .fid) (Grant (sharedIn f)) (ofHeader (c .process / 65536) (loneRange f area)))) (locksOf t)) (locksOf t)
+      (granted (locksOf t ++ (lockOf (f .fid) (sharedIn f) (ofHeader (c .process / 65536) (loneRange f area)) ∷ []))))))
+  unfolding doLocking requestOf locking rangesOf request releaseAll afterReleases grantAll rangesAt any rangePasses ofHeader
   lone-is u l s n low =
       let e : eqb (length area) (1 * rangeSize (eqb (f .kind / 16 % 2) 1)) ≡ true = eq-eqb (length area) (1 * rangeSize (eqb (f .kind / 16 % 2) 1)) n in
       rw (with-open c t (f .fid) k may, s, u, l, e, low)
@@ -241,10 +241,10 @@ module _ (c : Caller) (t : Tables) (memory : List ℕ) (k : ℕ) (ok : sound t �
   pub lock-conflict : f .unlocks ≡ 0 → f .locks ≡ 1 → servedType (f .kind) ≡ true → length area ≡ 1 * rangeSize (eqb (f .kind / 16 % 2) 1) → rangePasses (loneRange f area) ≡ false
       → Conflicts (doLocking c t memory f area)
       ↔ BarsLock t (asked c t (f .fid) k may) (locksOf t) (sharedIn f) (loneRange f area)
-  unfolding askFor answers answersFor bars
+  unfolding askFor ofHeader answers answersFor bars
   lock-conflict u l s n low =
       rw (lone-is u l s n low) (
         λ h. let e = lone-exact t memory _ _ _ .0 h in
-            hit-way c t (f .fid) k may ok (askFor (f .fid) (Grant (sharedIn f)) (loneRange f area)) refl _ (grant-bars (sharedIn f)) (λ m. refl) (e .0) (e .1) noLock,
-        λ w. lone-exact t memory _ _ _ .1 (way-hit c t (f .fid) k may ok (askFor (f .fid) (Grant (sharedIn f)) (loneRange f area)) refl _ (grant-bars (sharedIn f)) (λ m. refl) w),
+            hit-way c t (f .fid) k may ok (askFor (f .fid) (Grant (sharedIn f)) (ofHeader (c .process / 65536) (loneRange f area))) refl _ (grant-bars (sharedIn f)) (λ m. refl) (e .0) (e .1) noLock,
+        λ w. lone-exact t memory _ _ _ .1 (way-hit c t (f .fid) k may ok (askFor (f .fid) (Grant (sharedIn f)) (ofHeader (c .process / 65536) (loneRange f area))) refl _ (grant-bars (sharedIn f)) (λ m. refl) w),
       )

@@ -14,8 +14,8 @@ use borrow.Author.Tests.{eq-eqb, ne-eqb}
 use Rattle.records.specs.declared.Tables.{Tables}
 use Rattle.records.specs.Empty.{noOpen}
 use Rattle.records.specs.Held.{opensOf}
-use Rattle.locks.specs.Wire.{rangeSize, rangesAt}
-use Rattle.locks.specs.Request.{Result, settle, locking}
+use Rattle.locks.specs.Wire.{rangeSize}
+use Rattle.locks.specs.Request.{rangesOf, Result, settle, locking}
 use Rattle.locks.specs.declared.types.Request.{Request}
 use Rattle.locks.specs.declared.types.Holder.{Holder}
 use Rattle.soundness.specs.File.{fileOf}
@@ -98,7 +98,7 @@ unfolding locking settle lockingAfter lockingEnd
 locking-other t memory file q area e =
     rw (eq-eqb (length area) ((q .unlocks + q .locks) * rangeSize (q .large)) e)
     (request-case (λ (r : Result). Other (lockingAfter t memory (settle (t .locks) (t .nlocks) r))) other-lock other-past other-conflict other-record file
-    (q .fid) (q .shared) (rangesAt (q .large) area (q .unlocks) (q .locks)) (rangesAt (q .large) area 0 (q .unlocks)) (take (t .nlocks) (t .locks))
+    (q .fid) (q .shared) (rangesOf q area (q .unlocks) (q .locks)) (rangesOf q area 0 (q .unlocks)) (take (t .nlocks) (t .locks))
     (λ left list _ _ _ _. no-refusal))
 
 module _ (c : Caller) (t : Tables) (memory : List ℕ) where
@@ -107,7 +107,7 @@ module _ (c : Caller) (t : Tables) (memory : List ℕ) where
   unfolding doLocking requestOf
   do-locking-other f area e =
       open-case Other c t (f .fid) _ other-session other-tree other-open
-      (λ k _. cond-case Other (servedType (f .kind)) _ (refused LockType) (λ _. locking-other t memory (fileOf (opensOf t)) (requestOf f) area e) (λ _. other-type))
+      (λ k _. cond-case Other (servedType (f .kind)) _ (refused LockType) (λ _. locking-other t memory (fileOf (opensOf t)) (requestOf c f) area e) (λ _. other-type))
 
   do-read-other : (f : ReadFields) → Other (doRead c t memory f)
   unfolding doRead

@@ -13,8 +13,8 @@ use Rattle.lists.specs.PutLaws.{length-put}
 use Rattle.records.specs.declared.Tables.{Tables}
 use Rattle.records.specs.Empty.{noOpen}
 use Rattle.records.specs.Held.{opensOf, locksOf}
-use Rattle.locks.specs.Wire.{rangeSize, rangesAt}
-use Rattle.locks.specs.Request.{Result, refused as refusedBy, settle, request, locking}
+use Rattle.locks.specs.Wire.{rangeSize}
+use Rattle.locks.specs.Request.{rangesOf, Result, refused as refusedBy, settle, request, locking}
 use Rattle.locks.specs.declared.types.Request.{Request}
 use Rattle.locks.specs.declared.types.Outcome.the-variants.{Malformed}
 use Rattle.soundness.specs.File.{fileOf}
@@ -78,10 +78,10 @@ module _ (c : Caller) (t : Tables) (memory : List ℕ) (full : length memory ≡
   unfolding locking settle lockingAfter lockingEnd
   request-leaves q area =
       cond-case (λ (r : Result). Leaves (lockingAfter t memory (settle (t .locks) (t .nlocks) r))) (eqb (length area) ((q .unlocks + q .locks) * rangeSize (q .large)))
-      (request (fileOf (opensOf t)) (q .fid) (q .shared) (rangesAt (q .large) area 0 (q .unlocks)) (rangesAt (q .large) area (q .unlocks) (q .locks)) (locksOf t))
+      (request (fileOf (opensOf t)) (q .fid) (q .shared) (rangesOf q area 0 (q .unlocks)) (rangesOf q area (q .unlocks) (q .locks)) (locksOf t))
       (refusedBy Malformed)
       (λ _. request-case (λ (r : Result). Leaves (lockingAfter t memory (settle (t .locks) (t .nlocks) r))) leaves-refused leaves-refused (λ h. leaves-refused) leaves-refused
-      (fileOf (opensOf t)) (q .fid) (q .shared) (rangesAt (q .large) area (q .unlocks) (q .locks)) (rangesAt (q .large) area 0 (q .unlocks)) (locksOf t)
+      (fileOf (opensOf t)) (q .fid) (q .shared) (rangesOf q area (q .unlocks) (q .locks)) (rangesOf q area 0 (q .unlocks)) (locksOf t)
       (λ left list _ _ _ _. leaves-done full))
       (λ _. leaves-refused)
 
@@ -89,7 +89,7 @@ module _ (c : Caller) (t : Tables) (memory : List ℕ) (full : length memory ≡
   unfolding doLocking
   locking-leaves f area =
       open-case Leaves c t (f .fid) _ leaves-refused leaves-refused leaves-refused
-      (λ k e. cond-case Leaves (servedType (f .kind)) _ (refused LockType) (λ _. request-leaves (requestOf f) area) (λ _. leaves-refused))
+      (λ k e. cond-case Leaves (servedType (f .kind)) _ (refused LockType) (λ _. request-leaves (requestOf c f) area) (λ _. leaves-refused))
 
   read-leaves : (f : ReadFields) → Leaves (doRead c t memory f)
   unfolding doRead

@@ -14,8 +14,8 @@ use Rattle.lists.specs.Truth.{fails, either-holds}
 use Rattle.records.specs.declared.Tables.{Tables}
 use Rattle.records.specs.Empty.{noOpen}
 use Rattle.records.specs.Held.{opensOf, locksOf}
-use Rattle.locks.specs.Wire.{rangeSize, rangesAt}
-use Rattle.locks.specs.Request.{Result, refused as refusedBy, settle, request, locking}
+use Rattle.locks.specs.Wire.{rangeSize}
+use Rattle.locks.specs.Request.{rangesOf, Result, refused as refusedBy, settle, request, locking}
 use Rattle.locks.specs.declared.types.Request.{Request}
 use Rattle.locks.specs.declared.types.Outcome.the-variants.{Malformed}
 use Rattle.soundness.specs.File.{fileOf}
@@ -103,10 +103,10 @@ module _ (c : Caller) (t : Tables) (memory : List ℕ) where
   unfolding locking settle lockingAfter lockingEnd codeOf statusOf status
   request-begun q area =
       cond-case (λ (r : Result). Begun (lockingAfter t memory (settle (t .locks) (t .nlocks) r))) (eqb (length area) ((q .unlocks + q .locks) * rangeSize (q .large)))
-      (request (fileOf (opensOf t)) (q .fid) (q .shared) (rangesAt (q .large) area 0 (q .unlocks)) (rangesAt (q .large) area (q .unlocks) (q .locks)) (locksOf t))
+      (request (fileOf (opensOf t)) (q .fid) (q .shared) (rangesOf q area 0 (q .unlocks)) (rangesOf q area (q .unlocks) (q .locks)) (locksOf t))
       (refusedBy Malformed)
       (λ _. request-case (λ (r : Result). Begun (lockingAfter t memory (settle (t .locks) (t .nlocks) r))) (λ e. omega arith) (λ e. omega arith) (λ h e. omega arith) (λ e. omega arith)
-      (fileOf (opensOf t)) (q .fid) (q .shared) (rangesAt (q .large) area (q .unlocks) (q .locks)) (rangesAt (q .large) area 0 (q .unlocks)) (locksOf t)
+      (fileOf (opensOf t)) (q .fid) (q .shared) (rangesOf q area (q .unlocks) (q .locks)) (rangesOf q area 0 (q .unlocks)) (locksOf t)
       (λ left list _ _ _ _ e. omega arith))
       (λ _ e. omega arith)
 
@@ -114,7 +114,7 @@ module _ (c : Caller) (t : Tables) (memory : List ℕ) where
   unfolding doLocking codeOf statusOf status
   locking-begun f area =
       open-case Begun c t (f .fid) _ (λ e. omega arith) (λ e. omega arith) (λ e. omega arith)
-      (λ k _. cond-case Begun (servedType (f .kind)) _ (refused LockType) (λ _. request-begun (requestOf f) area) (λ _ e. omega arith))
+      (λ k _. cond-case Begun (servedType (f .kind)) _ (refused LockType) (λ _. request-begun (requestOf c f) area) (λ _ e. omega arith))
 
   read-begun : (f : ReadFields) → Begun (doRead c t memory f)
   unfolding doRead codeOf statusOf status

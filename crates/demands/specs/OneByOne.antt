@@ -181,8 +181,8 @@ served-true (andxServed logoff-andx) = refl
 alone-caller : (connection : ℕ) (s : List ℕ) (b : Block) → 32 ≤ length s → callerOf connection (alone s b) ≡ callerOf connection s
 unfolding callerOf le16At
 alone-caller connection s b long =
-    let n : (k : ℕ) → 24 ≤ k → k < 32 → byteAt (alone s b) k ≡ byteAt s k = λ k l h. alone-header s b long k h (λ e. omega arith) in
-    rw (n 28 (omega arith) (omega arith), n 29 (omega arith) (omega arith), n 24 (omega arith) (omega arith), n 25 (omega arith) (omega arith), n 26 (omega arith) (omega arith), n 27 (omega arith) (omega arith))
+    let n : (k : ℕ) → 12 ≤ k → k < 32 → byteAt (alone s b) k ≡ byteAt s k = λ k l h. alone-header s b long k h (λ e. omega arith) in
+    rw (n 28 (omega arith) (omega arith), n 29 (omega arith) (omega arith), n 24 (omega arith) (omega arith), n 25 (omega arith) (omega arith), n 12 (omega arith) (omega arith), n 13 (omega arith) (omega arith), n 26 (omega arith) (omega arith), n 27 (omega arith) (omega arith))
 
 -- nothing follows
 only-ends : (c : Caller) (s : List ℕ) (p : ℕ) (u : Tables) (m : List ℕ) → run c s [] p u m ≡ record { status = status 0 0; holder = Nobody; tables = u; memory = m; blocks = [] }

@@ -11,7 +11,7 @@ use Rattle.records.specs.declared.Tables.{Tables}
 use Rattle.records.specs.declared.Lock.{Lock}
 use Rattle.records.specs.Held.{opensOf}
 use Rattle.locks.specs.Wire.{rangeSize, rangesAt}
-use Rattle.locks.specs.Request.{locking}
+use Rattle.locks.specs.Request.{rangesOf, locking}
 use Rattle.locks.specs.declared.types.Request.{Request}
 use Rattle.soundness.specs.File.{fileOf}
 use Rattle.chain.specs.Layout.{LOCKING, fidAfterAndx, lockType, unlockCount, lockCount, dataLength, dataOffset}
@@ -35,7 +35,7 @@ locking-same : (file : ℕ → ℕ) (locks : List Lock) (count : ℕ) (q : Reque
     → rangesAt (q .large) b 0 (q .unlocks) ≡ rangesAt (q .large) a 0 (q .unlocks)
     → rangesAt (q .large) b (q .unlocks) (q .locks) ≡ rangesAt (q .large) a (q .unlocks) (q .locks)
     → locking file locks count q b ≡ locking file locks count q a
-unfolding locking
+unfolding locking rangesOf
 locking-same file locks count q a b n r l = rw (n, r, l)
 
 module _ (c : Caller) (u : Tables) (memory : List ℕ) where
@@ -58,7 +58,7 @@ module _ (c : Caller) (u : Tables) (memory : List ℕ) where
       let all : (k n : ℕ) → k + n ≤ unlockCount s at + lockCount s at
       → rangesAt (isLarge (lockType s at)) (areaAt t to) k n ≡ rangesAt (isLarge (lockType s at)) (areaAt s at) k n =
       moved-range-list m h refl (isLarge (lockType s at)) refl r in
-      rw (locking-same (fileOf (opensOf u)) (u .locks) (u .nlocks) (requestOf (lockingFields s at)) (areaAt s at) (areaAt t to) (moved-area-length m h)
+      rw (locking-same (fileOf (opensOf u)) (u .locks) (u .nlocks) (requestOf c (lockingFields s at)) (areaAt s at) (areaAt t to) (moved-area-length m h)
       (all 0 (unlockCount s at) (omega arith)) (all (unlockCount s at) (lockCount s at) (omega arith)))
 
   -- the bytes of a block that moved do the same

@@ -1,13 +1,14 @@
 -- The fields of a message's first block, which stands at 32, where the layout has them, and the step from a reading to the reader's block with these
 -- fields. Assumes nothing.
 use mathlib.Core.Path.{_≡_, refl, ap, _∙_}
-use Prim.Native.Nat.{ℕ, _+_, _*_}
+use Prim.Native.Nat.{ℕ, _+_, _*_, _/_}
 use native.Mathlib.Omega.{arith}
 use mathlib.Core.Bool.{cond}
 use mathlib.Core.List.{List, [], _∷_, map}
 use mathlib.Core.Option.{some}
 use lib.ListN.{take, drop}
 use lib.Dec.{eqb}
+use Rattle.wire.specs.LittleEndian.{le16At}
 use Rattle.chain.specs.Layout.{headerCommand, FIRST, wordCount, byteArea, byteCount, fidAfterAndx, offsetLow, readMax, readOffsetHigh, dataLength, dataOffset, writeOffsetHigh}
 use Rattle.chain.specs.Grammar.{Span, Reading}
 use Rattle.chain.specs.Chain.{blocks}
@@ -20,6 +21,14 @@ use Rattle.invariants.specs.Chained.{read-chained}
 use Rattle.readings.specs.ReaderComplete.{reader-complete}
 use Rattle.message.specs.Message.{areaOf, dataOf}
 use Rattle.demands.specs.LoneCall.{first-block, lockingArea}
+
+-- document 02, CR 4: "a request's process is PIDHigh × 65,536 + PIDLow", which stand at 12 and 26
+abbrev pub senderProcess : List ℕ → ℕ
+senderProcess s = 65536 * le16At s 12 + le16At s 26
+
+-- its upper half: where the message is of bytes, PIDHigh (Processes.antt: `upper-half`)
+abbrev pub upperHalf : List ℕ → ℕ
+upperHalf s = senderProcess s / 65536
 
 -- READ: "FID 2, offset 4, max 2, .., offset high 4 if 12 words"
 abbrev pub readFrom : List ℕ → ℕ

@@ -20,6 +20,7 @@ use Rattle.demands.specs.LoneLock.{OfFile, loneRange, sharedIn}
 use Rattle.demands.specs.LoneCall.{lockingFields, lockingArea, lone-lock-reading}
 use Rattle.demands.specs.ReplyHeader.{HeaderOf, reply-header as header-given}
 use Rattle.demands.specs.FirstReadings.{BarsReadOn, BarsWriteOn, first-read-reading, first-write-reading}
+use Rattle.demands.specs.WireFields.{senderProcess}
 use Rattle.demands.specs.Effects.{ReadDone, WriteDone, read-reading, write-reading, close-reading, disconnect-reading, logoff-reading, exit-reading}
 use Rattle.demands.specs.LockEffects.{LockingDone, locking-reading}
 use Rattle.claims.specs.RemovalPlain.{Closed, Disconnected, LoggedOff, Exited}
@@ -57,7 +58,7 @@ pub record CarriedOut : Type 0 where
   pub disconnect : (c : Call) → DoneAlone c TREE_DISCONNECT → Disconnected (le16At (c .message) 24) (c .tables) (gives c .tables) × (gives c .memory ≡ c .memory)
   pub logoff : (c : Call) → DoneAlone c LOGOFF → LoggedOff (le16At (c .message) 28) (c .tables) (gives c .tables) × (gives c .memory ≡ c .memory)
   pub exit : (c : Call) → DoneAlone c PROCESS_EXIT
-      → Exited (le16At (c .message) 28) (le16At (c .message) 26) (c .tables) (gives c .tables) × (gives c .memory ≡ c .memory)
+      → Exited (le16At (c .message) 28) (senderProcess (c .message)) (c .tables) (gives c .tables) × (gives c .memory ≡ c .memory)
 
 -- what a host call leaves, and what stands
 pub record HostCallsDone : Type 0 where
