@@ -1,4 +1,4 @@
--- Document 01's places of the fields ("The grammar of a chain"), a second time, as numbers. Each message below has at each place the place itself,
+-- Document 01's places of the fields ("The grammar of a chain"), a second time, as numbers, and the whole processes of ranges (document 02, CR 4). Each message below has at each place the place itself,
 -- in hex, but where the grammar asks another byte. So a field that is read at another place, or from other bytes, is another number.
 -- Assumes nothing.
 use mathlib.Core.Path.{_≡_, refl}
@@ -9,7 +9,9 @@ use lib.ListN.{replicate}
 use Rattle.lists.specs.Walk.{keep}
 use Rattle.wire.specs.LittleEndian.{le16At, le32At}
 use Rattle.locks.specs.Wire.{rangeSize, numberAt, rangeFrom, rangeAt, rangesAt}
+use Rattle.locks.specs.Request.{ofHeader, rangesOf}
 use Rattle.locks.specs.declared.types.LockRange.{LockRange}
+use Rattle.locks.specs.declared.types.Request.{Request}
 use Rattle.chain.specs.Judged.{isWhole}
 use Rattle.chain.specs.Parse.{shaped, bare, isLarge, lockingFits, readFits, dataInside, writeFits, mayFollow, linkFits, linkAt, answer, wideOffset, parseLocking, parseRead, parseWrite, parseClose, parseLogoff, parseEmpty, parse}
 use Rattle.chain.specs.declared.block.Block.{Block}
@@ -19,6 +21,8 @@ use Rattle.chain.specs.declared.block.Next.{Next}
 use Rattle.chain.specs.declared.block.Next.the-variants.{End, Follow}
 use Rattle.chain.specs.declared.block.Parsed.{Parsed}
 use Rattle.chain.specs.declared.block.Parsed.the-variants.{Whole, Malformed}
+use Rattle.message.specs.Caller.{callerOf}
+use Rattle.message.specs.Command.{requestOf}
 use Rattle.message.specs.Message.{areaOf, dataOf}
 use Rattle.literals.specs.Counting.{countFrom}
 
@@ -60,6 +64,19 @@ pub ranges-10 : rangesAt false (areaOf locking10 at32) 0 3
 unfolding at32 locking10 behindHeader areaOf rangesAt rangeAt rangeFrom rangeSize numberAt le16At le32At
 ranges-10 = refl
 
+-- the request with those fields, of the message's sender
+unfoldable pub requestIn : List ℕ → ℕ → ℕ → ℕ → Request
+requestIn s kind unlocks locks = requestOf (callerOf 5 s) (record { fid = 0x2625; kind = kind; unlocks = unlocks; locks = locks })
+
+-- document 02, CR 4: "a 16-bit process in a lock range takes its upper half from the header", where PIDHigh stands at 12; unlocks as locks
+pub whole-10 : rangesOf (requestIn locking10 0x27 2 1) (areaOf locking10 at32) 0 3
+    ≡ record { process = 0x0D0C3433; offset = 0x38373635; length = 0x3C3B3A39 }
+    ∷ record { process = 0x0D0C3E3D; offset = 0x4241403F; length = 0x46454443 }
+    ∷ record { process = 0x0D0C4847; offset = 0x4C4B4A49; length = 0x504F4E4D }
+    ∷ []
+unfolding requestIn requestOf callerOf rangesOf ofHeader at32 locking10 behindHeader areaOf rangesAt rangeAt rangeFrom rangeSize numberAt le16At le32At
+whole-10 = refl
+
 -- the same with type bit 0x10 set, which is 0x37: an unlock and a lock of 20 bytes, a WRITE_ANDX next
 unfoldable pub locking20 : List ℕ
 locking20 =
@@ -79,6 +96,14 @@ pub ranges-20 : rangesAt true (areaOf locking20 at32) 0 2
     ∷ []
 unfolding at32 locking20 behindHeader areaOf rangesAt rangeAt rangeFrom rangeSize numberAt le16At le32At
 ranges-20 = refl
+
+-- the upper half from the header here too: the pad is not looked at
+pub whole-20 : rangesOf (requestIn locking20 0x37 1 1) (areaOf locking20 at32) 0 2
+    ≡ record { process = 0x0D0C3433; offset = 0x3A3938373E3D3C3B; length = 0x4241403F46454443 }
+    ∷ record { process = 0x0D0C4847; offset = 0x4E4D4C4B5251504F; length = 0x565554535A595857 }
+    ∷ []
+unfolding requestIn requestOf callerOf rangesOf ofHeader at32 locking20 behindHeader areaOf rangesAt rangeAt rangeFrom rangeSize numberAt le16At le32At
+whole-20 = refl
 
 -- "READ: FID 2, offset 4, max 2, min 2, timeout 4, remaining 2": 10 words and no byte; a CLOSE next
 unfoldable pub read10 : List ℕ

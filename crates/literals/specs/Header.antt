@@ -15,7 +15,7 @@ use Rattle.chain.specs.declared.block.Next.the-variants.{End}
 use Rattle.message.specs.Caller.{callerOf}
 use Rattle.literals.specs.Counting.{countFrom}
 
--- "32 bytes, little-endian: Protocol 0, Command 4, .. TID 24, PIDLow 26, UID 28, MID 30": each byte behind Protocol is its own place, in hex. Command
+-- "32 bytes, little-endian: Protocol 0, Command 4, .. PIDHigh 12, .. TID 24, PIDLow 26, UID 28, MID 30": each byte behind Protocol is its own place, in hex. Command
 -- is then 0x04, a CLOSE, whose block stands at 32.
 unfoldable pub ownPlaces : List ℕ
 ownPlaces =
@@ -23,8 +23,8 @@ ownPlaces =
     ++ ((0x10 ∷ 0x11 ∷ 0x12 ∷ 0x13 ∷ 0x14 ∷ 0x15 ∷ 0x16 ∷ 0x17 ∷ 0x18 ∷ 0x19 ∷ 0x1A ∷ 0x1B ∷ 0x1C ∷ 0x1D ∷ 0x1E ∷ 0x1F ∷ [])
     ++ (0x03 ∷ 0x21 ∷ 0x22 ∷ 0x23 ∷ 0x24 ∷ 0x25 ∷ 0x26 ∷ 0x00 ∷ 0x00 ∷ []))
 
--- "The process number is PIDLow." The connection is not in the message.
-pub caller-places : callerOf 5 ownPlaces ≡ record { connection = 5; uid = 0x1D1C; tid = 0x1918; process = 0x1B1A }
+-- Document 02, CR 4: "a request's process is PIDHigh × 65,536 + PIDLow". The connection is not in the message.
+pub caller-places : callerOf 5 ownPlaces ≡ record { connection = 5; uid = 0x1D1C; tid = 0x1918; process = 0x0D0C1B1A }
 unfolding callerOf ownPlaces le16At
 caller-places = refl
 

@@ -8,3 +8,4 @@ pub mod Words
 pub mod Inside
 pub mod Replies
 pub mod Stream
+pub mod TwoProcesses

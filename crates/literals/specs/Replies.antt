@@ -15,7 +15,7 @@ use Rattle.records.specs.Held.{withSessions, withTrees, withOpens, withLocks, w
 use Rattle.locks.specs.Range.{overlaps, passesEnd}
 use Rattle.locks.specs.Wire.{rangeSize, numberAt, rangeFrom, rangeAt, rangesAt}
 use Rattle.locks.specs.Answer.{owns, bars, inWay, named, answersFor, answers}
-use Rattle.locks.specs.Request.{holderAt, askOf, lockOf, removeAt, afterFind, releaseAll, afterWalk, grantAll, afterGrants, rangePasses, afterReleases, request, settle, locking}
+use Rattle.locks.specs.Request.{ofHeader, rangesOf, holderAt, askOf, lockOf, removeAt, afterFind, releaseAll, afterWalk, grantAll, afterGrants, rangePasses, afterReleases, request, settle, locking}
 use Rattle.numbers.specs.Number.{contains, numberOk, numbered}
 use Rattle.soundness.specs.File.{fileOf}
 use Rattle.soundness.specs.Lookup.{isTree}
@@ -49,7 +49,7 @@ unfoldable pub lockBlock : ℕ → ℕ → ℕ → ℕ → ℕ → List ℕ → 
 lockBlock next kind unlocks locks count ranges =
     (8 ∷ next ∷ 0 ∷ 61 ∷ 0 ∷ 4 ∷ 0 ∷ kind ∷ 0 ∷ 0 ∷ 0 ∷ 0 ∷ 0 ∷ unlocks ∷ 0 ∷ locks ∷ 0 ∷ count ∷ 0 ∷ []) ++ ranges
 
--- the range of 10 bytes from 100 on, of process 0x1B1A
+-- the range of 10 bytes from 100 on, with 0x1B1A in its process
 unfoldable pub range100 : List ℕ
 range100 = 0x1A ∷ 0x1B ∷ 100 ∷ 0 ∷ 0 ∷ 0 ∷ 10 ∷ 0 ∷ 0 ∷ 0 ∷ []
 
@@ -228,7 +228,7 @@ refusal command class low high = reply 35 command class low high 0x88 0x01 (0x00
 
 -- the fewRecords tables, but with an open of that access and with those locks
 unfoldable pub opened : ℕ → List Lock → Tables
-opened access locks = tablesWith (session 3 5 ∷ []) (tree 2 3 1 ∷ []) (open-of 4 3 2 0x1B1A 1 access ∷ []) locks
+opened access locks = tablesWith (session 3 5 ∷ []) (tree 2 3 1 ∷ []) (open-of 4 3 2 0x0D0C1B1A 1 access ∷ []) locks
 
 -- a lock of FID 4 and that process
 unfoldable pub lock : ℕ → ℕ → ℕ → Lock
@@ -355,7 +355,7 @@ table =
 
 -- what the definitions give is what the document says, in every row
 pub replies : map (λ r. given (r .tables) (r .request)) table ≡ map (λ r. r .said) table
-unfolding table lockingReply readReply writeReply closeReply logoffReply disconnectReply exitReply noFlags otherFlags justFlags lockReadReply writeCloseReply lockRefusedReply unserved malformed noSession noTree noOpen noRead noWrite lockType noSuchLock passesTop noRecord lastRecord noSpace lastBytes holderOf message fewRecords tablesWith session tree open-of sizes memory given taken take-message dropped startsSmb isReply answered served replied replyOf replyHeader put runChain onlyStatus blocks blocksFrom blocksWithin afterParse afterBlock before parse answer linkFits linkAt mayFollow shaped bare le16At le32At callerOf run afterGiven after linkTo perform areaOf dataOf status statusOf replyBlock refusedBlock replySize linkWords two withSession isSession withTree withOpen isOpen openAt found foundFrom sound withinRoom fileOk treeOk permits holdsOpen openOk soundRecords lockOk agree agreeAll soundLocks fileOf isTree contains numberOk numbered any all allTails overlaps passesEnd reply success closeBlock lock100 lockBlock range100 parseLocking lockingFits isLarge rangeSize doLocking servedType requestOf locking request releaseAll afterFind removeAt named afterReleases grantAll afterWalk afterGrants settle rangesAt rangeAt rangeFrom numberAt rangePasses askOf lockOf answers answersFor inWay bars owns lockingAfter lockingEnd withLockList stored readBlock parseRead readFits wideOffset doRead unlessBarred barring askBy readBytes contents sizeOf writeBlock parseWrite writeFits dataInside doWrite endsPast resized written withFiles parseClose parseLogoff parseEmpty remove sweepSessions sweepTrees sweepOpens sweepLocks sessionNamed treeNamed openNamed sessionStays treeStays openStays lockStays keep withSessions withTrees withOpens withLocks refusal opened lock
+unfolding table lockingReply readReply writeReply closeReply logoffReply disconnectReply exitReply noFlags otherFlags justFlags lockReadReply writeCloseReply lockRefusedReply unserved malformed noSession noTree noOpen noRead noWrite lockType noSuchLock passesTop noRecord lastRecord noSpace lastBytes holderOf message fewRecords tablesWith session tree open-of sizes memory given taken take-message dropped startsSmb isReply answered served replied replyOf replyHeader put runChain onlyStatus blocks blocksFrom blocksWithin afterParse afterBlock before parse answer linkFits linkAt mayFollow shaped bare le16At le32At callerOf run afterGiven after linkTo perform areaOf dataOf status statusOf replyBlock refusedBlock replySize linkWords two withSession isSession withTree withOpen isOpen openAt found foundFrom sound withinRoom fileOk treeOk permits holdsOpen openOk soundRecords lockOk agree agreeAll soundLocks fileOf isTree contains numberOk numbered any all allTails overlaps passesEnd reply success closeBlock lock100 lockBlock range100 parseLocking lockingFits isLarge rangeSize doLocking servedType requestOf locking request releaseAll afterFind removeAt named afterReleases grantAll afterWalk afterGrants settle rangesOf ofHeader rangesAt rangeAt rangeFrom numberAt rangePasses askOf lockOf answers answersFor inWay bars owns lockingAfter lockingEnd withLockList stored readBlock parseRead readFits wideOffset doRead unlessBarred barring askBy readBytes contents sizeOf writeBlock parseWrite writeFits dataInside doWrite endsPast resized written withFiles parseClose parseLogoff parseEmpty remove sweepSessions sweepTrees sweepOpens sweepLocks sessionNamed treeNamed openNamed sessionStays treeStays openStays lockStays keep withSessions withTrees withOpens withLocks refusal opened lock
 replies = refl
 
 -- ---- "1/33 lock conflict", and the holder
@@ -379,12 +379,12 @@ conflict =
 -- 9's on 4 to 10, FID 4's own one on 109 to 120.
 unfoldable pub contested : Tables
 contested =
-    tablesWith (session 3 5 ∷ []) (tree 2 3 1 ∷ []) (open-of 4 3 2 0x1B1A 1 2 ∷ open-of 6 3 2 0x1B1A 2 2 ∷ open-of 9 3 2 8 1 2 ∷ [])
+    tablesWith (session 3 5 ∷ []) (tree 2 3 1 ∷ []) (open-of 4 3 2 0x0D0C1B1A 1 2 ∷ open-of 6 3 2 0x0D0C1B1A 2 2 ∷ open-of 9 3 2 8 1 2 ∷ [])
     (record { fid = 6; process = 7; offset = 0; length = 200; shared = false }
     ∷ record { fid = 9; process = 8; offset = 0; length = 3; shared = true }
-    ∷ lock 0x1B1A 3 1
+    ∷ lock 0x0D0C1B1A 3 1
     ∷ record { fid = 9; process = 8; offset = 4; length = 6; shared = false }
-    ∷ lock 0x1B1A 109 11
+    ∷ lock 0x0D0C1B1A 109 11
     ∷ [])
 
 -- a read of 2 to 5 passes a shared lock and one of its own
@@ -410,17 +410,17 @@ writeHeld =
 unfoldable pub writeOwnShared : Row
 writeOwnShared =
     record {
-      tables = opened 2 (record { fid = 4; process = 0x1B1A; offset = 2; length = 1; shared = true } ∷ []);
+      tables = opened 2 (record { fid = 4; process = 0x0D0C1B1A; offset = 2; length = 1; shared = true } ∷ []);
       request = message 0x2F 0x7F 0xFF (writeBlock 0xFF 2 0);
-      said = heldAt 4 0x1B1A 0 2 1 true (refusal 0x2F 1 0x21 0x00);
+      said = heldAt 4 0x0D0C1B1A 0 2 1 true (refusal 0x2F 1 0x21 0x00);
     }
 
 -- a lock of 100 to 110 meets one of "the asker's own locks"
 unfoldable pub lockHeld : Row
 lockHeld =
-    record { tables = contested; request = message 0x24 0x7F 0xFF (lock100 0xFF); said = heldAt 4 0x1B1A 4 109 11 false (refusal 0x24 1 0x21 0x00) }
+    record { tables = contested; request = message 0x24 0x7F 0xFF (lock100 0xFF); said = heldAt 4 0x0D0C1B1A 4 109 11 false (refusal 0x24 1 0x21 0x00) }
 
--- the range of that process, 10 bytes from there on
+-- the range with that number in its process, 10 bytes from there on
 unfoldable pub rangeOf : ℕ → ℕ → List ℕ
 rangeOf process offset = process ∷ 0 ∷ offset ∷ 0 ∷ 0 ∷ 0 ∷ 10 ∷ 0 ∷ 0 ∷ 0 ∷ []
 
@@ -433,13 +433,13 @@ firstRangeHeld =
       said = heldAt 4 0x1B1A 4 109 11 false (refusal 0x24 1 0x21 0x00);
     }
 
--- "A lock granted earlier in the same request may be the answer, though it is undone": 200 to 210 of process 0x51, then 205 to 215 of process 0x61; five are listed
+-- "A lock granted earlier in the same request may be the answer, though it is undone": 200 to 210 of process 0x0D0C0051, then 205 to 215 of process 0x0D0C0061; five are listed
 unfoldable pub ownRangeHeld : Row
 ownRangeHeld =
     record {
       tables = contested;
       request = message 0x24 0x7F 0xFF (lockBlock 0xFF 0 0 2 20 (rangeOf 0x51 200 ++ rangeOf 0x61 205));
-      said = heldAt 4 0x51 5 200 10 false (refusal 0x24 1 0x21 0x00);
+      said = heldAt 4 0x0D0C0051 5 200 10 false (refusal 0x24 1 0x21 0x00);
     }
 
 -- "the list as it then stands": the request unlocks 3 to 4, the third in the list, and the lock of 109 to 120 is then the fourth
@@ -448,17 +448,17 @@ unlockHeld =
     record {
       tables = contested;
       request = message 0x24 0x7F 0xFF (lockBlock 0xFF 0 1 1 20 ((0x1A ∷ 0x1B ∷ 3 ∷ 0 ∷ 0 ∷ 0 ∷ 1 ∷ 0 ∷ 0 ∷ 0 ∷ []) ++ range100));
-      said = heldAt 4 0x1B1A 3 109 11 false (refusal 0x24 1 0x21 0x00);
+      said = heldAt 4 0x0D0C1B1A 3 109 11 false (refusal 0x24 1 0x21 0x00);
     }
 
--- in a chain: LOCKING is done, and its lock, of process 0x51 on 2 to 12, is in the way of the READ_ANDX
+-- in a chain: LOCKING is done, and its lock, of process 0x0D0C0051 on 2 to 12, is in the way of the READ_ANDX
 unfoldable pub chainHeld : Row
 chainHeld =
     record {
       tables = fewRecords;
       request = message 0x24 0x7F 0xFF (lockBlock 0x2E 0 0 1 10 (rangeOf 0x51 2) ++ readBlock 4);
       said =
-          heldAt 4 0x51 0 2 10 false
+          heldAt 4 0x0D0C0051 0 2 10 false
           (reply 42 0x24 1 0x21 0 0x88 0x01 ((0x02 ∷ 0x2E ∷ 0x00 ∷ 0x27 ∷ 0x00 ∷ 0x00 ∷ 0x00 ∷ []) ++ (0x00 ∷ 0x00 ∷ 0x00 ∷ [])));
     }
 
@@ -467,7 +467,7 @@ unfoldable pub conflicts : List Row
 conflicts = conflict ∷ readHeld ∷ firstOfTwo ∷ writeHeld ∷ writeOwnShared ∷ lockHeld ∷ firstRangeHeld ∷ ownRangeHeld ∷ unlockHeld ∷ chainHeld ∷ []
 
 pub held : map (λ r. given (r .tables) (r .request)) conflicts ≡ map (λ r. r .said) conflicts
-unfolding conflicts conflict readHeld firstOfTwo writeHeld writeOwnShared lockHeld firstRangeHeld ownRangeHeld unlockHeld chainHeld heldAt contested rangeOf holderAt holderOf opened lock refusal reply message fewRecords tablesWith session tree open-of sizes memory given taken take-message dropped startsSmb isReply answered served replied replyOf replyHeader put runChain onlyStatus blocks blocksFrom blocksWithin afterParse afterBlock before parse answer linkFits linkAt mayFollow shaped bare le16At le32At callerOf run afterGiven after linkTo perform areaOf dataOf status statusOf replyBlock refusedBlock replySize linkWords two withSession isSession withTree withOpen isOpen openAt found foundFrom sound withinRoom fileOk treeOk permits holdsOpen openOk soundRecords lockOk agree agreeAll soundLocks fileOf isTree contains numberOk numbered any all allTails overlaps passesEnd lock100 lockBlock range100 parseLocking lockingFits isLarge rangeSize doLocking servedType requestOf locking request releaseAll afterFind removeAt named afterReleases grantAll afterWalk afterGrants settle rangesAt rangeAt rangeFrom numberAt rangePasses askOf lockOf answers answersFor inWay bars owns lockingAfter lockingEnd withLockList stored readBlock parseRead readFits wideOffset doRead unlessBarred barring askBy readBytes contents sizeOf writeBlock parseWrite writeFits dataInside doWrite endsPast resized written withFiles
+unfolding conflicts conflict readHeld firstOfTwo writeHeld writeOwnShared lockHeld firstRangeHeld ownRangeHeld unlockHeld chainHeld heldAt contested rangeOf holderAt holderOf opened lock refusal reply message fewRecords tablesWith session tree open-of sizes memory given taken take-message dropped startsSmb isReply answered served replied replyOf replyHeader put runChain onlyStatus blocks blocksFrom blocksWithin afterParse afterBlock before parse answer linkFits linkAt mayFollow shaped bare le16At le32At callerOf run afterGiven after linkTo perform areaOf dataOf status statusOf replyBlock refusedBlock replySize linkWords two withSession isSession withTree withOpen isOpen openAt found foundFrom sound withinRoom fileOk treeOk permits holdsOpen openOk soundRecords lockOk agree agreeAll soundLocks fileOf isTree contains numberOk numbered any all allTails overlaps passesEnd lock100 lockBlock range100 parseLocking lockingFits isLarge rangeSize doLocking servedType requestOf locking request releaseAll afterFind removeAt named afterReleases grantAll afterWalk afterGrants settle rangesOf ofHeader rangesAt rangeAt rangeFrom numberAt rangePasses askOf lockOf answers answersFor inWay bars owns lockingAfter lockingEnd withLockList stored readBlock parseRead readFits wideOffset doRead unlessBarred barring askBy readBytes contents sizeOf writeBlock parseWrite writeFits dataInside doWrite endsPast resized written withFiles
 held = refl
 
 -- ---- what else the call leaves
@@ -484,15 +484,15 @@ sharedLocks =
 unfoldable pub unlockAndLock : List ℕ
 unlockAndLock = message 0x24 0x7F 0xFF (lockBlock 0xFF 0 1 1 20 (range100 ++ (0x1A ∷ 0x1B ∷ 105 ∷ 0 ∷ 0 ∷ 0 ∷ 1 ∷ 0 ∷ 0 ∷ 0 ∷ [])))
 
--- "Type bit 0x01 means shared"; "Locks: process from the range". "Unlocks go first", and stand first in the area. "After 0, bytes of the reply room past
+-- "Type bit 0x01 means shared"; "Locks: process from the range", its upper half from the header. "Unlocks go first", and stand first in the area. "After 0, bytes of the reply room past
 -- the reply's length are as they were." "Files: 16, numbered from 0, 4,096 bytes each": the bytes written are file 1's third and fourth.
 pub left : (taken fewRecords sharedLocks .tables .locks
-    ≡ record { fid = 4; process = 0x5251; offset = 0x0000000100000002; length = 0x0000000300000004; shared = true }
-    ∷ record { fid = 4; process = 0x6261; offset = 5; length = 6; shared = true }
+    ≡ record { fid = 4; process = 0x0D0C5251; offset = 0x0000000100000002; length = 0x0000000300000004; shared = true }
+    ∷ record { fid = 4; process = 0x0D0C6261; offset = 5; length = 6; shared = true }
     ∷ [])
-    × (taken (opened 2 (lock 0x1B1A 100 10 ∷ [])) unlockAndLock .tables .locks ≡ lock 0x1B1A 105 1 ∷ [])
+    × (taken (opened 2 (lock 0x0D0C1B1A 100 10 ∷ [])) unlockAndLock .tables .locks ≡ lock 0x0D0C1B1A 105 1 ∷ [])
     × (drop 39 (taken fewRecords (message 0x24 0x7F 0xFF (lock100 0xFF)) .room) ≡ replicate 12253 0xEE)
     × (taken fewRecords (message 0x2F 0x7F 0xFF (writeBlock 0xFF 2 0)) .memory
     ≡ replicate 4096 0 ++ (0xA0 ∷ 0xA1 ∷ 0xBB ∷ 0xCC ∷ 0xA4 ∷ 0xA5 ∷ replicate 61434 0))
-unfolding sharedLocks unlockAndLock opened lock message fewRecords tablesWith session tree open-of sizes memory given taken take-message dropped startsSmb isReply answered served replied replyOf replyHeader put runChain onlyStatus blocks blocksFrom blocksWithin afterParse afterBlock before parse answer linkFits linkAt mayFollow shaped bare le16At le32At callerOf run afterGiven after linkTo perform areaOf dataOf status statusOf replyBlock refusedBlock replySize linkWords two withSession isSession withTree withOpen isOpen openAt found foundFrom sound withinRoom fileOk treeOk permits holdsOpen openOk soundRecords lockOk agree agreeAll soundLocks fileOf isTree contains numberOk numbered any all allTails overlaps passesEnd lock100 lockBlock range100 parseLocking lockingFits isLarge rangeSize doLocking servedType requestOf locking request releaseAll afterFind removeAt named afterReleases grantAll afterWalk afterGrants settle rangesAt rangeAt rangeFrom numberAt rangePasses askOf lockOf answers answersFor inWay bars owns lockingAfter lockingEnd withLockList stored writeBlock parseWrite writeFits dataInside wideOffset doWrite unlessBarred barring askBy endsPast resized written sizeOf withFiles
+unfolding sharedLocks unlockAndLock opened lock message fewRecords tablesWith session tree open-of sizes memory given taken take-message dropped startsSmb isReply answered served replied replyOf replyHeader put runChain onlyStatus blocks blocksFrom blocksWithin afterParse afterBlock before parse answer linkFits linkAt mayFollow shaped bare le16At le32At callerOf run afterGiven after linkTo perform areaOf dataOf status statusOf replyBlock refusedBlock replySize linkWords two withSession isSession withTree withOpen isOpen openAt found foundFrom sound withinRoom fileOk treeOk permits holdsOpen openOk soundRecords lockOk agree agreeAll soundLocks fileOf isTree contains numberOk numbered any all allTails overlaps passesEnd lock100 lockBlock range100 parseLocking lockingFits isLarge rangeSize doLocking servedType requestOf locking request releaseAll afterFind removeAt named afterReleases grantAll afterWalk afterGrants settle rangesOf ofHeader rangesAt rangeAt rangeFrom numberAt rangePasses askOf lockOf answers answersFor inWay bars owns lockingAfter lockingEnd withLockList stored writeBlock parseWrite writeFits dataInside wideOffset doWrite unlessBarred barring askBy endsPast resized written sizeOf withFiles
 left = (refl, refl, refl, refl)

@@ -38,9 +38,9 @@ tablesWith sessions trees opens locks =
       files = sizes;
     }
 
--- UID 3 on connection 5, its tree TID 2 for reading and writing, and FID 4, an open of file 1 for both by process 0x1B1A
+-- UID 3 on connection 5, its tree TID 2 for reading and writing, and FID 4, an open of file 1 for both by process 0x0D0C1B1A
 unfoldable pub fewRecords : Tables
-fewRecords = tablesWith (session 3 5 ∷ []) (tree 2 3 1 ∷ []) (open-of 4 3 2 0x1B1A 1 2 ∷ []) []
+fewRecords = tablesWith (session 3 5 ∷ []) (tree 2 3 1 ∷ []) (open-of 4 3 2 0x0D0C1B1A 1 2 ∷ []) []
 
 -- "in file memory of 65,536 bytes": file 1 stands at 4,096 and holds 6 bytes
 unfoldable pub memory : List ℕ
