@@ -7,7 +7,7 @@ use mathlib.Core.List.{List, [], _∷_, _++_, map}
 use lib.ListN.{length, length-map}
 use native.Mathlib.Omega.{arith}
 use Rattle.lists.specs.Walk.{any, found, foundFrom}
-use Rattle.wire.specs.LittleEndian.{byteAt, le16At}
+use Rattle.wire.specs.LittleEndian.{byteAt, le16-below}
 use Rattle.locks.specs.Wire.{rangeSize, rangeFrom, rangeAt, rangesAt, length-ranges, ranges-more}
 use Rattle.locks.specs.Request.{ofHeader, rangesOf, rangePasses}
 use Rattle.locks.specs.Blocked.{rangeMeets}
@@ -21,11 +21,8 @@ map-snoc {B = B} f (y ∷ xs) x = ap (λ (l : List B). f y ∷ l) (map-snoc f xs
 
 -- the process of a range on the wire has 16 bits
 pub process-below : (large : Bool) (s : List ℕ) (k : ℕ) → ((i : ℕ) → byteAt s i < 256) → rangeAt large s k .process < 65536
-unfolding rangeAt rangeFrom le16At
-process-below large s k b =
-    let low = b (k * rangeSize large) in
-    let high = b (k * rangeSize large + 1) in
-    omega arith
+unfolding rangeAt rangeFrom
+process-below large s k b = le16-below s b (k * rangeSize large)
 
 module _ (q : Request) (s : List ℕ) where
   -- as many ranges as are asked

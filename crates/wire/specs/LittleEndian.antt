@@ -2,7 +2,7 @@
 -- each reading is defined at every place.
 -- Assumes nothing.
 use mathlib.Core.Path.{_≡_}
-use Prim.Native.Nat.{ℕ, _+_, _*_, _≤_}
+use Prim.Native.Nat.{ℕ, _+_, _*_, _≤_, _<_}
 use mathlib.Core.List.{List}
 use lib.ListN.{getD, length, List·getD-eq-default}
 use native.Mathlib.Omega.{arith}
@@ -19,6 +19,14 @@ le16At s at = byteAt s at + 256 * byteAt s (at + 1)
 unfoldable pub le32At : List ℕ → ℕ → ℕ
 unfolding le16At
 le32At s at = le16At s at + 65536 * le16At s (at + 2)
+
+-- two bytes make 16 bits
+pub le16-below : (s : List ℕ) → ((i : ℕ) → byteAt s i < 256) → (at : ℕ) → le16At s at < 65536
+unfolding le16At
+le16-below s b at =
+    let low = b at in
+    let high = b (at + 1) in
+    omega arith
 
 -- past the end stands 0
 pub le16-past : (s : List ℕ) (at : ℕ) → length s ≤ at → le16At s at ≡ 0
