@@ -53,3 +53,4 @@ pub mod HolderOpen
 pub mod HolderBytes
 pub mod HolderFirst
 pub mod HolderWire
+pub mod Processes
