@@ -47,7 +47,7 @@ ReplyHeader = (c : Call) → Answerable c → HeaderOf (c .message) (gives c .ro
 
 -- a command alone in its message that is carried out (Status 0/0): what it leaves, and a READ's bytes and a WRITE's count in the reply (every byte of each kind of reply:
 -- literals/specs/Replies.antt)
-abbrev DoneAlone : Call → ℕ → Type 0
+abbrev pub DoneAlone : Call → ℕ → Type 0
 DoneAlone c command = Answerable c × OneCommand c command × Says c 0 0
 
 pub record CarriedOut : Type 0 where
