@@ -18,10 +18,11 @@ use Rattle.demands.specs.LoneLock.{Owner}
 use Rattle.demands.specs.LockWords.{Named}
 use Rattle.demands.specs.CommandReasons.{OnlyTwoBits}
 use Rattle.demands.specs.WireFields.{readFrom, writeFrom}
-use Rattle.demands.specs.LockEffects.{RangeOn, GrantedLock}
+use Rattle.demands.specs.Effects.{exit-reading}
+use Rattle.demands.specs.LockEffects.{RangeOn, GrantedLock, locking-reading}
 use Rattle.demands.specs.Processes.{UpperHalvesDiffer, RangeProcess, LockTaken, ExitLeaves, sender-process, sender-32, same-process, other-process, range-process, lock-taken, not-own, bars-read, bars-write, names-not, unlock-refused, exit-leaves}
 use Rattle.order.specs.Call.{Call, gives, Answerable, OneCommand, Says, sender}
-use Rattle.order.specs.Demand2.{DoneAlone, ValidOpen, RefusedForConflict, demand-2}
+use Rattle.order.specs.Demand2.{DoneAlone, ValidOpen, RefusedForConflict}
 
 -- A message is a list of bytes (below 256) where a sentence is on halves: PIDHigh, at 12, and PIDLow, at 26, have 16 bits each. Demand 2's sentences on PROCESS_EXIT, on
 -- reads and writes and on the ranges of a LOCKING say the sender's whole process without that (Demand2.antt; demands/specs/WireFields.antt: `senderProcess`).
@@ -83,7 +84,7 @@ pub record Request4 : Type 0 where
 
 exit-left : (c : Call) → DoneAlone c PROCESS_EXIT → ExitLeaves (le16At (c .message) 28) (sender c .process) (c .tables) (gives c .tables)
 unfolding callerOf
-exit-left c d = exit-leaves _ _ (c .tables) (gives c .tables) (d .0 .fit .tables-sound) (demand-2 .carried-out .exit c d .0)
+exit-left c d = exit-leaves _ _ (c .tables) (gives c .tables) (d .0 .fit .tables-sound) (exit-reading (c .connection) (c .message) (d .1 .reading) (c .tables) (c .memory) (c .room) (d .0 .good) (d .0 .fit) (d .2) (d .1 .is) .0)
 
 pub request-4 : Request4
 unfolding callerOf
@@ -96,7 +97,9 @@ request-4 =
       };
       whole-range = record {
         of-range = λ c b k r on. range-process (c .message) b on;
-        taken = λ c b d none one. lock-taken (c .connection) (c .message) b (c .tables) (c .memory) (gives c) (demand-2 .carried-out .locking c d) none one;
+        taken = λ c b d none one.
+            lock-taken (c .connection) (c .message) b (c .tables) (c .memory) (gives c)
+            (locking-reading (c .connection) (c .message) (d .1 .reading) (c .tables) (c .memory) (c .room) (d .0 .good) (d .0 .fit) (d .2) (d .1 .is)) none one;
       };
       different-owners = record {
         not-its-own = λ c d b e u. not-own (d .message) (c .message) e b u;
