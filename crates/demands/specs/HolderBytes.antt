@@ -6,7 +6,7 @@ use Prim.Native.Nat.{ℕ, zero, suc, _+_, _^_, _≤_, _<_}
 use native.Mathlib.Omega.{arith}
 use native.Mathlib.Decide.{decLt}
 use mathlib.Core.Bool.{Bool, true}
-use mathlib.Core.List.{List, List·Memᴰ as In, List·Memᴰ·head as here, List·Memᴰ·tail as there, List·Memᴰ·cases-cons as first-or-later}
+use mathlib.Core.List.{List, List·Memᴰ as In, List·Memᴰ·head as here, List·Memᴰ·tail as there, List·Memᴰ·cases-cons as first-or-later, map}
 use lib.ListN.{length}
 use Rattle.lists.specs.PairLaws.{place-in}
 use Rattle.records.specs.declared.Open.{Open}
@@ -42,19 +42,19 @@ first-some {h = h} w =
     omega arith
 
 -- the first ranges of a request are ranges of it
-among : (large : Bool) (area : List ℕ) (k m n : ℕ) → m ≤ n → {r : LockRange} → In r (rangesAt large area k m) → In r (rangesAt large area k n)
+among : (f : LockRange → LockRange) (large : Bool) (area : List ℕ) (k m n : ℕ) → m ≤ n → {r : LockRange} → In r (map f (rangesAt large area k m)) → In r (map f (rangesAt large area k n))
 unfolding rangesAt
-among large area k (suc m) zero low i = absurd (omega arith)
-among large area k (suc m) (suc n) low i = elim (first-or-later i) [ inl e ↦ here e | inr more ↦ there (among large area (suc k) m n (omega arith) more) ]
+among f large area k (suc m) zero low i = absurd (omega arith)
+among f large area k (suc m) (suc n) low i = elim (first-or-later i) [ inl e ↦ here e | inr more ↦ there (among f large area (suc k) m n (omega arith) more) ]
 
 -- an own earlier range is within 2^64, as all of the request's
-own-ends : {c : Caller} {t : Tables} {f : LockingFields} {area : List ℕ} {h : Holder} (r : LockHeld c t f area h) → OwnRange f area (r .held .granted) (h .lock)
+own-ends : {c : Caller} {t : Tables} {f : LockingFields} {area : List ℕ} {h : Holder} (r : LockHeld c t f area h) → OwnRange c f area (r .held .granted) (h .lock)
     → h .lock .offset + h .lock .length ≤ 2 ^ 64
 unfolding PastEnd
 own-ends {f = f} {area = area} r w =
     let few : r .held .granted < f .locks = r .held .fewer in
     elim (decLt (2 ^ 64) (w .range .offset + w .range .length)) [
-      | yes past ↦ absurd (r .within (w .range, among _ area (f .unlocks) (r .held .granted) (f .locks) (omega arith) (w .earlier), past))
+      | yes past ↦ absurd (r .within (w .range, among _ _ area (f .unlocks) (r .held .granted) (f .locks) (omega arith) (w .earlier), past))
       | no n ↦ rw (w .of-offset, w .of-length) (omega arith)
     ]
 

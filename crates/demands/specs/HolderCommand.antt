@@ -21,7 +21,7 @@ use Rattle.records.specs.Empty.{noOpen}
 use Rattle.records.specs.Held.{opensOf, locksOf}
 use Rattle.locks.specs.Wire.{rangeSize}
 use Rattle.locks.specs.Answer.{bars, inWay, answersFor, answers}
-use Rattle.locks.specs.Request.{releaseAll, Grants, granted, blocked, grantAll, Result, afterGrants, rangePasses, afterReleases, request, settle, locking, holderAt}
+use Rattle.locks.specs.Request.{releaseAll, Grants, granted, blocked, grantAll, Result, afterGrants, rangePasses, afterReleases, request, settle, locking, holderAt, rangesOf}
 use Rattle.locks.specs.declared.types.Ask.{Ask}
 use Rattle.locks.specs.declared.types.LockRange.{LockRange}
 use Rattle.locks.specs.declared.types.Holder.{Holder}
@@ -144,15 +144,15 @@ module _ (c : Caller) (t : Tables) (memory : List ℕ) (ok : sound t ≡ true) w
 
   module _ (f : LockingFields) (area : List ℕ) (announced : length area ≡ (f .unlocks + f .locks) * rangeSize (eqb (f .kind / 16 % 2) 1)) (h : Holder) where
     abbrev walked : List Lock → Grants
-    walked left = grantAll files (f .fid) (sharedIn f) (locksIn f area) left
+    walked left = grantAll files (f .fid) (sharedIn f) (locksIn c f area) left
 
     abbrev after-unlocks : Option (List Lock) → Given
-    after-unlocks x = ends (afterReleases files (f .fid) (sharedIn f) (locksIn f area) x)
+    after-unlocks x = ends (afterReleases files (f .fid) (sharedIn f) (locksIn c f area) x)
 
     -- a served request through an open is what its unlocks give
     locking-is : (k : ℕ) → May c t (f .fid) k → servedType (f .kind) ≡ true
-        → doLocking c t memory f area ≡ after-unlocks (releaseAll files (f .fid) (unlocksIn f area) (locksOf t))
-    unfolding doLocking requestOf locking request
+        → doLocking c t memory f area ≡ after-unlocks (releaseAll files (f .fid) (unlocksIn c f area) (locksOf t))
+    unfolding doLocking requestOf locking request rangesOf
     locking-is k may e =
         with-open c t (f .fid) k _ may ∙ rw (e, eq-eqb (length area) ((f .unlocks + f .locks) * rangeSize (eqb (f .kind / 16 % 2) 1)) announced)
 
@@ -163,12 +163,12 @@ module _ (c : Caller) (t : Tables) (memory : List ℕ) (ok : sound t ≡ true) w
         cond-case (λ (r : Result). Names (ends r) h → granted list ≡ blocked h) (leb (length list) 128) _ _ (λ _ e. never cc) (λ _ e. never cc) e
     grants-name (blocked g) e = let same : g ≡ h = cc in ap blocked same
 
-    releases-name : {o : Open} → Admitted c t (f .fid) o → OnlyTwoBits (f .kind) → (x : Option (List Lock)) → Releasing (f .fid) (unlocksIn f area) (locksOf t) x
+    releases-name : {o : Open} → Admitted c t (f .fid) o → OnlyTwoBits (f .kind) → (x : Option (List Lock)) → Releasing (f .fid) (unlocksIn c f area) (locksOf t) x
         → Names (after-unlocks x) h → LockHeld c t f area h
     unfolding afterReleases settle lockingAfter lockingEnd
     releases-name a bits none (one-unnamed u) e = never cc
     releases-name {o} a bits (some left) (all-released r) e =
-        elim (decided (any rangePasses (locksIn f area))) [
+        elim (decided (any rangePasses (locksIn c f area))) [
           | inl b ↦ let z = rw b at e in never cc
           | inr b ↦ record {
             through = o;
@@ -176,8 +176,8 @@ module _ (c : Caller) (t : Tables) (memory : List ℕ) (ok : sound t ≡ true) w
             served = bits;
             left = left;
             unlocked = r;
-            within = λ w. not-decided-twice (any rangePasses (locksIn f area)) (past-is (locksIn f area) w) b;
-            held = blocked-held t ok o (f .fid) (a .opened .listed) (a .opened .of-fid) (sharedIn f) (eqb (f .kind / 16 % 2) 1) area (f .unlocks) (f .locks) left (left-opened r) h
+            within = λ w. not-decided-twice (any rangePasses (locksIn c f area)) (past-is (locksIn c f area) w) b;
+            held = blocked-held t ok o (f .fid) (a .opened .listed) (a .opened .of-fid) (c .process / 65536) (sharedIn f) (eqb (f .kind / 16 % 2) 1) area (f .unlocks) (f .locks) left (left-opened r) h
                 (grants-name (walked left) (rw b at e));
           }
         ]
@@ -186,8 +186,8 @@ module _ (c : Caller) (t : Tables) (memory : List ℕ) (ok : sound t ≡ true) w
     unfolding doLocking
     locking-may k may a e =
         elim (decided (servedType (f .kind))) [
-          | inl b ↦ releases-name a (served-exact (f .kind) .0 b) (releaseAll files (f .fid) (unlocksIn f area) (locksOf t))
-              (release-means files (f .fid) (unlocksIn f area) (locksOf t)) (sym (locking-is k may b) ∙ e)
+          | inl b ↦ releases-name a (served-exact (f .kind) .0 b) (releaseAll files (f .fid) (unlocksIn c f area) (locksOf t))
+              (release-means files (f .fid) (unlocksIn c f area) (locksOf t)) (sym (locking-is k may b) ∙ e)
           | inr b ↦ let w = sym (with-open c t (f .fid) k _ may) ∙ e in let z = rw b at w in never cc
         ]
 
@@ -197,10 +197,10 @@ module _ (c : Caller) (t : Tables) (memory : List ℕ) (ok : sound t ≡ true) w
       λ e. elim (open-or c t (f .fid)) [ inl no-one ↦ not-asked (f .fid) _ (no-one .1) h e | inr (k, may, a) ↦ locking-may k may a e ],
       λ r. let a = r .admitted in
           let m = admitted-may c t (f .fid) ok (r .through) a in
-          let b = held-blocked t ok (r .through) (f .fid) (a .opened .listed) (a .opened .of-fid) (sharedIn f) (eqb (f .kind / 16 % 2) 1) area (f .unlocks) (f .locks) (r .left)
+          let b = held-blocked t ok (r .through) (f .fid) (a .opened .listed) (a .opened .of-fid) (c .process / 65536) (sharedIn f) (eqb (f .kind / 16 % 2) 1) area (f .unlocks) (f .locks) (r .left)
           (left-opened (r .unlocked)) h (r .held) in
           locking-is (m .0) (m .1) (served-exact (f .kind) .1 (r .served))
-          ∙ rw (released-is files (f .fid) (r .unlocked), fails (any rangePasses (locksIn f area)) (λ z. r .within (past-means (locksIn f area) z)), b),
+          ∙ rw (released-is files (f .fid) (r .unlocked), fails (any rangePasses (locksIn c f area)) (λ z. r .within (past-means (locksIn c f area) z)), b),
     )
 
   -- ---- all seven

@@ -6,16 +6,16 @@ use Prim.Native.Nat.{ℕ, _+_, _/_, _%_, _^_, _<_}
 use native.Mathlib.Nat.{add-zero}
 use native.Mathlib.Omega.{arith}
 use mathlib.Core.Bool.{Bool, true, false}
-use mathlib.Core.List.{List, [], _∷_, List·Memᴰ as In, List·Memᴰ·eq-of-singleton as only-one}
+use mathlib.Core.List.{List, [], _∷_, map, List·Memᴰ as In, List·Memᴰ·eq-of-singleton as only-one}
 use mathlib.Core.Option.{some}
 use lib.Dec.{eqb}
-use Rattle.wire.specs.LittleEndian.{le16At}
 use Rattle.records.specs.declared.Open.{Open}
 use Rattle.records.specs.declared.Lock.{Lock}
 use Rattle.records.specs.declared.Tables.{Tables}
 use Rattle.records.specs.Held.{opensOf, locksOf}
 use Rattle.numbers.specs.Column.{fidOf}
 use Rattle.locks.specs.Wire.{rangesAt}
+use Rattle.locks.specs.Request.{ofHeader}
 use Rattle.locks.specs.declared.types.LockRange.{LockRange}
 use Rattle.locks.specs.declared.types.Holder.{Holder}
 use Rattle.soundness.specs.Sound.{sound}
@@ -47,7 +47,7 @@ use Rattle.demands.specs.LockWords.{Released, none-to-release, release-t
 use Rattle.demands.specs.CommandReasons.{Announced, OnlyTwoBits, locksIn}
 use Rattle.demands.specs.RefusedCall.{step-refused, Untouched, short-refusal}
 use Rattle.demands.specs.ChainReasons.{AllAnnounced, next-announced, chained-announced}
-use Rattle.demands.specs.WireFields.{readFrom, writeFrom, reading-first, one-first, first-body, first-area}
+use Rattle.demands.specs.WireFields.{senderProcess, readFrom, writeFrom, reading-first, one-first, first-body, first-area}
 use Rattle.demands.specs.HolderExactly.{call, holder-answered, holder-exactly}
 use Rattle.demands.specs.HolderWords.{FirstInWay, TransferHeld, LockHeld, CommandHeld, never, held-read, held-write, held-lock}
 use Rattle.demands.specs.HolderCommand.{Names, perform-held}
@@ -143,23 +143,23 @@ module _ {c : Caller} {t : Tables} (ok : sound t ≡ true) (f : LockingFields) (
   abbrev large : Bool
   large = eqb (f .kind / 16 % 2) 1
 
-  no-ranges : (k n : ℕ) → n ≡ 0 → rangesAt large area k n ≡ []
+  of-none : (k n : ℕ) → n ≡ 0 → map (ofHeader (c .process / 65536)) (rangesAt large area k n) ≡ []
   unfolding rangesAt
-  no-ranges k n e = rw e
+  of-none k n e = rw e
 
   lone-first : {h : Holder} → LockHeld c t f area h → LoneHeld t o f area h
   lone-first {h} r =
       let w = r .held in
       let few : w .granted < f .locks = w .fewer in
       let zero : w .granted ≡ 0 = omega arith in
-      let all : w .standing ≡ locksOf t = none-granted (w .earlier) (no-ranges (f .unlocks) (w .granted) zero) ∙ none-released (r .unlocked) (no-ranges 0 (f .unlocks) none-out) in
+      let all : w .standing ≡ locksOf t = none-granted (w .earlier) (of-none (f .unlocks) (w .granted) zero) ∙ none-released (r .unlocked) (of-none 0 (f .unlocks) none-out) in
       let at : f .unlocks + w .granted ≡ 0 = omega arith in
       rw (same-open ok a (r .admitted), all, at) at (w .first)
 
-  not-past : WithinRange f area → PastEnd (locksIn f area) → ⊥
-  unfolding PastEnd rangesAt
+  not-past : WithinRange f area → PastEnd (locksIn c f area) → ⊥
+  unfolding PastEnd rangesAt ofHeader
   not-past low p =
-      let m : In (p .0) (loneRange f area ∷ []) = rw (none-out, one) at (p .1) in
+      let m : In (p .0) (ofHeader (c .process / 65536) (loneRange f area) ∷ []) = rw (none-out, one) at (p .1) in
       let past : 2 ^ 64 < loneRange f area .offset + loneRange f area .length = rw (only-one m) at (p .2) in
       omega arith
 
@@ -189,7 +189,7 @@ module _ (connection : ℕ) (s : List ℕ) {spans : List Span} (r : Reading s sp
   -- where READ is the first command, on an open that may be read: the first "exclusive lock of another owner" that "overlaps offset and max"
   pub read-first : headerCommand s ≡ READ → (o .access ≡ 1 → ⊥)
       → FirstMeets (call connection s t memory room) h
-      ↔ FirstInWay t o (locksOf t) (readFrom s) (readMax s FIRST) (λ l. (l .shared ≡ false) × (Owner (fidAfterAndx s FIRST) (le16At s 26) l → ⊥)) h
+      ↔ FirstInWay t o (locksOf t) (readFrom s) (readMax s FIRST) (λ l. (l .shared ≡ false) × (Owner (fidAfterAndx s FIRST) (senderProcess s) l → ⊥)) h
   unfolding bodyAt wideOffset callerOf
   read-first e may =
       let q = reading-first r in
@@ -200,7 +200,7 @@ module _ (connection : ℕ) (s : List ℕ) {spans : List Span} (r : Reading s sp
   -- where WRITE is, on an open that may be written: the first of any that overlap it "save the writer's own exclusive ones"
   pub write-first : headerCommand s ≡ WRITE → (o .access ≡ 0 → ⊥)
       → FirstMeets (call connection s t memory room) h
-      ↔ FirstInWay t o (locksOf t) (writeFrom s) (dataLength s FIRST) (λ l. (l .shared ≡ false) × Owner (fidAfterAndx s FIRST) (le16At s 26) l → ⊥) h
+      ↔ FirstInWay t o (locksOf t) (writeFrom s) (dataLength s FIRST) (λ l. (l .shared ≡ false) × Owner (fidAfterAndx s FIRST) (senderProcess s) l → ⊥) h
   unfolding bodyAt wideOffset callerOf
   write-first e may =
       let q = reading-first r in

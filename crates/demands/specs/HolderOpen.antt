@@ -18,7 +18,7 @@ use Rattle.records.specs.Empty.{noLock}
 use Rattle.records.specs.Held.{sessionsOf, opensOf, locksOf}
 use Rattle.numbers.specs.Column.{uidOf, fidOf}
 use Rattle.locks.specs.Wire.{rangesAt}
-use Rattle.locks.specs.Request.{lockOf}
+use Rattle.locks.specs.Request.{lockOf, ofHeader}
 use Rattle.locks.specs.declared.types.LockRange.{LockRange}
 use Rattle.locks.specs.declared.types.Holder.{Holder}
 use Rattle.chain.specs.declared.block.LockingFields.{LockingFields}
@@ -39,19 +39,19 @@ use Rattle.demands.specs.HolderStands.{holder-exact, held-then}
 -- ---- an own earlier range
 
 -- an own earlier range as holder, the request's FID and that range's process: a range of a LOCKING before the one that met it, by its lock's fields
-pub record OwnRange (f : LockingFields) (area : List ℕ) (granted : ℕ) (l : Lock) : Type 0 where
+pub record OwnRange (c : Caller) (f : LockingFields) (area : List ℕ) (granted : ℕ) (l : Lock) : Type 0 where
   pub range : LockRange
-  pub earlier : In range (rangesAt (eqb (f .kind / 16 % 2) 1) area (f .unlocks) granted)
+  pub earlier : In range (map (ofHeader (c .process / 65536)) (rangesAt (eqb (f .kind / 16 % 2) 1) area (f .unlocks) granted))
   pub of-fid : l .fid ≡ f .fid
   pub of-process : l .process ≡ range .process
   pub of-offset : l .offset ≡ range .offset
   pub of-length : l .length ≡ range .length
   pub of-shared : l .shared ≡ sharedIn f
 
-own-range : (f : LockingFields) (area : List ℕ) (granted : ℕ) (l : Lock) (r : LockRange) → In r (rangesAt (eqb (f .kind / 16 % 2) 1) area (f .unlocks) granted)
-    → lockOf (f .fid) (sharedIn f) r ≡ l → OwnRange f area granted l
+own-range : (c : Caller) (f : LockingFields) (area : List ℕ) (granted : ℕ) (l : Lock) (r : LockRange) → In r (map (ofHeader (c .process / 65536)) (rangesAt (eqb (f .kind / 16 % 2) 1) area (f .unlocks) granted))
+    → lockOf (f .fid) (sharedIn f) r ≡ l → OwnRange c f area granted l
 unfolding lockOf
-own-range f area granted l r m e =
+own-range c f area granted l r m e =
     record {
       range = r;
       earlier = m;
@@ -70,7 +70,7 @@ granted-list {fid = fid} {shared = shared} (grant-then {r} {rs} {list} free more
 
 module _ {c : Caller} {t : Tables} {f : LockingFields} {area : List ℕ} {h : Holder} (r : LockHeld c t f area h) where
   abbrev own : List Lock
-  own = map (lockOf (f .fid) (sharedIn f)) (rangesAt (eqb (f .kind / 16 % 2) 1) area (f .unlocks) (r .held .granted))
+  own = map (lockOf (f .fid) (sharedIn f)) (map (ofHeader (c .process / 65536)) (rangesAt (eqb (f .kind / 16 % 2) 1) area (f .unlocks) (r .held .granted)))
 
   -- "the list as it then stands": those left, and behind them the own earlier ranges
   as-it-stands : r .held .standing ≡ r .left ++ own
@@ -80,7 +80,7 @@ module _ {c : Caller} {t : Tables} {f : LockingFields} {area : List ℕ} {h : Ho
   there-is = ap (λ (l : List Lock). getD l (h .place) noLock) (sym as-it-stands) ∙ r .held .first .stands-there
 
   -- its own earlier ranges stand at the end: a place behind what the unlocks left is one of theirs
-  pub holder-own : length (r .left) ≤ h .place → OwnRange f area (r .held .granted) (h .lock)
+  pub holder-own : length (r .left) ≤ h .place → OwnRange c f area (r .held .granted) (h .lock)
   holder-own low =
       let inside : h .place < length (r .held .standing) = r .held .first .in-list in
       let all : length (r .held .standing) ≡ length (r .left) + length own = ap length as-it-stands ∙ length-append (r .left) own in
@@ -88,8 +88,8 @@ module _ {c : Caller} {t : Tables} {f : LockingFields} {area : List ℕ} {h : Ho
       let m : h .place - length (r .left) < length own = omega arith in
       let same : getD own (h .place - length (r .left)) noLock ≡ h .lock =
       sym (getD-append-add (r .left) own (h .place - length (r .left)) noLock) ∙ ap (λ (k : ℕ). getD (r .left ++ own) k noLock) (sym split) ∙ there-is in
-      let w = map-in (lockOf (f .fid) (sharedIn f)) (rangesAt (eqb (f .kind / 16 % 2) 1) area (f .unlocks) (r .held .granted)) (place-in noLock own (h .place - length (r .left)) m) in
-      own-range f area (r .held .granted) (h .lock) (w .0) (w .1) (w .2 ∙ same)
+      let w = map-in (lockOf (f .fid) (sharedIn f)) (map (ofHeader (c .process / 65536)) (rangesAt (eqb (f .kind / 16 % 2) 1) area (f .unlocks) (r .held .granted))) (place-in noLock own (h .place - length (r .left)) m) in
+      own-range c f area (r .held .granted) (h .lock) (w .0) (w .1) (w .2 ∙ same)
 
   -- a place before that is one of the locks held
   pub holder-listed : h .place < length (r .left) → In (h .lock) (locksOf t)

@@ -7,7 +7,7 @@ use native.Mathlib.Nat.{add-zero}
 use native.Mathlib.Omega.{arith}
 use native.Mathlib.Decide.{decLt}
 use mathlib.Core.Bool.{Bool, true, false, _&&_}
-use mathlib.Core.List.{List, [], _∷_, _++_, List·Memᴰ as In, Memᴰ·append-left as in-front}
+use mathlib.Core.List.{List, [], _∷_, _++_, List·Memᴰ as In, Memᴰ·append-left as in-front, map}
 use lib.ListN.{length, take, drop, getD, length-take, take-append-drop}
 use lib.Seq.{getD-take}
 use lib.Dec.{eqb}
@@ -26,7 +26,7 @@ use Rattle.records.specs.Held.{opensOf}
 use Rattle.locks.specs.Range.{Overlap, overlaps, overlap-iff}
 use Rattle.locks.specs.Wire.{rangeAt, rangesAt}
 use Rattle.locks.specs.Answer.{bars, inWay, answersFor, answers}
-use Rattle.locks.specs.Request.{askOf, lockOf, holderAt, Grants, granted, blocked, afterWalk, grantAll}
+use Rattle.locks.specs.Request.{askOf, lockOf, holderAt, Grants, granted, blocked, afterWalk, grantAll, ofHeader}
 use Rattle.locks.specs.declared.types.Ask.{Ask}
 use Rattle.locks.specs.declared.types.LockRange.{LockRange}
 use Rattle.locks.specs.declared.types.Holder.{Holder}
@@ -168,12 +168,12 @@ module _ (t : Tables) (ok : sound t ≡ true) (o : Open) (there-is : In o (opens
 
 -- ---- the ranges of a request, in order
 
-module _ (t : Tables) (ok : sound t ≡ true) (o : Open) (fid : ℕ) (there-is : In o (opensOf t)) (of : o .fid ≡ fid) (shared large : Bool) (area : List ℕ) where
+module _ (t : Tables) (ok : sound t ≡ true) (o : Open) (fid : ℕ) (there-is : In o (opensOf t)) (of : o .fid ≡ fid) (high : ℕ) (shared large : Bool) (area : List ℕ) where
   abbrev files : ℕ → ℕ
   files n = fileOf (opensOf t) n
 
   abbrev range : ℕ → LockRange
-  range k = rangeAt large area k
+  range k = ofHeader high (rangeAt large area k)
 
   abbrev lock : LockRange → Lock
   lock r = lockOf fid shared r
@@ -183,15 +183,15 @@ module _ (t : Tables) (ok : sound t ≡ true) (o : Open) (fid : ℕ) (there-is :
 
   -- the walk's test of the k-th range
   test-exact : (k : ℕ) (list : List Lock) → Opened t list → (l : Lock) → In l list
-      → (test k l ≡ true) ↔ Way t o (range k .offset) (range k .length) (λ m. (m .shared ≡ true) × (shared ≡ true) → ⊥) l
-  unfolding askOf answers answersFor bars
+      → (test k l ≡ true) ↔ Way t o (rangeAt large area k .offset) (rangeAt large area k .length) (λ m. (m .shared ≡ true) × (shared ≡ true) → ⊥) l
+  unfolding ofHeader askOf answers answersFor bars
   test-exact k list opened = asked-exact t ok o there-is (askOf fid (Grant shared) (range k)) of (grant-bars shared) (λ l. refl) list opened
 
   -- by what the walk of the first range finds
   walk-held : (k n : ℕ) (list : List Lock) → Opened t list → (h : Holder) (x : Found) → found (test k) list ≡ x → (next : Grants)
-      → (next ≡ blocked h → RangeHeld t o fid shared large area (suc k) n (list ++ (lock (range k) ∷ [])) h)
-      → afterWalk x list next ≡ blocked h → RangeHeld t o fid shared large area k (suc n) list h
-  unfolding afterWalk rangesAt
+      → (next ≡ blocked h → RangeHeld t o fid high shared large area (suc k) n (list ++ (lock (range k) ∷ [])) h)
+      → afterWalk x list next ≡ blocked h → RangeHeld t o fid high shared large area k (suc n) list h
+  unfolding afterWalk rangesAt ofHeader
   walk-held k n list opened h (At j) e next f g =
       let same : holderAt list j ≡ h = cc in
       record {
@@ -214,19 +214,19 @@ module _ (t : Tables) (ok : sound t ≡ true) (o : Open) (fid : ℕ) (there-is :
       }
 
   -- a request that is blocked is so by a range of its own, on the list as it then stands
-  pub blocked-held : (k n : ℕ) (list : List Lock) → Opened t list → (h : Holder) → grantAll files fid shared (rangesAt large area k n) list ≡ blocked h
-      → RangeHeld t o fid shared large area k n list h
-  unfolding grantAll rangesAt
+  pub blocked-held : (k n : ℕ) (list : List Lock) → Opened t list → (h : Holder) → grantAll files fid shared (map (ofHeader high) (rangesAt large area k n)) list ≡ blocked h
+      → RangeHeld t o fid high shared large area k n list h
+  unfolding grantAll rangesAt ofHeader
   blocked-held k zero list opened h e = let z : _≡_ {A = ℕ} 0 1 = cc in absurd (omega arith)
   blocked-held k (suc n) list opened h e =
-      walk-held k n list opened h (found (test k) list) refl (grantAll files fid shared (rangesAt large area (suc k) n) (list ++ (lock (range k) ∷ [])))
+      walk-held k n list opened h (found (test k) list) refl (grantAll files fid shared (map (ofHeader high) (rangesAt large area (suc k) n)) (list ++ (lock (range k) ∷ [])))
       (λ f. blocked-held (suc k) n (list ++ (lock (range k) ∷ [])) (opened-more t ok o fid there-is of shared (range k) list opened) h f) e
 
   -- and the other way round
-  held-from : (k n j : ℕ) {list standing : List Lock} → Opened t list → j < n → AllGranted t o fid shared (rangesAt large area k j) list standing → {h : Holder}
-      → FirstInWay t o standing (range (k + j) .offset) (range (k + j) .length) (λ m. (m .shared ≡ true) × (shared ≡ true) → ⊥) h
-      → grantAll files fid shared (rangesAt large area k n) list ≡ blocked h
-  unfolding grantAll rangesAt afterWalk
+  held-from : (k n j : ℕ) {list standing : List Lock} → Opened t list → j < n → AllGranted t o fid shared (map (ofHeader high) (rangesAt large area k j)) list standing → {h : Holder}
+      → FirstInWay t o standing (rangeAt large area (k + j) .offset) (rangeAt large area (k + j) .length) (λ m. (m .shared ≡ true) × (shared ≡ true) → ⊥) h
+      → grantAll files fid shared (map (ofHeader high) (rangesAt large area k n)) list ≡ blocked h
+  unfolding grantAll rangesAt afterWalk ofHeader
   held-from k zero j opened low earlier first = absurd (let z : ⊥ = omega arith in z)
   held-from k (suc n) zero {list} opened low none-to-grant {h} first =
       let p = first-place (test k) list (test-exact k list opened) (rw (add-zero k) at first) in
@@ -237,6 +237,6 @@ module _ (t : Tables) (ok : sound t ≡ true) (o : Open) (fid : ℕ) (there-is :
       rw none
       (held-from (suc k) n j (opened-more t ok o fid there-is of shared (range k) list opened) (let m : j < n = omega arith in m) more (rw place at first))
 
-  pub held-blocked : (k n : ℕ) (list : List Lock) → Opened t list → (h : Holder) → RangeHeld t o fid shared large area k n list h
-      → grantAll files fid shared (rangesAt large area k n) list ≡ blocked h
+  pub held-blocked : (k n : ℕ) (list : List Lock) → Opened t list → (h : Holder) → RangeHeld t o fid high shared large area k n list h
+      → grantAll files fid shared (map (ofHeader high) (rangesAt large area k n)) list ≡ blocked h
   held-blocked k n list opened h r = held-from k n (r .granted) opened (r .fewer) (r .earlier) (r .first)

@@ -12,8 +12,8 @@ use Rattle.records.specs.declared.Open.{Open}
 use Rattle.records.specs.declared.Lock.{Lock}
 use Rattle.records.specs.declared.Tables.{Tables}
 use Rattle.records.specs.Held.{locksOf}
-use Rattle.locks.specs.Wire.{rangeSize, rangeAt}
-use Rattle.locks.specs.Request.{lockOf}
+use Rattle.locks.specs.Wire.{rangeSize}
+use Rattle.locks.specs.Request.{lockOf, ofHeader}
 use Rattle.locks.specs.declared.types.LockRange.{LockRange}
 use Rattle.locks.specs.declared.types.Holder.{Holder}
 use Rattle.chain.specs.Layout.{LOCKING, headerCommand, FIRST, byteCount, fidAfterAndx, lockType, unlockCount, lockCount}
@@ -26,7 +26,7 @@ use Rattle.demands.specs.LoneLock.{sharedIn}
 use Rattle.demands.specs.LoneCall.{lockingFields, lockingArea}
 use Rattle.demands.specs.CommandReasons.{OnlyTwoBits}
 use Rattle.demands.specs.WireFields.{reading-first, first-body, first-area}
-use Rattle.demands.specs.LockEffects.{RangeOn, GrantedLock, Unlocked, Locked, large, range-on, unlocked-from, granted-lock, locked-from, locking-fits}
+use Rattle.demands.specs.LockEffects.{RangeOn, GrantedLock, Unlocked, Locked, large, range-on, unlocked-from, granted-lock, locked-from, locking-fits, rangeIn}
 use Rattle.demands.specs.LockReasons.{PassesOn, lock-is, released-from, ranges-in, passes-from, past-from, granted-from}
 use Rattle.demands.specs.HolderWords.{FirstInWay, LockHeld, held-lock}
 use Rattle.demands.specs.HolderExactly.{call}
@@ -76,7 +76,7 @@ module _ (connection : ℕ) (s : List ℕ) (t : Tables) (h : Holder) (fits : (un
   Fields = LockHeld (callerOf connection s) t (lockingFields s) (lockingArea s) h
 
   to-wire : Fields → LockHeldOn connection s t h
-  unfolding lockOf
+  unfolding lockOf ofHeader callerOf
   to-wire r =
       let w = r .held in
       let few : w .granted < m = w .fewer in
@@ -91,15 +91,15 @@ module _ (connection : ℕ) (s : List ℕ) (t : Tables) (h : Holder) (fits : (un
         fewer = few;
         standing = w .standing;
         earlier = locked-from s (u + m) fits t (r .through) u (w .granted) (omega arith) (w .earlier);
-        range = rangeAt (large s) (lockingArea s) (u + w .granted);
+        range = rangeIn s (u + w .granted);
         range-there = range-on s (u + m) fits (u + w .granted) (omega arith);
-        asked = lockOf (fidAfterAndx s FIRST) (sharedIn (lockingFields s)) (rangeAt (large s) (lockingArea s) (u + w .granted));
-        asked-is = granted-lock s (u + m) fits (rangeAt (large s) (lockingArea s) (u + w .granted));
+        asked = lockOf (fidAfterAndx s FIRST) (sharedIn (lockingFields s)) (rangeIn s (u + w .granted));
+        asked-is = granted-lock s (u + m) fits (rangeIn s (u + w .granted));
         first = w .first;
       }
 
   from-wire : LockHeldOn connection s t h → Fields
-  unfolding lockOf
+  unfolding lockOf ofHeader callerOf
   from-wire r =
       let few : r .granted < m = r .fewer in
       let same = lock-is s (u + m) fits (omega arith) (r .range-there) (r .asked-is) in
@@ -121,7 +121,7 @@ module _ (connection : ℕ) (s : List ℕ) (t : Tables) (h : Holder) (fits : (un
 
   -- its own earlier ranges stand at the end: a holder at a place behind what the unlocks left is one of them
   own-range-on : (r : LockHeldOn connection s t h) → length (r .left) ≤ h .place → OwnRangeOn s u (r .granted) (h .lock)
-  unfolding from-wire
+  unfolding from-wire callerOf
   own-range-on r low =
       let few : r .granted < m = r .fewer in
       let w = holder-own (from-wire r) low in

@@ -5,7 +5,7 @@ use mathlib.Core.Logic.{_↔_}
 use Prim.Native.Nat.{ℕ, _+_, _/_, _%_, _<_}
 use native.Mathlib.Omega.{arith}
 use mathlib.Core.Bool.{Bool, true, false}
-use mathlib.Core.List.{List}
+use mathlib.Core.List.{List, map}
 use lib.ListN.{length, take, getD}
 use lib.Dec.{eqb}
 use Rattle.records.specs.declared.Open.{Open}
@@ -15,6 +15,7 @@ use Rattle.records.specs.Empty.{noLock}
 use Rattle.records.specs.Held.{locksOf}
 use Rattle.locks.specs.Range.{Overlap}
 use Rattle.locks.specs.Wire.{rangeAt, rangesAt}
+use Rattle.locks.specs.Request.{ofHeader}
 use Rattle.locks.specs.declared.types.Holder.{Holder}
 use Rattle.chain.specs.declared.block.LockingFields.{LockingFields}
 use Rattle.chain.specs.declared.block.ReadFields.{ReadFields}
@@ -53,13 +54,13 @@ ReadHeld c t f h = TransferHeld c t (f .fid) 1 (f .offset) (f .max) (λ l. (l .s
 abbrev pub WriteHeld : Caller → Tables → WriteFields → Holder → Type 0
 WriteHeld c t f h = TransferHeld c t (f .fid) 0 (f .offset) (f .count) (λ l. (l .shared ≡ false) × Owner (f .fid) (c .process) l → ⊥) h
 
--- "locks in order, each against the list as it stands": ranges of an area from the k-th on, `asked` of them, on a list. `granted` of them were granted, none having a
+-- "locks in order, each against the list as it stands": ranges of an area from the k-th on, `asked` of them, with that upper half of their processes, on a list. `granted` of them were granted, none having a
 -- lock in its way; their locks, of the request's FID and each range's process, stand behind the list; there the next one has a lock in its way.
-pub record RangeHeld (t : Tables) (o : Open) (fid : ℕ) (shared large : Bool) (area : List ℕ) (k asked : ℕ) (list : List Lock) (h : Holder) : Type 0 where
+pub record RangeHeld (t : Tables) (o : Open) (fid high : ℕ) (shared large : Bool) (area : List ℕ) (k asked : ℕ) (list : List Lock) (h : Holder) : Type 0 where
   pub granted : ℕ
   pub fewer : granted < asked
   pub standing : List Lock
-  pub earlier : AllGranted t o fid shared (rangesAt large area k granted) list standing
+  pub earlier : AllGranted t o fid shared (map (ofHeader high) (rangesAt large area k granted)) list standing
   pub first : FirstInWay t o standing (rangeAt large area (k + granted) .offset) (rangeAt large area (k + granted) .length)
       (λ l. (l .shared ≡ true) × (shared ≡ true) → ⊥) h
 
@@ -69,9 +70,9 @@ pub record LockHeld (c : Caller) (t : Tables) (f : LockingFields) (area : List �
   pub admitted : Admitted c t (f .fid) through
   pub served : OnlyTwoBits (f .kind)
   pub left : List Lock
-  pub unlocked : Released (f .fid) (unlocksIn f area) (locksOf t) left
-  pub within : PastEnd (locksIn f area) → ⊥
-  pub held : RangeHeld t through (f .fid) (sharedIn f) (eqb (f .kind / 16 % 2) 1) area (f .unlocks) (f .locks) left h
+  pub unlocked : Released (f .fid) (unlocksIn c f area) (locksOf t) left
+  pub within : PastEnd (locksIn c f area) → ⊥
+  pub held : RangeHeld t through (f .fid) (c .process / 65536) (sharedIn f) (eqb (f .kind / 16 % 2) 1) area (f .unlocks) (f .locks) left h
 
 -- the command with these fields and this byte area, begun on these tables, has that holder in its way
 pub data CommandHeld (c : Caller) (t : Tables) (area : List ℕ) (body : Body) (h : Holder) : Type 0 where

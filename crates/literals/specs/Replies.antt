@@ -430,7 +430,7 @@ firstRangeHeld =
     record {
       tables = contested;
       request = message 0x24 0x7F 0xFF (lockBlock 0xFF 0 0 2 20 (range100 ++ rangeOf 0x51 2));
-      said = heldAt 4 0x1B1A 4 109 11 false (refusal 0x24 1 0x21 0x00);
+      said = heldAt 4 0x0D0C1B1A 4 109 11 false (refusal 0x24 1 0x21 0x00);
     }
 
 -- "A lock granted earlier in the same request may be the answer, though it is undone": 200 to 210 of process 0x0D0C0051, then 205 to 215 of process 0x0D0C0061; five are listed

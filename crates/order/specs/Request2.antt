@@ -5,7 +5,6 @@ use Prim.Native.Nat.{_+_, _^_, _≤_, _<_}
 use mathlib.Core.Bool.{true, false}
 use mathlib.Core.List.{List, [], _∷_, _++_, map, List·Memᴰ as In}
 use lib.ListN.{length}
-use Rattle.wire.specs.LittleEndian.{le16At}
 use Rattle.records.specs.declared.Open.{Open}
 use Rattle.records.specs.Held.{locksOf}
 use Rattle.locks.specs.declared.types.Holder.{Holder}
@@ -20,7 +19,7 @@ use Rattle.claims.specs.BeforeHolder.{withoutHolder, before-holder}
 use Rattle.demands.specs.LoneLock.{Owner}
 use Rattle.demands.specs.CommandReasons.{OnlyTwoBits}
 use Rattle.demands.specs.RefusedCall.{Untouched}
-use Rattle.demands.specs.WireFields.{readFrom, writeFrom}
+use Rattle.demands.specs.WireFields.{senderProcess, readFrom, writeFrom}
 use Rattle.demands.specs.HolderExactly.{holder-exactly, nobody-exactly, undone-nobody}
 use Rattle.demands.specs.HolderWords.{FirstInWay}
 use Rattle.demands.specs.HolderStands.{Met, holder-exact, tables-then}
@@ -48,14 +47,14 @@ pub record PlaceOfTheFirst : Type 0 where
   pub lone-lock : (c : Call) (spans : List Span) (o : Open) (h : Holder) → Answerable c → Reading (c .message) spans → AsksOneLock c → OnlyTwoBits (lockType (c .message) FIRST)
       → ValidOpen c o → rangeAsked c .offset + rangeAsked c .length ≤ 2 ^ 64
       → FirstMeets (gives c) h ↔ FirstInWay (c .tables) o (locksOf (c .tables)) (rangeAsked c .offset) (rangeAsked c .length) (λ l. (l .shared ≡ true) × (sharedAsked c ≡ true) → ⊥) h
-  -- of a read "an exclusive lock of another owner" that "overlaps offset and max"; the owner is the message's FID with its PIDLow, at 26
+  -- of a read "an exclusive lock of another owner" that "overlaps offset and max"; the owner is the message's FID with its sender's process
   pub read : (c : Call) (spans : List Span) (o : Open) (h : Holder) → Answerable c → Reading (c .message) spans → headerCommand (c .message) ≡ READ → ValidOpen c o → (o .access ≡ 1 → ⊥)
       → FirstMeets (gives c) h ↔ FirstInWay (c .tables) o (locksOf (c .tables)) (readFrom (c .message)) (readMax (c .message) FIRST)
-      (λ l. (l .shared ≡ false) × (Owner (fidAfterAndx (c .message) FIRST) (le16At (c .message) 26) l → ⊥)) h
+      (λ l. (l .shared ≡ false) × (Owner (fidAfterAndx (c .message) FIRST) (senderProcess (c .message)) l → ⊥)) h
   -- of a write any that overlaps it "save the writer's own exclusive ones"
   pub write : (c : Call) (spans : List Span) (o : Open) (h : Holder) → Answerable c → Reading (c .message) spans → headerCommand (c .message) ≡ WRITE → ValidOpen c o → (o .access ≡ 0 → ⊥)
       → FirstMeets (gives c) h ↔ FirstInWay (c .tables) o (locksOf (c .tables)) (writeFrom (c .message)) (dataLength (c .message) FIRST)
-      (λ l. (l .shared ≡ false) × Owner (fidAfterAndx (c .message) FIRST) (le16At (c .message) 26) l → ⊥) h
+      (λ l. (l .shared ≡ false) × Owner (fidAfterAndx (c .message) FIRST) (senderProcess (c .message)) l → ⊥) h
   -- a command alone in its message is its first
   pub alone : (c : Call) (span : Span) (h : Holder) → Answerable c → Reading (c .message) (span ∷ []) → gives c .holder ≡ held-by h → FirstMeets (gives c) h
 
@@ -89,7 +88,7 @@ pub record GrantedEarlier : Type 0 where
   -- and that happens: the second of two ranges is refused by the first
   pub happens : Answerable twoAsked × (gives twoAsked .holder ≡ held-by firstRange) × (gives twoAsked .tables ≡ plant 2 1)
 
--- "The reply bytes do not change": all that a call gives but the holder, the reply, the tables and the file memory among it, is what document 01 alone gives, where a
+-- "The reply bytes do not change": all that a call gives but the holder, the reply, the tables and the file memory among it, is what is given without this request, where a
 -- conflict is yes or no (claims/specs/YesOrNo.antt)
 abbrev pub RepliesStand : Type 0
 RepliesStand = (c : Call) → withoutHolder (gives c) ≡ takeBefore (c .connection) (c .message) (c .tables) (c .memory) (c .room)
