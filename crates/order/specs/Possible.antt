@@ -1,14 +1,18 @@
 -- The premises of the page are possible: a plant's tables, a message fit to be answered, a chain whose second command is refused, a lock that is refused and one
--- that is not, two messages that differ in a free byte and in length. Each is an instance that the checker computes. (Each command alone in its message, carried out and
+-- that is not, two messages that differ in a free byte and in length, two whose senders differ in the upper half of the process only. Each is an instance that the checker computes. (Each command alone in its message, carried out and
 -- refused: literals/specs/Replies.antt; host calls that are done: literals/specs/Codes.antt.) Assumes nothing.
 use mathlib.Core.Path.{_≡_, refl, sym, ap, _∙_}
-use Prim.Native.Nat.{ℕ, _+_, _-_, _≤_, _<_}
+use Prim.Native.Nat.{ℕ, zero, suc, _+_, _-_, _≤_, _<_}
 use native.Mathlib.Omega.{arith}
 use mathlib.Core.Bool.{Bool, true, false}
 use mathlib.Core.List.{List, [], _∷_, _++_, map, List·Memᴰ as In, List·Memᴰ·head as first, List·Memᴰ·tail as later}
 use mathlib.Core.Option.{some}
 use lib.ListN.{length, take, drop, replicate, length-replicate, getD}
 use lib.Seq.{getD-take, getD-drop}
+use lib.Dec.{ltb}
+use borrow.Author.Tests.{ltb-true}
+use Rattle.lists.specs.Truth.{both-hold}
+use Rattle.lists.specs.Put.{put}
 use Rattle.lists.specs.Walk.{any, all, allTails, found, foundFrom}
 use Rattle.lists.specs.Stored.{stored}
 use Rattle.wire.specs.LittleEndian.{byteAt, le16At, le32At}
@@ -47,6 +51,11 @@ use Rattle.demands.specs.Calls.{status-call, length-call}
 use Rattle.claims.specs.HostReasons.{HasTree}
 use Rattle.demands.specs.Admitted.{SessionHere, Admitted}
 use Rattle.demands.specs.CommandReasons.{OnlyTwoBits}
+use Rattle.claims.specs.StreamKept.{Bytes}
+use Rattle.literals.specs.Replies.{message as requested}
+use Rattle.literals.specs.TwoProcesses.{sentBy, exit}
+use Rattle.demands.specs.WireFields.{senderProcess}
+use Rattle.demands.specs.Processes.{UpperHalvesDiffer}
 use Rattle.order.specs.Demand2.{rangeAsked, AsksOneLock, ValidOpen}
 use Rattle.order.specs.Call.{Call, gives, Answerable, BeginsKnown, Says}
 
@@ -219,3 +228,19 @@ pub free-stand : (x : Span) → In x freeSpans → (k : ℕ) → x .place ≤ k 
 unfolding freeSpans oneFree otherFree message
 free-stand x (first e) = rw e (part-bytes oneFree otherFree 32 29 refl)
 free-stand x (later (first e)) = rw e (part-bytes oneFree otherFree 62 23 refl)
+
+-- ---- two senders whose processes differ in the upper half only (what their calls give: literals/specs/TwoProcesses.antt)
+
+bytes-all : (s : List ℕ) → all (λ x. ltb x 256) s ≡ true → (i : ℕ) → getD s i 0 < 256
+unfolding all
+bytes-all [] e i = omega arith
+bytes-all (x ∷ xs) e zero = ltb-true x 256 (both-hold (ltb x 256) (all (λ x. ltb x 256) xs) e .0)
+bytes-all (x ∷ xs) e (suc i) = bytes-all xs (both-hold (ltb x 256) (all (λ x. ltb x 256) xs) e .1) i
+
+pub exits-of-bytes : Bytes (sentBy 0 1 exit) × Bytes (sentBy 1 1 exit)
+unfolding all sentBy exit requested put
+exits-of-bytes = (record { small = bytes-all (sentBy 0 1 exit) refl }, record { small = bytes-all (sentBy 1 1 exit) refl })
+
+pub two-senders : UpperHalvesDiffer (sentBy 1 1 exit) (sentBy 0 1 exit) × (senderProcess (sentBy 0 1 exit) ≡ 1) × (senderProcess (sentBy 1 1 exit) ≡ 65537)
+unfolding sentBy exit requested put le16At
+two-senders = (record { same-low = refl; other-high = λ e. let z : _≡_ {A = ℕ} 1 0 = e in omega arith }, refl, refl)

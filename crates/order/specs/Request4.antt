@@ -70,7 +70,7 @@ pub record DifferentOwners : Type 0 where
 pub record ExitOfOne : Type 0 where
   pub left-and-gone : (c : Call) → DoneAlone c PROCESS_EXIT → ExitLeaves (le16At (c .message) 28) (sender c .process) (c .tables) (gives c .tables)
   -- of a process d that differs in the upper half only
-  pub the-other-s : (c d : Call) → Bytes (c .message) → Bytes (d .message) → UpperHalvesDiffer (d .message) (c .message) → DoneAlone c PROCESS_EXIT
+  pub other-left : (c d : Call) → Bytes (c .message) → Bytes (d .message) → UpperHalvesDiffer (d .message) (c .message) → DoneAlone c PROCESS_EXIT
       → (o : Open) → In o (opensOf (c .tables)) → o .process ≡ sender d .process
       → In o (opensOf (gives c .tables)) × ((l : Lock) → In l (locksOf (c .tables)) → l .fid ≡ o .fid → In l (locksOf (gives c .tables)))
 
@@ -113,7 +113,7 @@ request-4 =
       };
       exit-of-one = record {
         left-and-gone = exit-left;
-        the-other-s = λ c d b e u done o i is.
+        other-left = λ c d b e u done o i is.
             let other : o .process ≡ sender c .process → ⊥ = λ h. other-process (d .message) (c .message) e b u (sym is ∙ h) in
             (exit-left c done .open-left o i other, exit-left c done .lock-left o i other);
       };
