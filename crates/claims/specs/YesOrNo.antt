@@ -1,5 +1,5 @@
--- What a message gives by document 01 alone, where a conflict is yes or no: no holder, no place. What CR 2 of document 02 moved is restated here, all
--- else is cited. Assumes nothing.
+-- What a message gives without CR 2 of document 02, where a conflict is yes or no, as in document 01: no holder, no place. What CR 2 moved is restated
+-- here, all else is cited. Assumes nothing.
 use Prim.Native.Nat.{ℕ, _+_, _*_}
 use mathlib.Core.Bool.{Bool, cond, not, _||_}
 use mathlib.Core.List.{List, [], _∷_, _++_}

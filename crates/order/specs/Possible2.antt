@@ -11,7 +11,7 @@ use Rattle.wire.specs.LittleEndian.{le16At, le32At}
 use Rattle.locks.specs.Range.{overlaps, passesEnd}
 use Rattle.locks.specs.Wire.{rangeSize, numberAt, rangeFrom, rangeAt, rangesAt}
 use Rattle.locks.specs.Answer.{owns, bars, inWay, named, answersFor, answers}
-use Rattle.locks.specs.Request.{askOf, lockOf, holderAt, removeAt, afterFind, releaseAll, afterWalk, grantAll, afterGrants, rangePasses, afterReleases, request, settle, locking}
+use Rattle.locks.specs.Request.{ofHeader, rangesOf, askOf, lockOf, holderAt, removeAt, afterFind, releaseAll, afterWalk, grantAll, afterGrants, rangePasses, afterReleases, request, settle, locking}
 use Rattle.locks.specs.declared.types.Holder.{Holder}
 use Rattle.soundness.specs.File.{fileOf}
 use Rattle.soundness.specs.Lookup.{isTree}
@@ -52,7 +52,7 @@ unfolding twoAsked
 two-answerable = answerable twoRanges (plant 2 1) (plant-good .2) kept
 
 two-given : (answered 5 twoRanges (plant 2 1) (replicate 65536 0) .holder ≡ held-by firstRange) × (answered 5 twoRanges (plant 2 1) (replicate 65536 0) .tables ≡ plant 2 1)
-unfolding twoRanges firstRange plant blocks blocksFrom blocksWithin afterParse afterBlock before parse parseLocking answer lockingFits linkFits linkAt mayFollow shaped bare isLarge le16At le32At rangeSize answered served runChain run afterGiven perform doLocking withOpen withTree withSession isSession isTree isOpen openAt found foundFrom any servedType requestOf lockingAfter lockingEnd locking rangesAt rangeFrom rangeAt numberAt request afterReleases afterGrants grantAll afterWalk releaseAll afterFind removeAt rangePasses passesEnd askOf lockOf holderAt holderOf answers answersFor inWay bars named owns overlaps settle stored fileOf callerOf areaOf dataOf
+unfolding twoRanges firstRange plant blocks blocksFrom blocksWithin afterParse afterBlock before parse parseLocking answer lockingFits linkFits linkAt mayFollow shaped bare isLarge le16At le32At rangeSize answered served runChain run afterGiven perform doLocking withOpen withTree withSession isSession isTree isOpen openAt found foundFrom any servedType requestOf lockingAfter lockingEnd locking rangesOf ofHeader rangesAt rangeFrom rangeAt numberAt request afterReleases afterGrants grantAll afterWalk releaseAll afterFind removeAt rangePasses passesEnd askOf lockOf holderAt holderOf answers answersFor inWay bars named owns overlaps settle stored fileOf callerOf areaOf dataOf
 two-given = (refl, refl)
 
 -- that range is the holder, and its lock is undone: no table is changed
