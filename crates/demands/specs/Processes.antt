@@ -55,8 +55,8 @@ pub record RangeProcess (s : List ℕ) (k : ℕ) (r : LockRange) : Type 0 where
 
 -- what a PROCESS_EXIT of that UID and process leaves and removes: "the opens of that UID and process", with their locks
 pub record ExitLeaves (uid process : ℕ) (t after : Tables) : Type 0 where
-  pub open-left : (o : Open) → In o (opensOf t) → (o .process ≡ process → ⊥) → In o (opensOf after)
-  pub lock-left : (o : Open) → In o (opensOf t) → (o .process ≡ process → ⊥) → (l : Lock) → In l (locksOf t) → l .fid ≡ o .fid → In l (locksOf after)
+  pub open-left : (o : Open) → In o (opensOf t) → ((o .uid ≡ uid) × (o .process ≡ process) → ⊥) → In o (opensOf after)
+  pub lock-left : (o : Open) → In o (opensOf t) → ((o .uid ≡ uid) × (o .process ≡ process) → ⊥) → (l : Lock) → In l (locksOf t) → l .fid ≡ o .fid → In l (locksOf after)
   pub open-gone : (o : Open) → In o (opensOf after) → (o .uid ≡ uid) × (o .process ≡ process) → ⊥
   pub lock-gone : (o : Open) → In o (opensOf t) → (o .uid ≡ uid) × (o .process ≡ process) → (l : Lock) → In l (locksOf after) → l .fid ≡ o .fid → ⊥
 
@@ -204,10 +204,12 @@ exit-leaves uid process t after ok e =
     named : Open → Bool
     named o = eqb (o .uid) uid && eqb (o .process) process
 
-    left : (o : Open) → In o (opensOf t) → (o .process ≡ process → ⊥) → In o (opensOf after)
+    left : (o : Open) → In o (opensOf t) → ((o .uid ≡ uid) × (o .process ≡ process) → ⊥) → In o (opensOf after)
     left o i n =
-        rw (e .opens) (was-kept (λ o. not (named o)) i
-        (not-holds (named o) (fails (named o) (λ h. n (eqb-true (o .process) process (both-hold (eqb (o .uid) uid) (eqb (o .process) process) h .1))))))
+        let other : named o ≡ true → ⊥ = λ h.
+        let both = both-hold (eqb (o .uid) uid) (eqb (o .process) process) h in
+        n (eqb-true (o .uid) uid (both .0), eqb-true (o .process) process (both .1)) in
+        rw (e .opens) (was-kept (λ o. not (named o)) i (not-holds (named o) (fails (named o) other)))
 
     was : (o : Open) → In o (opensOf after) → In o (opensOf t)
     was o i = kept-was (λ o. not (named o)) (opensOf t) (rw (e .opens) at i) .0

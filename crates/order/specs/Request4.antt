@@ -66,7 +66,7 @@ pub record DifferentOwners : Type 0 where
       → (o : Open) → ValidOpen c o → ((l : Lock) → In l (locksOf (c .tables)) → l .process / 65536 ≡ le16At (c .message) 12 → ⊥) → Says c 1 158
 
 -- "A bench that numbers its processes beyond 65,535 lost its opens when another process on it ended"; "PROCESS_EXIT .. use them all": PROCESS_EXIT, alone in its message,
--- leaves the opens of every other process and the locks through them, as they were, and removes those of its own
+-- leaves every open but those of its UID and process, with the locks through them, as they were, and removes those of its UID and process
 pub record ExitOfOne : Type 0 where
   pub left-and-gone : (c : Call) → DoneAlone c PROCESS_EXIT → ExitLeaves (le16At (c .message) 28) (sender c .process) (c .tables) (gives c .tables)
   -- of a process d that differs in the upper half only
@@ -115,6 +115,6 @@ request-4 =
         left-and-gone = exit-left;
         other-left = λ c d b e u done o i is.
             let other : o .process ≡ sender c .process → ⊥ = λ h. other-process (d .message) (c .message) e b u (sym is ∙ h) in
-            (exit-left c done .open-left o i other, exit-left c done .lock-left o i other);
+            (exit-left c done .open-left o i (λ h. other (h .1)), exit-left c done .lock-left o i (λ h. other (h .1)));
       };
     }
