@@ -178,7 +178,7 @@ served-true (andxServed write-andx) = refl
 served-true (andxServed logoff-andx) = refl
 
 -- the same caller
-alone-caller : (connection : ℕ) (s : List ℕ) (b : Block) → 32 ≤ length s → callerOf connection (alone s b) ≡ callerOf connection s
+pub alone-caller : (connection : ℕ) (s : List ℕ) (b : Block) → 32 ≤ length s → callerOf connection (alone s b) ≡ callerOf connection s
 unfolding callerOf le16At
 alone-caller connection s b long =
     let n : (k : ℕ) → 12 ≤ k → k < 32 → byteAt (alone s b) k ≡ byteAt s k = λ k l h. alone-header s b long k h (λ e. omega arith) in

@@ -1,11 +1,12 @@
--- Document 02, CR 4, "Two processes taken for one": the sender's process, that of a range, who owns a lock, and what PROCESS_EXIT leaves; said of the message's bytes.
--- Assumes nothing.
+-- Document 02, CR 4, "Two processes taken for one": the sender's process, that of a range, who owns a lock, who sends the messages of a chain's commands, and what
+-- PROCESS_EXIT leaves; said of the message's bytes. Assumes nothing.
 use mathlib.Core.Path.{_≡_, refl, sym, ap, _∙_}
 use mathlib.Core.Logic.{_↔_}
 use Prim.Native.Nat.{ℕ, suc, _+_, _-_, _*_, _/_, _%_, _^_, _≤_, _<_}
 use native.Mathlib.Omega.{arith}
 use mathlib.Core.Bool.{Bool, true, false, not, _&&_}
 use mathlib.Core.List.{List, [], _∷_, _++_, map, List·Memᴰ as In}
+use lib.ListN.{length}
 use lib.Dec.{eqb}
 use borrow.Author.Tests.{eqb-true, eq-eqb, not-true}
 use Rattle.lists.specs.Truth.{both-hold, hold-both, fails, not-decided-twice, not-holds}
@@ -20,10 +21,15 @@ use Rattle.numbers.specs.Column.{fidOf}
 use Rattle.locks.specs.Range.{Overlap}
 use Rattle.locks.specs.declared.types.LockRange.{LockRange}
 use Rattle.chain.specs.Layout.{LOCKING, READ, WRITE, headerCommand, FIRST, fidAfterAndx, readMax, dataLength, lockType, unlockCount, lockCount}
-use Rattle.chain.specs.Grammar.{Span, Reading}
+use Rattle.chain.specs.Grammar.{Span, ReadingFrom, plain-end, andx-end, andx-next, Reading}
+use Rattle.chain.specs.declared.block.Body.the-variants.{Logoff}
+use Rattle.chain.specs.declared.block.Next.the-variants.{End}
+use Rattle.chain.specs.declared.block.Block.{Block}
 use Rattle.soundness.specs.Sound.{sound}
 use Rattle.invariants.specs.Numbered.{named-one, one-named, numbered-same}
 use Rattle.invariants.specs.SoundParts.{sound-says}
+use Rattle.invariants.specs.BlockParse.{block-inside}
+use Rattle.invariants.specs.ReaderSound.{spanOf}
 use Rattle.invariants.specs.Fit.{Fit}
 use Rattle.message.specs.Caller.{callerOf}
 use Rattle.message.specs.Refusal.{status}
@@ -32,6 +38,8 @@ use Rattle.claims.specs.StreamKept.{Bytes}
 use Rattle.claims.specs.RemovalPlain.{Exited}
 use Rattle.demands.specs.Calls.{statusRead}
 use Rattle.demands.specs.Admitted.{Admitted}
+use Rattle.demands.specs.OneByOne.{alone-caller}
+use Rattle.demands.specs.SpansOneByOne.{aloneSpan, alone-span}
 use Rattle.demands.specs.LoneLock.{Owner}
 use Rattle.demands.specs.LoneCall.{FirstConflict}
 use Rattle.demands.specs.LockWords.{Named}
@@ -66,7 +74,7 @@ module _ (s : List ℕ) (b : Bytes s) where
   half : (at : ℕ) → le16At s at < 65536
   half at = le16-below s (b .small) at
 
-  -- "Opens and locks keep 32 bits", and the sender's process has no more
+  -- the sender's process has no more than 32 bits
   pub sender-32 : senderProcess s < 2 ^ 32
   sender-32 = let high = half 12 in let low = half 26 in omega arith
 
@@ -185,6 +193,21 @@ pub lock-taken : (connection : ℕ) (s : List ℕ) → Bytes s → (t : Tables) 
     → unlockCount s FIRST ≡ 0 → lockCount s FIRST ≡ 1 → LockTaken s (locksOf t) (locksOf (call .tables))
 lock-taken connection s b t memory call done none one =
     rw (done .held, ← (none-unlocked none (done .unlocked))) (one-locked b none one (done .locked))
+
+-- ---- the messages of a chain's commands
+
+-- a place from which a message is read is inside it
+place-inside : {s : List ℕ} {command at : ℕ} {spans : List Span} → ReadingFrom s command at spans → at ≤ length s
+place-inside (plain-end h p) = let i = block-inside h in omega arith
+place-inside (andx-end h a e) = let i = block-inside h in omega arith
+place-inside (andx-next h m e r) = let i = block-inside h in omega arith
+
+-- "the chain's header with the block's command": its sender is the chain's
+pub alone-sender : (connection : ℕ) (s : List ℕ) {spans : List Span} → Reading s spans → (x : Span) → callerOf connection (aloneSpan s x) ≡ callerOf connection s
+unfolding spanOf
+alone-sender connection s r x =
+    let b : Block = record { command = x .command; at = x .place; length = x .size; body = Logoff; next = End } in
+    ap (callerOf connection) (sym (alone-span s b)) ∙ alone-caller connection s b (place-inside r)
 
 -- ---- PROCESS_EXIT
 

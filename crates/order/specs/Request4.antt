@@ -3,31 +3,37 @@ use mathlib.Core.Path.{_≡_, sym, _∙_}
 use mathlib.Core.Logic.{_↔_}
 use Prim.Native.Nat.{ℕ, _+_, _*_, _/_, _^_, _≤_, _<_}
 use mathlib.Core.Bool.{false}
-use mathlib.Core.List.{List, List·Memᴰ as In}
+use mathlib.Core.List.{List, [], _∷_, _++_, List·Memᴰ as In}
 use Rattle.wire.specs.LittleEndian.{le16At}
 use Rattle.records.specs.declared.Open.{Open}
 use Rattle.records.specs.declared.Lock.{Lock}
+use Rattle.records.specs.declared.Tables.{Tables}
 use Rattle.records.specs.Held.{opensOf, locksOf}
 use Rattle.locks.specs.Range.{Overlap}
 use Rattle.locks.specs.declared.types.LockRange.{LockRange}
 use Rattle.chain.specs.Layout.{LOCKING, READ, WRITE, PROCESS_EXIT, headerCommand, FIRST, fidAfterAndx, readMax, dataLength, lockType, unlockCount, lockCount}
 use Rattle.chain.specs.Grammar.{Span, Reading}
 use Rattle.message.specs.Caller.{callerOf}
+use Rattle.host.specs.HostCall.{addOpen}
 use Rattle.claims.specs.StreamKept.{Bytes}
+use Rattle.claims.specs.HostFrames.{addOpen-frame}
+use Rattle.demands.specs.ReplyHeader.{reply-header as header-given}
+use Rattle.demands.specs.SpansOneByOne.{aloneSpan}
 use Rattle.demands.specs.LoneLock.{Owner}
 use Rattle.demands.specs.LockWords.{Named}
 use Rattle.demands.specs.CommandReasons.{OnlyTwoBits}
 use Rattle.demands.specs.WireFields.{readFrom, writeFrom}
 use Rattle.demands.specs.Effects.{exit-reading}
 use Rattle.demands.specs.LockEffects.{RangeOn, GrantedLock, locking-reading}
-use Rattle.demands.specs.Processes.{UpperHalvesDiffer, RangeProcess, LockTaken, ExitLeaves, sender-process, sender-32, same-process, other-process, range-process, lock-taken, not-own, bars-read, bars-write, names-not, unlock-refused, exit-leaves}
-use Rattle.order.specs.Call.{Call, gives, Answerable, OneCommand, Says, sender}
-use Rattle.order.specs.Demand2.{DoneAlone, ValidOpen, RefusedForConflict}
+use Rattle.demands.specs.Processes.{UpperHalvesDiffer, RangeProcess, LockTaken, ExitLeaves, sender-process, sender-32, same-process, other-process, range-process, lock-taken, not-own, bars-read, bars-write, names-not, unlock-refused, alone-sender, exit-leaves}
+use Rattle.order.specs.Call.{Call, gives, Answerable, OneCommand, Says, sender, sending}
+use Rattle.order.specs.Demand2.{ReplyHeader, DoneAlone, ValidOpen, RefusedForConflict}
 
--- A message is a list of bytes (below 256) where a sentence is on halves: PIDHigh, at 12, and PIDLow, at 26, have 16 bits each. Demand 2's sentences on PROCESS_EXIT, on
--- reads and writes and on the ranges of a LOCKING say the sender's whole process without that (Demand2.antt; demands/specs/WireFields.antt: `senderProcess`).
+-- A message is a list of bytes (below 256, which the type says of code) where a sentence is on halves: PIDHigh, at 12, and PIDLow, at 26, have 16 bits each. Demand 2's
+-- sentences on PROCESS_EXIT, on reads and writes and on the ranges of a LOCKING say the sender's whole process without that (Demand2.antt; demands/specs/WireFields.antt:
+-- `senderProcess`).
 
--- "Now a request's process is PIDHigh × 65,536 + PIDLow"; "Opens and locks keep 32 bits": two messages have the same process exactly if both halves are equal
+-- "Now a request's process is PIDHigh × 65,536 + PIDLow": two messages have the same process exactly if both halves are equal
 pub record WholeProcess : Type 0 where
   pub both-halves : (c : Call) → sender c .process ≡ 65536 * le16At (c .message) 12 + le16At (c .message) 26
   pub no-more-bits : (c : Call) → Bytes (c .message) → sender c .process < 2 ^ 32
@@ -35,12 +41,16 @@ pub record WholeProcess : Type 0 where
       → (sender c .process ≡ sender d .process) ↔ ((le16At (c .message) 12 ≡ le16At (d .message) 12) × (le16At (c .message) 26 ≡ le16At (d .message) 26))
 
 -- "a 16-bit process in a lock range takes its upper half from the header": the k-th range of a LOCKING, of its unlocks and of its locks, in both forms (what is a range of
--- the message: demands/specs/LockEffects.antt, `RangeOn`, by which demand 2 says what a LOCKING unlocks and locks); and a lock alone in its request that is done stands
--- behind those held, with that process
+-- the message: demands/specs/LockEffects.antt, `RangeOn`, by which demand 2 says what a LOCKING unlocks and locks). "the pad of the 20-byte form is not looked at": demand
+-- 3's `UnreadBytes` (readings/specs/Unread.antt: `unread-pad`).
 pub record WholeRange : Type 0 where
   pub of-range : (c : Call) → Bytes (c .message) → (k : ℕ) (r : LockRange) → RangeOn (c .message) k r → RangeProcess (c .message) k r
+  -- "Opens and locks keep 32 bits": a lock alone in its request that is done stands behind those held, with that process
   pub taken : (c : Call) → Bytes (c .message) → DoneAlone c LOCKING → unlockCount (c .message) FIRST ≡ 0 → lockCount (c .message) FIRST ≡ 1
       → LockTaken (c .message) (locksOf (c .tables)) (locksOf (gives c .tables))
+  -- and an open that the host adds, behind those there are, with the process that the host gives
+  pub open-keeps : (t : Tables) (uid tid process file access : ℕ) → addOpen t uid tid process file access .number ≡ 0
+      → (o : Open) × (opensOf (addOpen t uid tid process file access .tables) ≡ opensOf t ++ (o ∷ [])) × (o .process ≡ process)
 
 -- "unlock, the owner test .. use them all": two requests whose process numbers differ only in the upper half are different owners. d is the message of the one, who
 -- holds the lock l, c the other's.
@@ -74,11 +84,19 @@ pub record ExitOfOne : Type 0 where
       → (o : Open) → In o (opensOf (c .tables)) → o .process ≡ sender d .process
       → In o (opensOf (gives c .tables)) × ((l : Lock) → In l (locksOf (c .tables)) → l .fid ≡ o .fid → In l (locksOf (gives c .tables)))
 
+-- "demands 2 and 3 use them all": demand 2's sentences say the sender's process, and the messages of a chain's commands, of which demand 3 speaks (and demand 1, by which
+-- the holder in a chain is that of its command's message), have the chain's sender
+abbrev pub SameSender : Type 0
+SameSender = (c : Call) (spans : List Span) → Reading (c .message) spans → (x : Span) → In x spans → sender (sending c (aloneSpan (c .message) x)) ≡ sender c
+
 pub record Request4 : Type 0 where
   pub whole-process : WholeProcess
   pub whole-range : WholeRange
   pub different-owners : DifferentOwners
   pub exit-of-one : ExitOfOne
+  pub same-sender : SameSender
+  -- "Reply bytes don't change": the header is document 01's, PIDHigh copied
+  pub replies : ReplyHeader
 
 -- ---- the proof: each line cites the theorem that does the work
 
@@ -100,6 +118,9 @@ request-4 =
         taken = λ c b d none one.
             lock-taken (c .connection) (c .message) b (c .tables) (c .memory) (gives c)
             (locking-reading (c .connection) (c .message) (d .1 .reading) (c .tables) (c .memory) (c .room) (d .0 .good) (d .0 .fit) (d .2) (d .1 .is)) none one;
+        open-keeps = λ t uid tid process file access done.
+            let a = addOpen-frame t uid tid process file access done in
+            (a .new, a .opens, a .its-process);
       };
       different-owners = record {
         not-its-own = λ c d b e u. not-own (d .message) (c .message) e b u;
@@ -117,4 +138,6 @@ request-4 =
             let other : o .process ≡ sender c .process → ⊥ = λ h. other-process (d .message) (c .message) e b u (sym is ∙ h) in
             (exit-left c done .open-left o i (λ h. other (h .1)), exit-left c done .lock-left o i (λ h. other (h .1)));
       };
+      same-sender = λ c spans r x i. alone-sender (c .connection) (c .message) r x;
+      replies = λ c a. header-given (c .connection) (c .message) (c .tables) (c .memory) (c .room) (a .fit);
     }
