@@ -23,7 +23,7 @@ pub fn header_numbers(message: &[u8]) -> (u16, u16, u32) {
     )
 }
 
-/// The upper half of the process number, which ranges have of the header.
+/// The upper half of the process number, which ranges take from the header.
 pub fn pid_high(message: &[u8]) -> u16 {
     u16_at(message, PID_HIGH)
 }
@@ -31,14 +31,4 @@ pub fn pid_high(message: &[u8]) -> u16 {
 /// "a request's process is PIDHigh × 65,536 + PIDLow" (document 02, request 4).
 pub fn whole_process(high: u16, low: u16) -> u32 {
     u32::from(high) * 65_536 + u32::from(low)
-}
-
-/// Two processes that differ in the upper half only.
-pub fn twins(one: u32, other: u32) -> bool {
-    one != other && one as u16 == other as u16
-}
-
-/// A process whose upper half is not 0.
-pub fn above_65_535(process: u32) -> bool {
-    process > 0xFFFF
 }

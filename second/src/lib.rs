@@ -19,6 +19,7 @@ pub mod host;
 pub mod listing;
 pub mod message;
 pub mod messages;
+pub mod processes;
 pub mod refusals;
 pub mod reply;
 pub mod request;

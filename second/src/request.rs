@@ -90,8 +90,8 @@ fn small_range(bytes: &[u8]) -> Range {
     }
 }
 
-/// "process 2, pad 2, offset high 4, low 4, length high 4, low 4"; "the pad of
-/// the 20-byte form is not looked at".
+/// "process 2, pad 2, offset high 4, low 4, length high 4, low 4"; the pad is
+/// not looked at (docs/DECISIONS.md, 76).
 fn large_range(bytes: &[u8]) -> Range {
     Range {
         offset: high_and_low(u32_at(bytes, 4), u32_at(bytes, 8)),

@@ -5,7 +5,8 @@
 use crate::sides::Given;
 use crate::tally::{commands, enough, status};
 use second::grammar::{blocks, LOCKING_ANDX, READ_ANDX, WRITE_ANDX};
-use second::header::{above_65_535, header_numbers, twins};
+use second::header::header_numbers;
+use second::processes::{above_65_535, twins};
 use second::refusals::WireRefusal;
 use second::request::{OwnedRange, Request, TYPE_SHARED};
 use second::tables::{Lock, Range, Tables};

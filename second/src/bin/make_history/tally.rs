@@ -6,9 +6,10 @@ use second::grammar::{
     blocks, Block, Why, CLOSE, LOCKING_ANDX, LOGOFF_ANDX, PROCESS_EXIT, READ_ANDX, SERVED,
     TREE_DISCONNECT, WRITE_ANDX,
 };
-use second::header::{above_65_535, header_numbers, twins};
+use second::header::header_numbers;
 use second::listing::{self, Dropped};
 use second::messages::SUCCESSIONS;
+use second::processes::{above_65_535, twins};
 use second::refusals::WireRefusal;
 use second::request::{Ranges, Request, TYPE_LARGE};
 use second::tables::{Lock, Range, Tables, FILE_BYTES, LOCKS, OPENS, SESSIONS, TREES};
