@@ -73,7 +73,7 @@ struct gateway_open {
 
 struct gateway_lock {
     uint64_t fid;     /* its open's; fits up to 65,535 */
-    uint64_t process; /* the owner's: the 16 bits of its range, PIDHigh above them; fits up to 4,294,967,295 */
+    uint64_t process; /* its range's 16 bits, above them PIDHigh of the request that took it; fits up to 4,294,967,295 */
     uint64_t offset;  /* the first byte locked */
     uint64_t length;  /* how many bytes */
     uint64_t shared;  /* 1 shared, 0 exclusive; nothing else fits */

@@ -1,5 +1,5 @@
--- The fields of a message's first block, which stands at 32, where the layout has them, and the step from a reading to the reader's block with these
--- fields. Assumes nothing.
+-- The fields of the header and of a message's first block, which stands at 32, where the layout has them, and the step from a reading to the reader's block
+-- with these fields. Assumes nothing.
 use mathlib.Core.Path.{_≡_, refl, ap, _∙_}
 use Prim.Native.Nat.{ℕ, _+_, _*_, _/_}
 use native.Mathlib.Omega.{arith}

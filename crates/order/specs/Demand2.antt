@@ -72,7 +72,8 @@ pub record HostCallsDone : Type 0 where
 
 -- ---- locks
 
--- the range of the first block's first lock, and whether it is to be shared: "Type bit 0x01 means shared"
+-- the range of the first block's first lock, as the wire has it: its process is the 16 bits there, and only its offset and length are used; and whether it is to be shared:
+-- "Type bit 0x01 means shared"
 abbrev pub rangeAsked : Call → LockRange
 rangeAsked c = loneRange (lockingFields (c .message)) (lockingArea (c .message))
 
