@@ -95,12 +95,16 @@ pub data WriteStatus (c : Caller) (t : Tables) (f : WriteFields) : Status → Ty
 abbrev pub OnlyTwoBits : ℕ → Type 0
 OnlyTwoBits kind = kind ≡ kind % 2 + kind / 16 % 2 * 16
 
--- the request's unlocks and locks, each with the upper half of the caller's process (document 02, CR 4)
+-- n ranges of a request of that process, from the k-th on, each with the upper half of the process (document 02, CR 4)
+abbrev pub rangesBy : ℕ → LockingFields → List ℕ → ℕ → ℕ → List LockRange
+rangesBy process f area k n = map (ofHeader (process / 65536)) (rangesAt (eqb (f .kind / 16 % 2) 1) area k n)
+
+-- the unlocks and the locks
 abbrev pub unlocksIn : Caller → LockingFields → List ℕ → List LockRange
-unlocksIn c f area = map (ofHeader (c .process / 65536)) (rangesAt (eqb (f .kind / 16 % 2) 1) area 0 (f .unlocks))
+unlocksIn c f area = rangesBy (c .process) f area 0 (f .unlocks)
 
 abbrev pub locksIn : Caller → LockingFields → List ℕ → List LockRange
-locksIn c f area = map (ofHeader (c .process / 65536)) (rangesAt (eqb (f .kind / 16 % 2) 1) area (f .unlocks) (f .locks))
+locksIn c f area = rangesBy (c .process) f area (f .unlocks) (f .locks)
 
 -- LOCKING: "2/65535 lock type bit other than 0x01 and 0x10; 1/158 no such lock to release; 1/87 lock range passes 2^64; 1/33 lock conflict; 1/8 no lock record free"
 pub data LockingStatus (c : Caller) (t : Tables) (f : LockingFields) (area : List ℕ) : Status → Type 0 where

@@ -2,13 +2,12 @@
 -- alone in its request the first listed lock that is in the way. Assumes nothing.
 use mathlib.Core.Path.{_≡_, refl, sym, ap, _∙_}
 use mathlib.Core.Logic.{_↔_}
-use Prim.Native.Nat.{ℕ, _+_, _/_, _%_, _^_, _<_}
+use Prim.Native.Nat.{ℕ, _+_, _/_, _^_, _<_}
 use native.Mathlib.Nat.{add-zero}
 use native.Mathlib.Omega.{arith}
 use mathlib.Core.Bool.{Bool, true, false}
-use mathlib.Core.List.{List, [], _∷_, map, List·Memᴰ as In, List·Memᴰ·eq-of-singleton as only-one}
+use mathlib.Core.List.{List, [], _∷_, List·Memᴰ as In, List·Memᴰ·eq-of-singleton as only-one}
 use mathlib.Core.Option.{some}
-use lib.Dec.{eqb}
 use Rattle.records.specs.declared.Open.{Open}
 use Rattle.records.specs.declared.Lock.{Lock}
 use Rattle.records.specs.declared.Tables.{Tables}
@@ -44,7 +43,7 @@ use Rattle.demands.specs.LoneLock.{Conflicts, Owner, loneRange, sharedIn
 use Rattle.demands.specs.LoneCall.{WithinRange, first-given, first-conflict, alone-conflict, lockingFields, lockingArea}
 use Rattle.demands.specs.Admitted.{Admitted}
 use Rattle.demands.specs.LockWords.{Released, none-to-release, release-then, PastEnd, AllGranted, none-to-grant, grant-then}
-use Rattle.demands.specs.CommandReasons.{Announced, OnlyTwoBits, locksIn}
+use Rattle.demands.specs.CommandReasons.{Announced, OnlyTwoBits, rangesBy, locksIn}
 use Rattle.demands.specs.RefusedCall.{step-refused, Untouched, short-refusal}
 use Rattle.demands.specs.ChainReasons.{AllAnnounced, next-announced, chained-announced}
 use Rattle.demands.specs.WireFields.{senderProcess, readFrom, writeFrom, reading-first, one-first, first-body, first-area}
@@ -140,10 +139,7 @@ LoneHeld t o f area h =
     FirstInWay t o (locksOf t) (loneRange f area .offset) (loneRange f area .length) (λ l. (l .shared ≡ true) × (sharedIn f ≡ true) → ⊥) h
 
 module _ {c : Caller} {t : Tables} (ok : sound t ≡ true) (f : LockingFields) (area : List ℕ) {o : Open} (a : Admitted c t (f .fid) o) (none-out : f .unlocks ≡ 0) (one : f .locks ≡ 1) where
-  abbrev large : Bool
-  large = eqb (f .kind / 16 % 2) 1
-
-  of-none : (k n : ℕ) → n ≡ 0 → map (ofHeader (c .process / 65536)) (rangesAt large area k n) ≡ []
+  of-none : (k n : ℕ) → n ≡ 0 → rangesBy (c .process) f area k n ≡ []
   unfolding rangesAt
   of-none k n e = rw e
 

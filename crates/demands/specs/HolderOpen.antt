@@ -1,13 +1,12 @@
 -- Whose lock it is (document 02, CR 2: "the host gets the holder's FID and process beside the reply"; "A lock granted earlier in the same request may be the answer").
 -- Assumes nothing.
 use mathlib.Core.Path.{_≡_, sym, ap, _∙_}
-use Prim.Native.Nat.{ℕ, _+_, _-_, _/_, _%_, _≤_, _<_}
+use Prim.Native.Nat.{ℕ, _+_, _-_, _≤_, _<_}
 use native.Mathlib.Omega.{arith}
 use mathlib.Core.Bool.{Bool}
 use mathlib.Core.List.{List, [], _∷_, _++_, map, append-nil, append-assoc, List·Memᴰ as In}
 use lib.ListN.{length, getD, length-append, List·getD-append}
 use lib.Seq.{getD-append-add}
-use lib.Dec.{eqb}
 use Rattle.lists.specs.Members.{map-in}
 use Rattle.lists.specs.PairLaws.{place-in}
 use Rattle.records.specs.declared.Session.{Session}
@@ -17,8 +16,7 @@ use Rattle.records.specs.declared.Tables.{Tables}
 use Rattle.records.specs.Empty.{noLock}
 use Rattle.records.specs.Held.{sessionsOf, opensOf, locksOf}
 use Rattle.numbers.specs.Column.{uidOf, fidOf}
-use Rattle.locks.specs.Wire.{rangesAt}
-use Rattle.locks.specs.Request.{lockOf, ofHeader}
+use Rattle.locks.specs.Request.{lockOf}
 use Rattle.locks.specs.declared.types.LockRange.{LockRange}
 use Rattle.locks.specs.declared.types.Holder.{Holder}
 use Rattle.chain.specs.declared.block.LockingFields.{LockingFields}
@@ -32,6 +30,7 @@ use Rattle.message.specs.declared.caller.Caller.{Caller}
 use Rattle.message.specs.declared.refusal.HeldBy.the-variants.{Holder as held-by}
 use Rattle.demands.specs.LoneLock.{sharedIn}
 use Rattle.demands.specs.LockWords.{released-was, AllGranted, none-to-grant, grant-then}
+use Rattle.demands.specs.CommandReasons.{rangesBy}
 use Rattle.demands.specs.HolderExactly.{call, held-fit}
 use Rattle.demands.specs.HolderWords.{LockHeld, CommandHeld, read-held, write-held, lock-held}
 use Rattle.demands.specs.HolderStands.{holder-exact, held-then}
@@ -41,14 +40,14 @@ use Rattle.demands.specs.HolderStands.{holder-exact, held-then}
 -- an own earlier range as holder, the request's FID and that range's process: a range of a LOCKING before the one that met it, by its lock's fields
 pub record OwnRange (c : Caller) (f : LockingFields) (area : List ℕ) (granted : ℕ) (l : Lock) : Type 0 where
   pub range : LockRange
-  pub earlier : In range (map (ofHeader (c .process / 65536)) (rangesAt (eqb (f .kind / 16 % 2) 1) area (f .unlocks) granted))
+  pub earlier : In range (rangesBy (c .process) f area (f .unlocks) granted)
   pub of-fid : l .fid ≡ f .fid
   pub of-process : l .process ≡ range .process
   pub of-offset : l .offset ≡ range .offset
   pub of-length : l .length ≡ range .length
   pub of-shared : l .shared ≡ sharedIn f
 
-own-range : (c : Caller) (f : LockingFields) (area : List ℕ) (granted : ℕ) (l : Lock) (r : LockRange) → In r (map (ofHeader (c .process / 65536)) (rangesAt (eqb (f .kind / 16 % 2) 1) area (f .unlocks) granted))
+own-range : (c : Caller) (f : LockingFields) (area : List ℕ) (granted : ℕ) (l : Lock) (r : LockRange) → In r (rangesBy (c .process) f area (f .unlocks) granted)
     → lockOf (f .fid) (sharedIn f) r ≡ l → OwnRange c f area granted l
 unfolding lockOf
 own-range c f area granted l r m e =
@@ -70,7 +69,7 @@ granted-list {fid = fid} {shared = shared} (grant-then {r} {rs} {list} free more
 
 module _ {c : Caller} {t : Tables} {f : LockingFields} {area : List ℕ} {h : Holder} (r : LockHeld c t f area h) where
   abbrev own : List Lock
-  own = map (lockOf (f .fid) (sharedIn f)) (map (ofHeader (c .process / 65536)) (rangesAt (eqb (f .kind / 16 % 2) 1) area (f .unlocks) (r .held .granted)))
+  own = map (lockOf (f .fid) (sharedIn f)) (rangesBy (c .process) f area (f .unlocks) (r .held .granted))
 
   -- "the list as it then stands": those left, and behind them the own earlier ranges
   as-it-stands : r .held .standing ≡ r .left ++ own
@@ -88,7 +87,7 @@ module _ {c : Caller} {t : Tables} {f : LockingFields} {area : List ℕ} {h : Ho
       let m : h .place - length (r .left) < length own = omega arith in
       let same : getD own (h .place - length (r .left)) noLock ≡ h .lock =
       sym (getD-append-add (r .left) own (h .place - length (r .left)) noLock) ∙ ap (λ (k : ℕ). getD (r .left ++ own) k noLock) (sym split) ∙ there-is in
-      let w = map-in (lockOf (f .fid) (sharedIn f)) (map (ofHeader (c .process / 65536)) (rangesAt (eqb (f .kind / 16 % 2) 1) area (f .unlocks) (r .held .granted))) (place-in noLock own (h .place - length (r .left)) m) in
+      let w = map-in (lockOf (f .fid) (sharedIn f)) (rangesBy (c .process) f area (f .unlocks) (r .held .granted)) (place-in noLock own (h .place - length (r .left)) m) in
       own-range c f area (r .held .granted) (h .lock) (w .0) (w .1) (w .2 ∙ same)
 
   -- a place before that is one of the locks held

@@ -6,7 +6,7 @@ use mathlib.Core.Logic.{_↔_}
 use Prim.Native.Nat.{ℕ, zero, suc, min, _+_, _*_, _/_, _%_, _≤_, _<_}
 use native.Mathlib.Omega.{arith}
 use mathlib.Core.Bool.{Bool, true, false}
-use mathlib.Core.List.{List, [], _∷_, _++_, map}
+use mathlib.Core.List.{List, [], _∷_, _++_}
 use lib.ListN.{length, drop, length-take}
 use lib.Seq.{getD-take, getD-drop}
 use lib.Dec.{eqb}
@@ -39,11 +39,11 @@ use Rattle.demands.specs.LoneLock.{InWay, sharedIn}
 use Rattle.demands.specs.LoneCall.{area-first, lockingFields, lockingArea}
 use Rattle.demands.specs.LockWords.{TakenOut, Released, none-to-release, release-then, AllGranted, none-to-grant, grant-then}
 use Rattle.demands.specs.LockLeaves.{locking-leaves}
-use Rattle.demands.specs.CommandReasons.{Announced}
+use Rattle.demands.specs.CommandReasons.{Announced, rangesBy}
 use Rattle.demands.specs.ReasonCalls.{one-announced}
 use Rattle.demands.specs.DoneCall.{past-open}
 use Rattle.demands.specs.CallEffects.{gives-body, the-command}
-use Rattle.demands.specs.WireFields.{upperHalf, FirstBlock, one-first, first-body, first-area}
+use Rattle.demands.specs.WireFields.{senderProcess, upperHalf, FirstBlock, one-first, first-body, first-area}
 
 -- ---- the plain words
 
@@ -130,7 +130,7 @@ module _ (s : List ℕ) where
   rangeIn k = ofHeader (upperHalf s) (rangeAt large area k)
 
   abbrev pub rangesIn : ℕ → ℕ → List LockRange
-  rangesIn k m = map (ofHeader (upperHalf s)) (rangesAt large area k m)
+  rangesIn k m = rangesBy (senderProcess s) (lockingFields s) area k m
 
   range-on-by : (b : Bool) → large ≡ b → (n : ℕ) → n * rangeSize b ≤ byteCount s FIRST → (k : ℕ) → k < n → RangeOn s k (ofHeader (upperHalf s) (rangeAt b area k))
   unfolding ofHeader rangeAt rangeFrom numberAt rangeSize
