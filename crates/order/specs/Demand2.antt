@@ -12,6 +12,7 @@ use Rattle.locks.specs.Range.{Overlap}
 use Rattle.locks.specs.declared.types.LockRange.{LockRange}
 use Rattle.chain.specs.Layout.{LOCKING, READ, WRITE, CLOSE, LOGOFF, TREE_DISCONNECT, PROCESS_EXIT, headerCommand, FIRST, fidAfterAndx, lockType, unlockCount, lockCount, closeFid}
 use Rattle.chain.specs.Grammar.{Span, Reading, Sentence}
+use Rattle.message.specs.Caller.{callerOf}
 use Rattle.claims.specs.Cases.{message, table, cases}
 use Rattle.demands.specs.SentenceCases.{message-61-sentence, message-60-none, message-62-sentence}
 use Rattle.demands.specs.Admitted.{Admitted}
@@ -20,7 +21,6 @@ use Rattle.demands.specs.LoneLock.{OfFile, loneRange, sharedIn}
 use Rattle.demands.specs.LoneCall.{lockingFields, lockingArea, lone-lock-reading}
 use Rattle.demands.specs.ReplyHeader.{HeaderOf, reply-header as header-given}
 use Rattle.demands.specs.FirstReadings.{BarsReadOn, BarsWriteOn, first-read-reading, first-write-reading}
-use Rattle.demands.specs.WireFields.{senderProcess}
 use Rattle.demands.specs.Effects.{ReadDone, WriteDone, read-reading, write-reading, close-reading, disconnect-reading, logoff-reading, exit-reading}
 use Rattle.demands.specs.LockEffects.{LockingDone, locking-reading}
 use Rattle.claims.specs.RemovalPlain.{Closed, Disconnected, LoggedOff, Exited}
@@ -58,7 +58,7 @@ pub record CarriedOut : Type 0 where
   pub disconnect : (c : Call) → DoneAlone c TREE_DISCONNECT → Disconnected (le16At (c .message) 24) (c .tables) (gives c .tables) × (gives c .memory ≡ c .memory)
   pub logoff : (c : Call) → DoneAlone c LOGOFF → LoggedOff (le16At (c .message) 28) (c .tables) (gives c .tables) × (gives c .memory ≡ c .memory)
   pub exit : (c : Call) → DoneAlone c PROCESS_EXIT
-      → Exited (le16At (c .message) 28) (senderProcess (c .message)) (c .tables) (gives c .tables) × (gives c .memory ≡ c .memory)
+      → Exited (le16At (c .message) 28) (sender c .process) (c .tables) (gives c .tables) × (gives c .memory ≡ c .memory)
 
 -- what a host call leaves, and what stands
 pub record HostCallsDone : Type 0 where
@@ -126,6 +126,7 @@ pub record Demand2 : Type 0 where
 -- ---- the proof: each line cites the theorem that does the work
 
 pub demand-2 : Demand2
+unfolding callerOf
 demand-2 =
     record {
       starred-cases = record { rows = cases; case-1 = message-61-sentence; case-2 = message-60-none; case-3 = message-62-sentence };

@@ -10,6 +10,7 @@ use Rattle.records.specs.Held.{locksOf}
 use Rattle.locks.specs.declared.types.Holder.{Holder}
 use Rattle.chain.specs.Layout.{LOCKING, READ, WRITE, headerCommand, FIRST, fidAfterAndx, lockType, unlockCount, readMax, dataLength}
 use Rattle.chain.specs.Grammar.{Span, Reading}
+use Rattle.message.specs.Caller.{callerOf}
 use Rattle.message.specs.declared.refusal.HeldBy.the-variants.{Nobody, Holder as held-by}
 use Rattle.message.specs.Message.{run}
 use Rattle.invariants.specs.ReaderSound.{spanOf, reader-sound}
@@ -19,7 +20,7 @@ use Rattle.claims.specs.BeforeHolder.{withoutHolder, before-holder}
 use Rattle.demands.specs.LoneLock.{Owner}
 use Rattle.demands.specs.CommandReasons.{OnlyTwoBits}
 use Rattle.demands.specs.RefusedCall.{Untouched}
-use Rattle.demands.specs.WireFields.{senderProcess, readFrom, writeFrom}
+use Rattle.demands.specs.WireFields.{readFrom, writeFrom}
 use Rattle.demands.specs.HolderExactly.{holder-exactly, nobody-exactly, undone-nobody}
 use Rattle.demands.specs.HolderWords.{FirstInWay}
 use Rattle.demands.specs.HolderStands.{Met, holder-exact, tables-then}
@@ -50,11 +51,11 @@ pub record PlaceOfTheFirst : Type 0 where
   -- of a read "an exclusive lock of another owner" that "overlaps offset and max"; the owner is the message's FID with its sender's process
   pub read : (c : Call) (spans : List Span) (o : Open) (h : Holder) → Answerable c → Reading (c .message) spans → headerCommand (c .message) ≡ READ → ValidOpen c o → (o .access ≡ 1 → ⊥)
       → FirstMeets (gives c) h ↔ FirstInWay (c .tables) o (locksOf (c .tables)) (readFrom (c .message)) (readMax (c .message) FIRST)
-      (λ l. (l .shared ≡ false) × (Owner (fidAfterAndx (c .message) FIRST) (senderProcess (c .message)) l → ⊥)) h
+      (λ l. (l .shared ≡ false) × (Owner (fidAfterAndx (c .message) FIRST) (sender c .process) l → ⊥)) h
   -- of a write any that overlaps it "save the writer's own exclusive ones"
   pub write : (c : Call) (spans : List Span) (o : Open) (h : Holder) → Answerable c → Reading (c .message) spans → headerCommand (c .message) ≡ WRITE → ValidOpen c o → (o .access ≡ 0 → ⊥)
       → FirstMeets (gives c) h ↔ FirstInWay (c .tables) o (locksOf (c .tables)) (writeFrom (c .message)) (dataLength (c .message) FIRST)
-      (λ l. (l .shared ≡ false) × Owner (fidAfterAndx (c .message) FIRST) (senderProcess (c .message)) l → ⊥) h
+      (λ l. (l .shared ≡ false) × Owner (fidAfterAndx (c .message) FIRST) (sender c .process) l → ⊥) h
   -- a command alone in its message is its first
   pub alone : (c : Call) (span : Span) (h : Holder) → Answerable c → Reading (c .message) (span ∷ []) → gives c .holder ≡ held-by h → FirstMeets (gives c) h
 
@@ -102,6 +103,7 @@ pub record Request2 : Type 0 where
 -- ---- the proof: each line cites the theorem that does the work
 
 pub request-2 : Request2
+unfolding callerOf
 request-2 =
     record {
       place-of-the-first = record {

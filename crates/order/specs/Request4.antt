@@ -30,8 +30,8 @@ use Rattle.order.specs.Call.{Call, gives, Answerable, OneCommand, Says, 
 use Rattle.order.specs.Demand2.{ReplyHeader, DoneAlone, ValidOpen, RefusedForConflict}
 
 -- A message is a list of bytes (below 256, which the type says of code) where a sentence is on halves: PIDHigh, at 12, and PIDLow, at 26, have 16 bits each. Demand 2's
--- sentences on PROCESS_EXIT, on reads and writes and on the ranges of a LOCKING say the sender's whole process without that (Demand2.antt; demands/specs/WireFields.antt:
--- `senderProcess`).
+-- sentences on PROCESS_EXIT, on reads and writes and on the ranges of a LOCKING say the sender's whole process without that (Demand2.antt; of a message's bytes it is
+-- demands/specs/WireFields.antt's `senderProcess`).
 
 -- "Now a request's process is PIDHigh × 65,536 + PIDLow": two messages have the same process exactly if both halves are equal
 pub record WholeProcess : Type 0 where
