@@ -472,20 +472,21 @@ held = refl
 
 -- ---- what else the call leaves
 
--- two locks of type 0x11, shared and of 20 bytes each
+-- two locks of type 0x11, shared and of 20 bytes each, with pads that are not 0
 unfoldable pub sharedLocks : List ℕ
 sharedLocks =
     message 0x24 0x7F 0xFF
     (lockBlock 0xFF 0x11 0 2 40
-    ((0x51 ∷ 0x52 ∷ 0 ∷ 0 ∷ 1 ∷ 0 ∷ 0 ∷ 0 ∷ 2 ∷ 0 ∷ 0 ∷ 0 ∷ 3 ∷ 0 ∷ 0 ∷ 0 ∷ 4 ∷ 0 ∷ 0 ∷ 0 ∷ [])
-    ++ (0x61 ∷ 0x62 ∷ 0 ∷ 0 ∷ 0 ∷ 0 ∷ 0 ∷ 0 ∷ 5 ∷ 0 ∷ 0 ∷ 0 ∷ 0 ∷ 0 ∷ 0 ∷ 0 ∷ 6 ∷ 0 ∷ 0 ∷ 0 ∷ [])))
+    ((0x51 ∷ 0x52 ∷ 0x53 ∷ 0x54 ∷ 1 ∷ 0 ∷ 0 ∷ 0 ∷ 2 ∷ 0 ∷ 0 ∷ 0 ∷ 3 ∷ 0 ∷ 0 ∷ 0 ∷ 4 ∷ 0 ∷ 0 ∷ 0 ∷ [])
+    ++ (0x61 ∷ 0x62 ∷ 0x63 ∷ 0x64 ∷ 0 ∷ 0 ∷ 0 ∷ 0 ∷ 5 ∷ 0 ∷ 0 ∷ 0 ∷ 0 ∷ 0 ∷ 0 ∷ 0 ∷ 6 ∷ 0 ∷ 0 ∷ 0 ∷ [])))
 
 -- an unlock of 100 to 110, and a lock of 105 to 106
 unfoldable pub unlockAndLock : List ℕ
 unlockAndLock = message 0x24 0x7F 0xFF (lockBlock 0xFF 0 1 1 20 (range100 ++ (0x1A ∷ 0x1B ∷ 105 ∷ 0 ∷ 0 ∷ 0 ∷ 1 ∷ 0 ∷ 0 ∷ 0 ∷ [])))
 
--- "Type bit 0x01 means shared"; "Locks: process from the range", its upper half from the header. "Unlocks go first", and stand first in the area. "After 0, bytes of the reply room past
--- the reply's length are as they were." "Files: 16, numbered from 0, 4,096 bytes each": the bytes written are file 1's third and fourth.
+-- "Type bit 0x01 means shared"; "Locks: process from the range", its upper half from the header and not from the pad. "Unlocks go first", and stand first in the area.
+-- "After 0, bytes of the reply room past the reply's length are as they were." "Files: 16, numbered from 0, 4,096 bytes each": the bytes written are file 1's third and
+-- fourth.
 pub left : (taken fewRecords sharedLocks .tables .locks
     ≡ record { fid = 4; process = 0x0D0C5251; offset = 0x0000000100000002; length = 0x0000000300000004; shared = true }
     ∷ record { fid = 4; process = 0x0D0C6261; offset = 5; length = 6; shared = true }

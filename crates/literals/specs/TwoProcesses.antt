@@ -1,12 +1,13 @@
--- Document 02, CR 4, of whole calls: processes 1 and 65,537, which differ in the upper half only. Assumes nothing.
+-- Document 02, CR 4, of whole calls: processes 1, 65,537 and 131,073, which differ in the upper half only. Assumes nothing.
 use mathlib.Core.Path.{_≡_, refl}
 use Prim.Native.Nat.{ℕ}
 use mathlib.Core.Bool.{false}
-use mathlib.Core.List.{List, [], _∷_}
+use mathlib.Core.List.{List, [], _∷_, _++_}
 use Rattle.lists.specs.Walk.{any, all, allTails, keep, foundFrom, found}
 use Rattle.lists.specs.Put.{put}
 use Rattle.lists.specs.Stored.{stored}
 use Rattle.wire.specs.LittleEndian.{le16At, le32At}
+use Rattle.records.specs.declared.Lock.{Lock}
 use Rattle.records.specs.declared.Tables.{Tables}
 use Rattle.records.specs.Held.{withSessions, withTrees, withOpens, withLocks, withFiles}
 use Rattle.locks.specs.Range.{overlaps, passesEnd}
@@ -27,8 +28,8 @@ use Rattle.message.specs.Contents.{sizeOf, contents, readBytes, written, resize
 use Rattle.message.specs.Command.{isSession, withSession, withTree, isOpen, openAt, withOpen, servedType, requestOf, withLockList, lockingEnd, lockingAfter, doLocking, askBy, unlessBarred, barring, doRead, endsPast, doWrite, perform}
 use Rattle.message.specs.Reply.{two, replyHeader, linkWords, replyBlock, refusedBlock, replySize}
 use Rattle.message.specs.Message.{areaOf, dataOf, after, linkTo, afterGiven, run, served, onlyStatus, runChain, answered, replyOf, replied, take-message}
-use Rattle.literals.specs.State.{session, tree, open-of, sizes, tablesWith, memory}
-use Rattle.literals.specs.Replies.{message, lockBlock, readBlock, writeBlock, taken, Given, given, reply, success, refusal, opened, lock, heldAt, rangeOf}
+use Rattle.literals.specs.State.{session, tree, open-of, sizes, tablesWith, fewRecords, memory}
+use Rattle.literals.specs.Replies.{message, lockBlock, range100, lock100, readBlock, writeBlock, taken, Given, given, reply, success, lockReadReply, refusal, opened, lock, heldAt, rangeOf}
 use Rattle.records.specs.Empty.{noOpen, noLock}
 
 -- that message, or reply, with those bytes in PIDHigh and PIDLow: of process high × 65,536 + low
@@ -50,35 +51,58 @@ readOf2 = message 0x2E 0x7F 0xFF (readBlock 4)
 unfoldable pub writeTo2 : List ℕ
 writeTo2 = message 0x2F 0x7F 0xFF (writeBlock 0xFF 2 0)
 
--- the tables after process 65,537 took the lock
-unfoldable pub lockedBy65537 : Tables
-lockedBy65537 = taken (opened 2 []) (sentBy 1 1 (rangeOf1 0 1)) .tables
+-- the same range of 20 bytes, with a pad that is not 0
+unfoldable pub longOf1 : ℕ → ℕ → List ℕ
+longOf1 unlocks locks =
+    message 0x24 0x7F 0xFF
+    (lockBlock 0xFF 0x10 unlocks locks 20 (1 ∷ 0 ∷ 0x53 ∷ 0x54 ∷ 0 ∷ 0 ∷ 0 ∷ 0 ∷ 2 ∷ 0 ∷ 0 ∷ 0 ∷ 0 ∷ 0 ∷ 0 ∷ 0 ∷ 10 ∷ 0 ∷ 0 ∷ 0 ∷ []))
 
--- "a 16-bit process in a lock range takes its upper half from the header": the lock is process 65,537's. It is in the way of process 1's read and write through the same
--- FID, and the holder is process 65,537; process 1's unlock names no lock. Process 65,537 reads, writes and unlocks.
-pub not-its-own : (lockedBy65537 .locks ≡ lock 65537 2 10 ∷ [])
-    × (given lockedBy65537 (sentBy 0 1 readOf2) ≡ repliedTo 0 1 (heldAt 4 65537 0 2 10 false (refusal 0x2E 1 0x21 0x00)))
-    × (given lockedBy65537 (sentBy 0 1 writeTo2) ≡ repliedTo 0 1 (heldAt 4 65537 0 2 10 false (refusal 0x2F 1 0x21 0x00)))
-    × (given lockedBy65537 (sentBy 0 1 (rangeOf1 1 0)) ≡ repliedTo 0 1 (refusal 0x24 1 0x9E 0x00))
-    × (given lockedBy65537 (sentBy 1 1 readOf2) .size ≡ 62)
-    × (given lockedBy65537 (sentBy 1 1 writeTo2) .size ≡ 47)
-    × (taken lockedBy65537 (sentBy 1 1 (rangeOf1 1 0)) .tables .nlocks ≡ 0)
-unfolding sentBy repliedTo rangeOf1 readOf2 writeTo2 lockedBy65537 heldAt rangeOf holderAt holderOf opened lock refusal reply message tablesWith session tree open-of sizes memory given taken take-message dropped startsSmb isReply answered served replied replyOf replyHeader put runChain onlyStatus blocks blocksFrom blocksWithin afterParse afterBlock before parse answer linkFits linkAt mayFollow shaped bare le16At le32At callerOf run afterGiven after linkTo perform areaOf dataOf status statusOf replyBlock refusedBlock replySize linkWords two withSession isSession withTree withOpen isOpen openAt found foundFrom sound withinRoom fileOk treeOk permits holdsOpen openOk soundRecords lockOk agree agreeAll soundLocks fileOf isTree contains numberOk numbered any all allTails overlaps passesEnd lockBlock parseLocking lockingFits isLarge rangeSize doLocking servedType requestOf locking request releaseAll afterFind removeAt named afterReleases grantAll afterWalk afterGrants settle rangesOf ofHeader rangesAt rangeAt rangeFrom numberAt rangePasses askOf lockOf answers answersFor inWay bars owns lockingAfter lockingEnd withLockList stored readBlock parseRead readFits wideOffset doRead unlessBarred barring askBy readBytes contents sizeOf writeBlock parseWrite writeFits dataInside doWrite endsPast resized written withFiles success parseEmpty remove sweepSessions sweepTrees sweepOpens sweepLocks sessionNamed treeNamed openNamed sessionStays treeStays openStays lockStays keep withSessions withTrees withOpens withLocks
-not-its-own = (refl, refl, refl, refl, refl, refl, refl)
+-- that lock, and a READ_ANDX of 2 to 5 behind it
+unfoldable pub lockThenRead : List ℕ
+lockThenRead = message 0x24 0x7F 0xFF (lockBlock 0x2E 0 0 1 10 (rangeOf 1 2) ++ readBlock 4)
 
--- an open of each of the two processes, and a lock of each through it
+-- the tables after process high × 65,536 + 1 took the lock
+unfoldable pub lockedBy : ℕ → Tables
+lockedBy high = taken (opened 2 []) (sentBy high 1 (rangeOf1 0 1)) .tables
+
+-- "a 16-bit process in a lock range takes its upper half from the header": the lock is that process's. It is in the way of process 1's read and write through the same FID,
+-- and the holder is that process; process 1's unlock, in both forms, names no lock. That process reads, writes and unlocks, and in a chain reads what it has just locked.
+abbrev pub NotItsOwn : ℕ → ℕ → Type 0
+NotItsOwn high process =
+    (lockedBy high .locks ≡ lock process 2 10 ∷ [])
+    × (given (lockedBy high) (sentBy 0 1 readOf2) ≡ repliedTo 0 1 (heldAt 4 process 0 2 10 false (refusal 0x2E 1 0x21 0x00)))
+    × (given (lockedBy high) (sentBy 0 1 writeTo2) ≡ repliedTo 0 1 (heldAt 4 process 0 2 10 false (refusal 0x2F 1 0x21 0x00)))
+    × (given (lockedBy high) (sentBy 0 1 (rangeOf1 1 0)) ≡ repliedTo 0 1 (refusal 0x24 1 0x9E 0x00))
+    × (given (lockedBy high) (sentBy 0 1 (longOf1 1 0)) ≡ repliedTo 0 1 (refusal 0x24 1 0x9E 0x00))
+    × (given (lockedBy high) (sentBy high 1 readOf2) .size ≡ 62)
+    × (given (lockedBy high) (sentBy high 1 writeTo2) .size ≡ 47)
+    × (taken (lockedBy high) (sentBy high 1 (rangeOf1 1 0)) .tables .nlocks ≡ 0)
+    × (taken (lockedBy high) (sentBy high 1 (longOf1 1 0)) .tables .nlocks ≡ 0)
+    × (given (opened 2 []) (sentBy high 1 lockThenRead) ≡ repliedTo high 1 (lockReadReply .said))
+
+-- 65,537 has equal halves, 131,073 has not
+pub not-its-own : NotItsOwn 1 65537 × NotItsOwn 2 131073
+unfolding sentBy repliedTo rangeOf1 readOf2 writeTo2 longOf1 lockedBy lockThenRead lockReadReply lock100 range100 fewRecords heldAt rangeOf holderAt holderOf opened lock refusal reply message tablesWith session tree open-of sizes memory given taken take-message dropped startsSmb isReply answered served replied replyOf replyHeader put runChain onlyStatus blocks blocksFrom blocksWithin afterParse afterBlock before parse answer linkFits linkAt mayFollow shaped bare le16At le32At callerOf run afterGiven after linkTo perform areaOf dataOf status statusOf replyBlock refusedBlock replySize linkWords two withSession isSession withTree withOpen isOpen openAt found foundFrom sound withinRoom fileOk treeOk permits holdsOpen openOk soundRecords lockOk agree agreeAll soundLocks fileOf isTree contains numberOk numbered any all allTails overlaps passesEnd lockBlock parseLocking lockingFits isLarge rangeSize doLocking servedType requestOf locking request releaseAll afterFind removeAt named afterReleases grantAll afterWalk afterGrants settle rangesOf ofHeader rangesAt rangeAt rangeFrom numberAt rangePasses askOf lockOf answers answersFor inWay bars owns lockingAfter lockingEnd withLockList stored readBlock parseRead readFits wideOffset doRead unlessBarred barring askBy readBytes contents sizeOf writeBlock parseWrite writeFits dataInside doWrite endsPast resized written withFiles success
+not-its-own = ((refl, refl, refl, refl, refl, refl, refl, refl, refl, refl), (refl, refl, refl, refl, refl, refl, refl, refl, refl, refl))
+
+-- a lock of FID 6 and that process, of the one byte there
+unfoldable pub lockOn6 : ℕ → ℕ → Lock
+lockOn6 process offset = record { fid = 6; process = process; offset = offset; length = 1; shared = false }
+
+-- an open of each of processes 1 and 65,537, a lock of each through it, and one of process 1 through the other's
 unfoldable pub bothProcesses : Tables
 bothProcesses =
     tablesWith (session 3 5 ∷ []) (tree 2 3 1 ∷ []) (open-of 4 3 2 1 1 2 ∷ open-of 6 3 2 65537 2 2 ∷ [])
-    (lock 1 0 1 ∷ record { fid = 6; process = 65537; offset = 0; length = 1; shared = false } ∷ [])
+    (lock 1 0 1 ∷ lockOn6 65537 0 ∷ lockOn6 1 4 ∷ [])
 
 unfoldable pub exit : List ℕ
 exit = message 0x11 0x7F 0xFF (0x00 ∷ 0x00 ∷ 0x00 ∷ [])
 
--- "A bench that numbers its processes beyond 65,535 lost its opens when another process on it ended": PROCESS_EXIT of the one leaves the other's open and lock
+-- "A bench that numbers its processes beyond 65,535 lost its opens when another process on it ended": PROCESS_EXIT of the one leaves the other's open and the locks through
+-- it, whatever their process
 pub exit-of-one : (taken bothProcesses (sentBy 0 1 exit) .tables .opens ≡ open-of 6 3 2 65537 2 2 ∷ noOpen ∷ [])
-    × (taken bothProcesses (sentBy 0 1 exit) .tables .locks ≡ record { fid = 6; process = 65537; offset = 0; length = 1; shared = false } ∷ noLock ∷ [])
+    × (taken bothProcesses (sentBy 0 1 exit) .tables .locks ≡ lockOn6 65537 0 ∷ lockOn6 1 4 ∷ noLock ∷ [])
     × (taken bothProcesses (sentBy 1 1 exit) .tables .opens ≡ open-of 4 3 2 1 1 2 ∷ noOpen ∷ [])
-    × (taken bothProcesses (sentBy 1 1 exit) .tables .locks ≡ lock 1 0 1 ∷ noLock ∷ [])
-unfolding sentBy bothProcesses exit holderOf lock message tablesWith session tree open-of sizes memory taken take-message dropped startsSmb isReply answered served replied replyOf replyHeader put runChain onlyStatus blocks blocksFrom blocksWithin afterParse afterBlock before parse answer shaped bare le16At callerOf run afterGiven after linkTo perform areaOf dataOf status statusOf replyBlock refusedBlock replySize linkWords two withSession isSession withTree withOpen isOpen openAt found foundFrom sound withinRoom fileOk treeOk permits holdsOpen openOk soundRecords lockOk agree agreeAll soundLocks fileOf isTree contains numberOk numbered any all allTails overlaps passesEnd stored parseEmpty remove sweepSessions sweepTrees sweepOpens sweepLocks sessionNamed treeNamed openNamed sessionStays treeStays openStays lockStays keep withSessions withTrees withOpens withLocks
+    × (taken bothProcesses (sentBy 1 1 exit) .tables .locks ≡ lock 1 0 1 ∷ noLock ∷ noLock ∷ [])
+unfolding sentBy bothProcesses lockOn6 exit holderOf lock message tablesWith session tree open-of sizes memory taken take-message dropped startsSmb isReply answered served replied replyOf replyHeader put runChain onlyStatus blocks blocksFrom blocksWithin afterParse afterBlock before parse answer shaped bare le16At callerOf run afterGiven after linkTo perform areaOf dataOf status statusOf replyBlock refusedBlock replySize linkWords two withSession isSession withTree withOpen isOpen openAt found foundFrom sound withinRoom fileOk treeOk permits holdsOpen openOk soundRecords lockOk agree agreeAll soundLocks fileOf isTree contains numberOk numbered any all allTails overlaps passesEnd stored parseEmpty remove sweepSessions sweepTrees sweepOpens sweepLocks sessionNamed treeNamed openNamed sessionStays treeStays openStays lockStays keep withSessions withTrees withOpens withLocks
 exit-of-one = (refl, refl, refl, refl)
