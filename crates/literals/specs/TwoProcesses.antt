@@ -9,7 +9,7 @@ use Rattle.lists.specs.Stored.{stored}
 use Rattle.wire.specs.LittleEndian.{le16At, le32At}
 use Rattle.records.specs.declared.Lock.{Lock}
 use Rattle.records.specs.declared.Tables.{Tables}
-use Rattle.records.specs.Held.{withSessions, withTrees, withOpens, withLocks, withFiles}
+use Rattle.records.specs.Held.{withSessions, withTrees, withOpens, withLocks}
 use Rattle.locks.specs.Range.{overlaps, passesEnd}
 use Rattle.locks.specs.Wire.{rangeSize, numberAt, rangeFrom, rangeAt, rangesAt}
 use Rattle.locks.specs.Answer.{owns, bars, inWay, named, answersFor, answers}
@@ -23,13 +23,13 @@ use Rattle.chain.specs.Header.{startsSmb, isReply, dropped}
 use Rattle.chain.specs.Parse.{shaped, bare, isLarge, lockingFits, readFits, dataInside, writeFits, mayFollow, linkFits, linkAt, answer, wideOffset, parseLocking, parseRead, parseWrite, parseEmpty, parse}
 use Rattle.chain.specs.Chain.{before, afterBlock, afterParse, blocksWithin, blocksFrom, blocks}
 use Rattle.message.specs.Caller.{callerOf}
-use Rattle.message.specs.Refusal.{status, statusOf, holderOf}
-use Rattle.message.specs.Contents.{sizeOf, contents, readBytes, written, resized}
+use Rattle.message.specs.Refusal.{statusOf, holderOf}
+use Rattle.message.specs.Contents.{sizeOf, contents, readBytes}
 use Rattle.message.specs.Command.{isSession, withSession, withTree, isOpen, openAt, withOpen, servedType, requestOf, withLockList, lockingEnd, lockingAfter, doLocking, askBy, unlessBarred, barring, doRead, endsPast, doWrite, perform}
 use Rattle.message.specs.Reply.{two, replyHeader, linkWords, replyBlock, refusedBlock, replySize}
-use Rattle.message.specs.Message.{areaOf, dataOf, after, linkTo, afterGiven, run, served, onlyStatus, runChain, answered, replyOf, replied, take-message}
-use Rattle.literals.specs.State.{session, tree, open-of, sizes, tablesWith, fewRecords, memory}
-use Rattle.literals.specs.Replies.{message, lockBlock, range100, lock100, readBlock, writeBlock, taken, Given, given, reply, success, lockReadReply, refusal, opened, lock, heldAt, rangeOf}
+use Rattle.message.specs.Message.{areaOf, after, linkTo, afterGiven, run, served, runChain, answered, replyOf, replied, take-message}
+use Rattle.literals.specs.State.{session, tree, open-of, sizes, tablesWith, memory}
+use Rattle.literals.specs.Replies.{message, lockBlock, readBlock, writeBlock, taken, Given, given, reply, success, lockReadReply, refusal, opened, lock, heldAt, rangeOf}
 use Rattle.records.specs.Empty.{noOpen, noLock}
 
 -- that message, or reply, with those bytes in PIDHigh and PIDLow: of process high × 65,536 + low
@@ -82,7 +82,7 @@ NotItsOwn high process =
 
 -- 65,537 has equal halves, 131,073 has not
 pub not-its-own : NotItsOwn 1 65537 × NotItsOwn 2 131073
-unfolding sentBy repliedTo rangeOf1 readOf2 writeTo2 longOf1 lockedBy lockThenRead lockReadReply lock100 range100 fewRecords heldAt rangeOf holderAt holderOf opened lock refusal reply message tablesWith session tree open-of sizes memory given taken take-message dropped startsSmb isReply answered served replied replyOf replyHeader put runChain onlyStatus blocks blocksFrom blocksWithin afterParse afterBlock before parse answer linkFits linkAt mayFollow shaped bare le16At le32At callerOf run afterGiven after linkTo perform areaOf dataOf status statusOf replyBlock refusedBlock replySize linkWords two withSession isSession withTree withOpen isOpen openAt found foundFrom sound withinRoom fileOk treeOk permits holdsOpen openOk soundRecords lockOk agree agreeAll soundLocks fileOf isTree contains numberOk numbered any all allTails overlaps passesEnd lockBlock parseLocking lockingFits isLarge rangeSize doLocking servedType requestOf locking request releaseAll afterFind removeAt named afterReleases grantAll afterWalk afterGrants settle rangesOf ofHeader rangesAt rangeAt rangeFrom numberAt rangePasses askOf lockOf answers answersFor inWay bars owns lockingAfter lockingEnd withLockList stored readBlock parseRead readFits wideOffset doRead unlessBarred barring askBy readBytes contents sizeOf writeBlock parseWrite writeFits dataInside doWrite endsPast resized written withFiles success
+unfolding sentBy repliedTo rangeOf1 readOf2 writeTo2 longOf1 lockedBy lockThenRead lockReadReply heldAt rangeOf holderAt holderOf opened lock refusal reply message tablesWith session tree open-of sizes memory given taken take-message dropped startsSmb isReply answered served replied replyOf replyHeader put runChain blocks blocksFrom blocksWithin afterParse afterBlock before parse answer linkFits linkAt mayFollow shaped bare le16At le32At callerOf run afterGiven after linkTo perform areaOf statusOf replyBlock refusedBlock replySize linkWords two withSession isSession withTree withOpen isOpen openAt found foundFrom sound withinRoom fileOk treeOk permits holdsOpen openOk soundRecords lockOk agree agreeAll soundLocks fileOf isTree contains numberOk numbered any all allTails overlaps passesEnd lockBlock parseLocking lockingFits isLarge rangeSize doLocking servedType requestOf locking request releaseAll afterFind removeAt named afterReleases grantAll afterWalk afterGrants settle rangesOf ofHeader rangesAt rangeAt rangeFrom numberAt rangePasses askOf lockOf answers answersFor inWay bars owns lockingAfter lockingEnd withLockList stored readBlock parseRead readFits wideOffset doRead unlessBarred barring askBy readBytes contents sizeOf writeBlock parseWrite writeFits dataInside doWrite endsPast success
 not-its-own = ((refl, refl, refl, refl, refl, refl, refl, refl, refl, refl), (refl, refl, refl, refl, refl, refl, refl, refl, refl, refl))
 
 -- a lock of FID 6 and that process, of the one byte there
@@ -104,5 +104,5 @@ pub exit-of-one : (taken bothProcesses (sentBy 0 1 exit) .tables .opens ≡ open
     × (taken bothProcesses (sentBy 0 1 exit) .tables .locks ≡ lockOn6 65537 0 ∷ lockOn6 1 4 ∷ noLock ∷ [])
     × (taken bothProcesses (sentBy 1 1 exit) .tables .opens ≡ open-of 4 3 2 1 1 2 ∷ noOpen ∷ [])
     × (taken bothProcesses (sentBy 1 1 exit) .tables .locks ≡ lock 1 0 1 ∷ noLock ∷ noLock ∷ [])
-unfolding sentBy bothProcesses lockOn6 exit holderOf lock message tablesWith session tree open-of sizes memory taken take-message dropped startsSmb isReply answered served replied replyOf replyHeader put runChain onlyStatus blocks blocksFrom blocksWithin afterParse afterBlock before parse answer shaped bare le16At callerOf run afterGiven after linkTo perform areaOf dataOf status statusOf replyBlock refusedBlock replySize linkWords two withSession isSession withTree withOpen isOpen openAt found foundFrom sound withinRoom fileOk treeOk permits holdsOpen openOk soundRecords lockOk agree agreeAll soundLocks fileOf isTree contains numberOk numbered any all allTails overlaps passesEnd stored parseEmpty remove sweepSessions sweepTrees sweepOpens sweepLocks sessionNamed treeNamed openNamed sessionStays treeStays openStays lockStays keep withSessions withTrees withOpens withLocks
+unfolding sentBy bothProcesses lockOn6 exit lock message tablesWith session tree open-of sizes memory taken take-message dropped startsSmb isReply answered served replied put runChain blocks blocksFrom blocksWithin afterParse afterBlock before parse answer shaped bare le16At callerOf run afterGiven after perform withSession isSession sound withinRoom fileOk treeOk permits holdsOpen openOk soundRecords lockOk agree agreeAll soundLocks fileOf contains numberOk numbered any all allTails overlaps passesEnd stored parseEmpty remove sweepSessions sweepTrees sweepOpens sweepLocks sessionNamed treeNamed openNamed sessionStays treeStays openStays lockStays keep withSessions withTrees withOpens withLocks
 exit-of-one = (refl, refl, refl, refl)
