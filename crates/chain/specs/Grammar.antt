@@ -1,10 +1,10 @@
--- The grammar of a chain (document 01), as a relation on the bytes of a message. It cites the layout alone.
+-- The grammar of a chain (document 01, with document 02's CR 3), as a relation on the bytes of a message. It cites the layout alone.
 -- docs/GRAMMAR.md has it in words. Assumes nothing.
 use mathlib.Core.Path.{_≡_}
 use Prim.Native.Nat.{ℕ, _+_, _-_, _*_, _/_, _%_, _≤_}
 use mathlib.Core.List.{List, [], _∷_}
 use lib.ListN.{length}
-use Rattle.chain.specs.Layout.{CLOSE, PROCESS_EXIT, LOCKING, READ, WRITE, TREE_DISCONNECT, LOGOFF, NO_COMMAND, headerCommand, FIRST, wordCount, byteArea, byteCount, blockEnd, andxCommand, andxOffset, lockType, unlockCount, lockCount, dataLength, dataOffset}
+use Rattle.chain.specs.Layout.{CLOSE, PROCESS_EXIT, LOCKING, READ, WRITE, TREE_DISCONNECT, LOGOFF, CORE-READ, CORE-WRITE, LOCK_BYTE_RANGE, UNLOCK_BYTE_RANGE, NO_COMMAND, headerCommand, FIRST, wordCount, byteArea, byteCount, blockEnd, andxCommand, andxOffset, lockType, unlockCount, lockCount, dataLength, dataOffset, coreCount, dataMark, markedLength}
 
 -- "A block is WordCount, the words, ByteCount, the bytes, all inside the message": a block of that many words at a place
 pub record Shape (s : List ℕ) (at words : ℕ) : Type 0 where
@@ -27,6 +27,14 @@ pub record Data (s : List ℕ) (at words : ℕ) : Type 0 where
   pub starts : byteArea s at ≤ dataOffset s at
   pub ends : dataOffset s at + dataLength s at ≤ blockEnd s at
 
+-- a core WRITE block: "a data block not marked 0x01 or whose lengths disagree is 2/1": the count word, the data block's length and
+-- ByteCount less the three bytes before the data are equal
+pub record MarkedData (s : List ℕ) (at : ℕ) : Type 0 where
+  pub shape : Shape s at 5
+  pub marked : dataMark s at ≡ 1
+  pub counted : markedLength s at ≡ coreCount s at
+  pub filled : byteCount s at ≡ 3 + coreCount s at
+
 -- The rows of the table: the block at a place, by its command. Type bit 0x10 makes a range 20 bytes long.
 pub data IsBlock (s : List ℕ) (at : ℕ) : ℕ → Type 0 where
   locking-10 : lockType s at / 16 % 2 ≡ 0 → Ranges s at 10 → IsBlock s at LOCKING
@@ -39,11 +47,17 @@ pub data IsBlock (s : List ℕ) (at : ℕ) : ℕ → Type 0 where
   logoff : Bare s at 2 → IsBlock s at LOGOFF
   tree-disconnect : Bare s at 0 → IsBlock s at TREE_DISCONNECT
   process-exit : Bare s at 0 → IsBlock s at PROCESS_EXIT
+  core-read : Bare s at 5 → IsBlock s at CORE-READ
+  core-write : MarkedData s at → IsBlock s at CORE-WRITE
+  lock-byte-range : Bare s at 5 → IsBlock s at LOCK_BYTE_RANGE
+  unlock-byte-range : Bare s at 5 → IsBlock s at UNLOCK_BYTE_RANGE
 
--- The last column: what may follow what.
+-- The last column: what may follow what. Document 02, CR 3: "READ and WRITE may end a chain after LOCKING_ANDX".
 pub data MayFollow : ℕ → ℕ → Type 0 where
   locking-read : MayFollow LOCKING READ
   locking-write : MayFollow LOCKING WRITE
+  locking-core-read : MayFollow LOCKING CORE-READ
+  locking-core-write : MayFollow LOCKING CORE-WRITE
   read-close : MayFollow READ CLOSE
   write-write : MayFollow WRITE WRITE
   write-read : MayFollow WRITE READ
@@ -60,6 +74,10 @@ pub data Plain : ℕ → Type 0 where
   close-plain : Plain CLOSE
   tree-disconnect-plain : Plain TREE_DISCONNECT
   process-exit-plain : Plain PROCESS_EXIT
+  core-read-plain : Plain CORE-READ
+  core-write-plain : Plain CORE-WRITE
+  lock-byte-range-plain : Plain LOCK_BYTE_RANGE
+  unlock-byte-range-plain : Plain UNLOCK_BYTE_RANGE
 
 -- A block of a reading: its command, its place and its length.
 pub record Span : Type 0 where

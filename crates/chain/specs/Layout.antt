@@ -1,4 +1,4 @@
--- Where each field of a block stands (document 01, "The grammar of a chain"): WordCount, the words, ByteCount, the bytes.
+-- Where each field of a block stands (document 01, "The grammar of a chain"; document 02, CR 3): WordCount, the words, ByteCount, the bytes.
 -- A block stands at a place counted from the header's start; numbers are little-endian.
 -- Assumes nothing.
 use Prim.Native.Nat.{ℕ, _+_, _*_}
@@ -26,6 +26,20 @@ TREE_DISCONNECT = 0x71
 
 abbrev pub LOGOFF : ℕ
 LOGOFF = 0x74
+
+-- document 02, CR 3: "READ 0x0A, WRITE 0x0B, LOCK_BYTE_RANGE 0x0C and UNLOCK_BYTE_RANGE 0x0D". READ and WRITE alone are document 01's
+-- names for the AndX requests; a hyphen, since an underscore would stand for an argument between two names.
+abbrev pub CORE-READ : ℕ
+CORE-READ = 0x0A
+
+abbrev pub CORE-WRITE : ℕ
+CORE-WRITE = 0x0B
+
+abbrev pub LOCK_BYTE_RANGE : ℕ
+LOCK_BYTE_RANGE = 0x0C
+
+abbrev pub UNLOCK_BYTE_RANGE : ℕ
+UNLOCK_BYTE_RANGE = 0x0D
 
 -- the AndXCommand that ends a chain
 abbrev pub NO_COMMAND : ℕ
@@ -91,6 +105,30 @@ dataOffset s at = le16At s (at + 23)
 abbrev pub writeOffsetHigh : List ℕ → ℕ → ℕ
 writeOffsetHigh s at = le32At s (at + 25)
 
--- CLOSE: FID 2, time 4
-abbrev pub closeFid : List ℕ → ℕ → ℕ
-closeFid s at = le16At s (at + 1)
+-- Without AndX the FID is the first word. CLOSE: FID 2, time 4
+abbrev pub firstFid : List ℕ → ℕ → ℕ
+firstFid s at = le16At s (at + 1)
+
+-- The core READ and WRITE: FID 2, count 2, offset 4, remaining 2
+abbrev pub coreCount : List ℕ → ℕ → ℕ
+coreCount s at = le16At s (at + 3)
+
+abbrev pub coreOffset : List ℕ → ℕ → ℕ
+coreOffset s at = le32At s (at + 5)
+
+-- the core WRITE's bytes are a data block: its mark 1, its length 2, the data
+abbrev pub dataMark : List ℕ → ℕ → ℕ
+dataMark s at = byteAt s (byteArea s at)
+
+abbrev pub markedLength : List ℕ → ℕ → ℕ
+markedLength s at = le16At s (byteArea s at + 1)
+
+abbrev pub markedData : List ℕ → ℕ → ℕ
+markedData s at = byteArea s at + 3
+
+-- LOCK_BYTE_RANGE and UNLOCK_BYTE_RANGE: FID 2, count 4, offset 4
+abbrev pub rangeCount : List ℕ → ℕ → ℕ
+rangeCount s at = le32At s (at + 3)
+
+abbrev pub rangeOffset : List ℕ → ℕ → ℕ
+rangeOffset s at = le32At s (at + 7)

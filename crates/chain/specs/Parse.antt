@@ -6,9 +6,10 @@ use mathlib.Core.List.{List}
 use lib.ListN.{length}
 use lib.Dec.{leb, eqb}
 use Rattle.locks.specs.Wire.{rangeSize}
-use Rattle.chain.specs.Layout.{CLOSE, PROCESS_EXIT, LOCKING, READ, WRITE, TREE_DISCONNECT, LOGOFF, NO_COMMAND, wordCount, byteArea, byteCount, blockEnd, andxCommand, andxOffset, fidAfterAndx, lockType, unlockCount, lockCount, offsetLow, readMax, readOffsetHigh, dataLength, dataOffset, writeOffsetHigh, closeFid}
+use Rattle.chain.specs.Layout.{CLOSE, PROCESS_EXIT, LOCKING, READ, WRITE, TREE_DISCONNECT, LOGOFF, CORE-READ, CORE-WRITE, LOCK_BYTE_RANGE, UNLOCK_BYTE_RANGE, NO_COMMAND, wordCount, byteArea, byteCount, blockEnd, andxCommand, andxOffset, fidAfterAndx, lockType, unlockCount, lockCount, offsetLow, readMax, readOffsetHigh, dataLength, dataOffset, writeOffsetHigh, firstFid, coreCount, coreOffset, dataMark, markedLength, markedData, rangeCount, rangeOffset}
 use Rattle.chain.specs.declared.block.Body.{Body}
-use Rattle.chain.specs.declared.block.Body.the-variants.{Locking, Read, Write, Close, Logoff, TreeDisconnect, ProcessExit}
+use Rattle.chain.specs.declared.block.Body.the-variants.{Locking, Read, Write, Close, Logoff, TreeDisconnect, ProcessExit, CoreRead, CoreWrite, LockByteRange, UnlockByteRange}
+use Rattle.chain.specs.declared.block.RangeFields.{RangeFields}
 use Rattle.chain.specs.declared.block.Next.{Next}
 use Rattle.chain.specs.declared.block.Next.the-variants.{End, Follow}
 use Rattle.chain.specs.declared.block.Parsed.{Parsed}
@@ -38,10 +39,15 @@ dataInside s at = leb (byteArea s at) (dataOffset s at) && leb (dataOffset s at 
 unfoldable pub writeFits : List ℕ → ℕ → Bool
 writeFits s at = (shaped s at 12 || shaped s at 14) && dataInside s at
 
+-- the data block's mark, and its length and ByteCount by the count word
+unfoldable pub coreWriteFits : List ℕ → ℕ → Bool
+coreWriteFits s at =
+    shaped s at 5 && (eqb (dataMark s at) 1 && (eqb (markedLength s at) (coreCount s at) && eqb (byteCount s at) (3 + coreCount s at)))
+
 -- what may follow what
 unfoldable pub mayFollow : ℕ → ℕ → Bool
 mayFollow command next =
-    cond (eqb command LOCKING) (eqb next READ || eqb next WRITE)
+    cond (eqb command LOCKING) (eqb next READ || (eqb next WRITE || (eqb next CORE-READ || eqb next CORE-WRITE)))
     (cond (eqb command READ) (eqb next CLOSE) (cond (eqb command WRITE) (eqb next WRITE || (eqb next READ || eqb next CLOSE)) false))
 
 -- the AndX words: the end of the chain, or a follower at or behind the block's end
@@ -79,14 +85,25 @@ parseWrite s at =
     (Write (record { fid = fidAfterAndx s at; offset = wideOffset (offsetLow s at) (writeOffsetHigh s at) (eqb (wordCount s at) 14); count = dataLength s at; from = dataOffset s at }))
     (linkAt s at)
 
-unfoldable pub parseClose : List ℕ → ℕ → Parsed
-parseClose s at = answer s CLOSE at (bare s at 3) (Close (closeFid s at)) End
-
 unfoldable pub parseLogoff : List ℕ → ℕ → Parsed
 parseLogoff s at = answer s LOGOFF at (bare s at 2 && linkFits s LOGOFF at) Logoff (linkAt s at)
 
-unfoldable pub parseEmpty : List ℕ → ℕ → ℕ → Body → Parsed
-parseEmpty s command at body = answer s command at (bare s at 0) body End
+-- a block of that many words, none of them AndX, and no bytes
+unfoldable pub parseBare : List ℕ → ℕ → ℕ → ℕ → Body → Parsed
+parseBare s command at words body = answer s command at (bare s at words) body End
+
+-- "with 32-bit offsets": the fields are the counterpart's
+unfoldable pub coreReadAt : List ℕ → ℕ → Body
+coreReadAt s at = CoreRead (record { fid = firstFid s at; offset = coreOffset s at; max = coreCount s at })
+
+unfoldable pub parseCoreWrite : List ℕ → ℕ → Parsed
+parseCoreWrite s at =
+    answer s CORE-WRITE at (coreWriteFits s at)
+    (CoreWrite (record { fid = firstFid s at; offset = coreOffset s at; count = coreCount s at; from = markedData s at }))
+    End
+
+unfoldable pub rangeFields : List ℕ → ℕ → RangeFields
+rangeFields s at = record { fid = firstFid s at; offset = rangeOffset s at; length = rangeCount s at }
 
 -- the block at a place, by its command; no other request is served
 unfoldable pub parse : List ℕ → ℕ → ℕ → Parsed
@@ -94,7 +111,11 @@ parse s command at =
     cond (eqb command LOCKING) (parseLocking s at)
     (cond (eqb command READ) (parseRead s at)
     (cond (eqb command WRITE) (parseWrite s at)
-    (cond (eqb command CLOSE) (parseClose s at)
+    (cond (eqb command CLOSE) (parseBare s CLOSE at 3 (Close (firstFid s at)))
     (cond (eqb command LOGOFF) (parseLogoff s at)
-    (cond (eqb command TREE_DISCONNECT) (parseEmpty s TREE_DISCONNECT at TreeDisconnect)
-    (cond (eqb command PROCESS_EXIT) (parseEmpty s PROCESS_EXIT at ProcessExit) Malformed))))))
+    (cond (eqb command TREE_DISCONNECT) (parseBare s TREE_DISCONNECT at 0 TreeDisconnect)
+    (cond (eqb command PROCESS_EXIT) (parseBare s PROCESS_EXIT at 0 ProcessExit)
+    (cond (eqb command CORE-READ) (parseBare s CORE-READ at 5 (coreReadAt s at))
+    (cond (eqb command CORE-WRITE) (parseCoreWrite s at)
+    (cond (eqb command LOCK_BYTE_RANGE) (parseBare s LOCK_BYTE_RANGE at 5 (LockByteRange (rangeFields s at)))
+    (cond (eqb command UNLOCK_BYTE_RANGE) (parseBare s UNLOCK_BYTE_RANGE at 5 (UnlockByteRange (rangeFields s at))) Malformed))))))))))

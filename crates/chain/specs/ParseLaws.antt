@@ -9,11 +9,12 @@ use lib.ListN.{length}
 use lib.Dec.{leb, eqb}
 use borrow.Author.Tests.{leb-true, eqb-true, lt-leb}
 use Rattle.lists.specs.Truth.{both-hold, either-cases, chosen}
+use Rattle.wire.specs.LittleEndian.{byteAt, le16At}
 use Rattle.locks.specs.Wire.{rangeSize}
-use Rattle.chain.specs.Layout.{CLOSE, PROCESS_EXIT, LOCKING, READ, WRITE, TREE_DISCONNECT, LOGOFF, NO_COMMAND, wordCount, byteCount, blockEnd, andxCommand, andxOffset, lockType, unlockCount, lockCount, closeFid}
-use Rattle.chain.specs.Parse.{shaped, bare, isLarge, lockingFits, readFits, dataInside, writeFits, mayFollow, linkFits, linkAt, answer, parseLocking, parseRead, parseWrite, parseClose, parseLogoff, parseEmpty, parse}
+use Rattle.chain.specs.Layout.{CLOSE, PROCESS_EXIT, LOCKING, READ, WRITE, TREE_DISCONNECT, LOGOFF, CORE-READ, CORE-WRITE, LOCK_BYTE_RANGE, UNLOCK_BYTE_RANGE, NO_COMMAND, wordCount, byteCount, blockEnd, andxCommand, andxOffset, lockType, unlockCount, lockCount, firstFid, coreCount, dataMark, markedLength}
+use Rattle.chain.specs.Parse.{shaped, bare, isLarge, lockingFits, readFits, dataInside, writeFits, mayFollow, linkFits, linkAt, answer, coreWriteFits, parseLocking, parseRead, parseWrite, parseLogoff, parseBare, coreReadAt, parseCoreWrite, rangeFields, parse}
 use Rattle.chain.specs.declared.block.Body.{Body}
-use Rattle.chain.specs.declared.block.Body.the-variants.{Close, Logoff, TreeDisconnect, ProcessExit}
+use Rattle.chain.specs.declared.block.Body.the-variants.{Close, Logoff, TreeDisconnect, ProcessExit, LockByteRange, UnlockByteRange}
 use Rattle.chain.specs.declared.block.Next.{Next}
 use Rattle.chain.specs.declared.block.Next.the-variants.{End, Follow}
 use Rattle.chain.specs.declared.block.Block.{Block}
@@ -55,6 +56,25 @@ module _ (s : List ℕ) (at : ℕ) where
   unfolding writeFits
   write-inside e =
       either-cases (shaped s at 12) (shaped s at 14) (both-hold (shaped s at 12 || shaped s at 14) (dataInside s at) e .0) (shaped-inside 12) (shaped-inside 14)
+
+  pub core-write-shaped : coreWriteFits s at ≡ true → shaped s at 5 ≡ true
+  unfolding coreWriteFits
+  core-write-shaped e =
+      both-hold (shaped s at 5) (eqb (dataMark s at) 1 && (eqb (markedLength s at) (coreCount s at) && eqb (byteCount s at) (3 + coreCount s at))) e .0
+
+  -- in a block of 5 words each number has its place
+  pub core-write-tests : shaped s at 5 ≡ true
+      → coreWriteFits s at ≡ (eqb (byteAt s (at + 13)) 1 && (eqb (le16At s (at + 14)) (coreCount s at) && eqb (le16At s (at + 11)) (3 + coreCount s at)))
+  unfolding coreWriteFits
+  core-write-tests e =
+      let words : wordCount s at ≡ 5 = shaped-words 5 e in
+      let length : at + 3 + 2 * wordCount s at + 1 ≡ at + 14 = omega arith in
+      let mark : at + 3 + 2 * wordCount s at ≡ at + 13 = omega arith in
+      let bytes : at + 1 + 2 * wordCount s at ≡ at + 11 = omega arith in
+      rw (e, length, mark, bytes)
+
+  pub core-write-inside : coreWriteFits s at ≡ true → blockEnd s at ≤ length s
+  core-write-inside e = shaped-inside 5 (core-write-shaped e)
 
 -- a follower that the AndX words name stands not before the block's end
 link-case : (stop may : Bool) (end command at c a : ℕ) → (stop || (may && leb end at)) ≡ true → cond stop End (Follow command at) ≡ Follow c a → end ≤ a
@@ -108,17 +128,17 @@ module _ (s : List ℕ) (at : ℕ) (b : Block) where
   unfolding parseWrite
   placed-write e = placed-link s WRITE at (writeFits s at) _ b (write-inside s at) e
 
-  placed-close : parseClose s at ≡ Whole b → Placed s at b
-  unfolding parseClose
-  placed-close e = placed-end s CLOSE at (bare s at 3) (Close (closeFid s at)) b (bare-inside s at 3) e
-
   placed-logoff : parseLogoff s at ≡ Whole b → Placed s at b
   unfolding parseLogoff
   placed-logoff e = placed-link s LOGOFF at (bare s at 2) Logoff b (bare-inside s at 2) e
 
-  placed-empty : (command : ℕ) (body : Body) → parseEmpty s command at body ≡ Whole b → Placed s at b
-  unfolding parseEmpty
-  placed-empty command body e = placed-end s command at (bare s at 0) body b (bare-inside s at 0) e
+  placed-bare : (command words : ℕ) (body : Body) → parseBare s command at words body ≡ Whole b → Placed s at b
+  unfolding parseBare
+  placed-bare command words body e = placed-end s command at (bare s at words) body b (bare-inside s at words) e
+
+  placed-core-write : parseCoreWrite s at ≡ Whole b → Placed s at b
+  unfolding parseCoreWrite
+  placed-core-write e = placed-end s CORE-WRITE at (coreWriteFits s at) _ b (core-write-inside s at) e
 
   unserved : Malformed ≡ Whole b → Placed s at b
   unserved e = let never : _≡_ {A = ℕ} 0 1 = cc in absurd (omega arith)
@@ -130,8 +150,13 @@ module _ (s : List ℕ) (at : ℕ) (b : Block) where
       chosen (eqb command LOCKING) (parseLocking s at) _ (Whole b) placed-locking
       (chosen (eqb command READ) (parseRead s at) _ (Whole b) placed-read
       (chosen (eqb command WRITE) (parseWrite s at) _ (Whole b) placed-write
-      (chosen (eqb command CLOSE) (parseClose s at) _ (Whole b) placed-close
+      (chosen (eqb command CLOSE) (parseBare s CLOSE at 3 (Close (firstFid s at))) _ (Whole b) (placed-bare CLOSE 3 _)
       (chosen (eqb command LOGOFF) (parseLogoff s at) _ (Whole b) placed-logoff
-      (chosen (eqb command TREE_DISCONNECT) (parseEmpty s TREE_DISCONNECT at TreeDisconnect) _ (Whole b) (placed-empty TREE_DISCONNECT TreeDisconnect)
-      (chosen (eqb command PROCESS_EXIT) (parseEmpty s PROCESS_EXIT at ProcessExit) Malformed (Whole b) (placed-empty PROCESS_EXIT ProcessExit) unserved))))))
+      (chosen (eqb command TREE_DISCONNECT) (parseBare s TREE_DISCONNECT at 0 TreeDisconnect) _ (Whole b) (placed-bare TREE_DISCONNECT 0 _)
+      (chosen (eqb command PROCESS_EXIT) (parseBare s PROCESS_EXIT at 0 ProcessExit) _ (Whole b) (placed-bare PROCESS_EXIT 0 _)
+      (chosen (eqb command CORE-READ) (parseBare s CORE-READ at 5 (coreReadAt s at)) _ (Whole b) (placed-bare CORE-READ 5 _)
+      (chosen (eqb command CORE-WRITE) (parseCoreWrite s at) _ (Whole b) placed-core-write
+      (chosen (eqb command LOCK_BYTE_RANGE) (parseBare s LOCK_BYTE_RANGE at 5 (LockByteRange (rangeFields s at))) _ (Whole b) (placed-bare LOCK_BYTE_RANGE 5 _)
+      (chosen (eqb command UNLOCK_BYTE_RANGE) (parseBare s UNLOCK_BYTE_RANGE at 5 (UnlockByteRange (rangeFields s at))) Malformed (Whole b)
+      (placed-bare UNLOCK_BYTE_RANGE 5 _) unserved))))))))))
       e

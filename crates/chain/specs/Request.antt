@@ -3,9 +3,9 @@
 use Prim.Native.Nat.{ℕ}
 use mathlib.Core.Bool.{Bool, true, false, cond}
 use lib.Dec.{eqb}
-use Rattle.chain.specs.Layout.{CLOSE, PROCESS_EXIT, LOCKING, READ, WRITE, TREE_DISCONNECT, LOGOFF}
+use Rattle.chain.specs.Layout.{CLOSE, PROCESS_EXIT, LOCKING, READ, WRITE, TREE_DISCONNECT, LOGOFF, CORE-READ, CORE-WRITE, LOCK_BYTE_RANGE, UNLOCK_BYTE_RANGE}
 use Rattle.chain.specs.declared.command.ServedRequest.{ServedRequest}
-use Rattle.chain.specs.declared.command.ServedRequest.the-variants.{Locking, Read, Write, Close, Logoff, TreeDisconnect, ProcessExit, None}
+use Rattle.chain.specs.declared.command.ServedRequest.the-variants.{Locking, Read, Write, Close, Logoff, TreeDisconnect, ProcessExit, CoreRead, CoreWrite, LockByteRange, UnlockByteRange, None}
 
 unfoldable pub requestNamed : ℕ → ServedRequest
 requestNamed command =
@@ -15,7 +15,11 @@ requestNamed command =
     (cond (eqb command CLOSE) Close
     (cond (eqb command LOGOFF) Logoff
     (cond (eqb command TREE_DISCONNECT) TreeDisconnect
-    (cond (eqb command PROCESS_EXIT) ProcessExit None))))))
+    (cond (eqb command PROCESS_EXIT) ProcessExit
+    (cond (eqb command CORE-READ) CoreRead
+    (cond (eqb command CORE-WRITE) CoreWrite
+    (cond (eqb command LOCK_BYTE_RANGE) LockByteRange
+    (cond (eqb command UNLOCK_BYTE_RANGE) UnlockByteRange None))))))))))
 
 -- the requests whose words begin with AndX
 unfoldable pub isAndx : ServedRequest → Bool
@@ -26,6 +30,10 @@ isAndx Close = false
 isAndx Logoff = true
 isAndx TreeDisconnect = false
 isAndx ProcessExit = false
+isAndx CoreRead = false
+isAndx CoreWrite = false
+isAndx LockByteRange = false
+isAndx UnlockByteRange = false
 isAndx None = false
 
 unfoldable pub isServed : ServedRequest → Bool
@@ -36,4 +44,8 @@ isServed Close = true
 isServed Logoff = true
 isServed TreeDisconnect = true
 isServed ProcessExit = true
+isServed CoreRead = true
+isServed CoreWrite = true
+isServed LockByteRange = true
+isServed UnlockByteRange = true
 isServed None = false

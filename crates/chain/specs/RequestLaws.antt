@@ -7,10 +7,10 @@ use mathlib.Core.Bool.{true, false, cond}
 use lib.Dec.{eqb}
 use borrow.Author.Tests.{eqb-true}
 use Rattle.lists.specs.Truth.{decided}
-use Rattle.chain.specs.Layout.{CLOSE, PROCESS_EXIT, LOCKING, READ, WRITE, TREE_DISCONNECT, LOGOFF}
+use Rattle.chain.specs.Layout.{CLOSE, PROCESS_EXIT, LOCKING, READ, WRITE, TREE_DISCONNECT, LOGOFF, CORE-READ, CORE-WRITE, LOCK_BYTE_RANGE, UNLOCK_BYTE_RANGE}
 use Rattle.chain.specs.Request.{requestNamed}
 use Rattle.chain.specs.declared.command.ServedRequest.{ServedRequest}
-use Rattle.chain.specs.declared.command.ServedRequest.the-variants.{Locking, Read, Write, Close, Logoff, TreeDisconnect, ProcessExit, None}
+use Rattle.chain.specs.declared.command.ServedRequest.the-variants.{Locking, Read, Write, Close, Logoff, TreeDisconnect, ProcessExit, CoreRead, CoreWrite, LockByteRange, UnlockByteRange, None}
 
 -- a number that names no request served
 pub record Unserved (command : ℕ) : Type 0 where
@@ -21,6 +21,10 @@ pub record Unserved (command : ℕ) : Type 0 where
   pub no-logoff : eqb command LOGOFF ≡ false
   pub no-tree-disconnect : eqb command TREE_DISCONNECT ≡ false
   pub no-process-exit : eqb command PROCESS_EXIT ≡ false
+  pub no-core-read : eqb command CORE-READ ≡ false
+  pub no-core-write : eqb command CORE-WRITE ≡ false
+  pub no-lock-byte-range : eqb command LOCK_BYTE_RANGE ≡ false
+  pub no-unlock-byte-range : eqb command UNLOCK_BYTE_RANGE ≡ false
 
 module _ (P : ServedRequest → ℕ → Type 0) (command : ℕ) where
   -- one test of the definition
@@ -30,9 +34,9 @@ module _ (P : ServedRequest → ℕ → Type 0) (command : ℕ) where
   tested k here other holds else (inr e) = rw e (else e)
 
   pub by-request : P Locking LOCKING → P Read READ → P Write WRITE → P Close CLOSE → P Logoff LOGOFF → P TreeDisconnect TREE_DISCONNECT → P ProcessExit PROCESS_EXIT
-      → (Unserved command → P None command) → P (requestNamed command) command
+      → P CoreRead CORE-READ → P CoreWrite CORE-WRITE → P LockByteRange LOCK_BYTE_RANGE → P UnlockByteRange UNLOCK_BYTE_RANGE → (Unserved command → P None command) → P (requestNamed command) command
   unfolding requestNamed
-  by-request locking read write close logoff tree-disconnect process-exit none =
+  by-request locking read write close logoff tree-disconnect process-exit core-read core-write lock unlock none =
       tested LOCKING Locking _ locking
       (λ l. tested READ Read _ read
       (λ r. tested WRITE Write _ write
@@ -40,7 +44,28 @@ module _ (P : ServedRequest → ℕ → Type 0) (command : ℕ) where
       (λ c. tested LOGOFF Logoff _ logoff
       (λ o. tested TREE_DISCONNECT TreeDisconnect _ tree-disconnect
       (λ t. tested PROCESS_EXIT ProcessExit _ process-exit
-      (λ p. none (record { no-locking = l; no-read = r; no-write = w; no-close = c; no-logoff = o; no-tree-disconnect = t; no-process-exit = p }))
+      (λ p. tested CORE-READ CoreRead _ core-read
+      (λ cr. tested CORE-WRITE CoreWrite _ core-write
+      (λ cw. tested LOCK_BYTE_RANGE LockByteRange _ lock
+      (λ lb. tested UNLOCK_BYTE_RANGE UnlockByteRange _ unlock
+      (λ ub. none
+      (record {
+        no-locking = l;
+        no-read = r;
+        no-write = w;
+        no-close = c;
+        no-logoff = o;
+        no-tree-disconnect = t;
+        no-process-exit = p;
+        no-core-read = cr;
+        no-core-write = cw;
+        no-lock-byte-range = lb;
+        no-unlock-byte-range = ub;
+      }))
+      (decided (eqb command UNLOCK_BYTE_RANGE)))
+      (decided (eqb command LOCK_BYTE_RANGE)))
+      (decided (eqb command CORE-WRITE)))
+      (decided (eqb command CORE-READ)))
       (decided (eqb command PROCESS_EXIT)))
       (decided (eqb command TREE_DISCONNECT)))
       (decided (eqb command LOGOFF)))
@@ -58,8 +83,12 @@ Names Close command = command ≡ CLOSE
 Names Logoff command = command ≡ LOGOFF
 Names TreeDisconnect command = command ≡ TREE_DISCONNECT
 Names ProcessExit command = command ≡ PROCESS_EXIT
+Names CoreRead command = command ≡ CORE-READ
+Names CoreWrite command = command ≡ CORE-WRITE
+Names LockByteRange command = command ≡ LOCK_BYTE_RANGE
+Names UnlockByteRange command = command ≡ UNLOCK_BYTE_RANGE
 Names None command = Unserved command
 
 pub names : (command : ℕ) {request : ServedRequest} → request ≡ requestNamed command → Names request command
 unfolding Names
-names command e = rw e (by-request Names command refl refl refl refl refl refl refl (λ u. u))
+names command e = rw e (by-request Names command refl refl refl refl refl refl refl refl refl refl refl (λ u. u))

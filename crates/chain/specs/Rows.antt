@@ -6,9 +6,9 @@ use Prim.Native.Nat.{ℕ, _≤_}
 use mathlib.Core.Bool.{Bool, true, false, cond, _&&_, false≢true}
 use mathlib.Core.List.{List}
 use lib.ListN.{length}
-use Rattle.chain.specs.Layout.{CLOSE, PROCESS_EXIT, LOCKING, READ, WRITE, TREE_DISCONNECT, LOGOFF, blockEnd}
-use Rattle.chain.specs.Parse.{bare, lockingFits, readFits, writeFits, linkFits, linkAt, answer, parseLocking, parseRead, parseWrite, parseClose, parseLogoff, parseEmpty, parse}
-use Rattle.chain.specs.ParseLaws.{bare-inside, locking-inside, read-inside, write-inside}
+use Rattle.chain.specs.Layout.{CLOSE, PROCESS_EXIT, LOCKING, READ, WRITE, TREE_DISCONNECT, LOGOFF, CORE-READ, CORE-WRITE, LOCK_BYTE_RANGE, UNLOCK_BYTE_RANGE, blockEnd}
+use Rattle.chain.specs.Parse.{bare, lockingFits, readFits, writeFits, coreWriteFits, linkFits, linkAt, answer, parseLocking, parseRead, parseWrite, parseLogoff, parseBare, parseCoreWrite, parse}
+use Rattle.chain.specs.ParseLaws.{bare-inside, locking-inside, read-inside, write-inside, core-write-inside}
 use Rattle.chain.specs.Request.{requestNamed, isAndx}
 use Rattle.chain.specs.RequestLaws.{Unserved, by-request}
 use Rattle.chain.specs.Judged.{isWhole, judged}
@@ -30,6 +30,10 @@ rowFits s named.Close at = bare s at 3
 rowFits s named.Logoff at = bare s at 2
 rowFits s named.TreeDisconnect at = bare s at 0
 rowFits s named.ProcessExit at = bare s at 0
+rowFits s named.CoreRead at = bare s at 5
+rowFits s named.CoreWrite at = coreWriteFits s at
+rowFits s named.LockByteRange at = bare s at 5
+rowFits s named.UnlockByteRange at = bare s at 5
 rowFits s named.None at = false
 
 -- and with them, where it has them
@@ -65,7 +69,7 @@ module _ (s : List ℕ) (at : ℕ) where
   row-write = (_, record { is = refl })
 
   row-close : Row CLOSE
-  unfolding parse parseClose fits rowFits isAndx requestNamed nextAt
+  unfolding parse parseBare fits rowFits isAndx requestNamed nextAt
   row-close = (_, record { is = refl })
 
   row-logoff : Row LOGOFF
@@ -73,23 +77,41 @@ module _ (s : List ℕ) (at : ℕ) where
   row-logoff = (_, record { is = refl })
 
   row-tree-disconnect : Row TREE_DISCONNECT
-  unfolding parse parseEmpty fits rowFits isAndx requestNamed nextAt
+  unfolding parse parseBare fits rowFits isAndx requestNamed nextAt
   row-tree-disconnect = (_, record { is = refl })
 
   pub row-process-exit : HasBody s PROCESS_EXIT at ProcessExit
-  unfolding parse parseEmpty fits rowFits isAndx requestNamed nextAt
+  unfolding parse parseBare fits rowFits isAndx requestNamed nextAt
   row-process-exit = record { is = refl }
+
+  row-core-read : Row CORE-READ
+  unfolding parse parseBare fits rowFits isAndx requestNamed nextAt
+  row-core-read = (_, record { is = refl })
+
+  row-core-write : Row CORE-WRITE
+  unfolding parse parseCoreWrite fits rowFits isAndx requestNamed nextAt
+  row-core-write = (_, record { is = refl })
+
+  row-lock-byte-range : Row LOCK_BYTE_RANGE
+  unfolding parse parseBare fits rowFits isAndx requestNamed nextAt
+  row-lock-byte-range = (_, record { is = refl })
+
+  row-unlock-byte-range : Row UNLOCK_BYTE_RANGE
+  unfolding parse parseBare fits rowFits isAndx requestNamed nextAt
+  row-unlock-byte-range = (_, record { is = refl })
 
   -- what is no request served has no block, so it may have any fields
   pub row-none : (command : ℕ) → Unserved command → HasBody s command at ProcessExit
   unfolding parse answer fits rowFits isAndx requestNamed nextAt
   row-none command u =
-      record { is = rw (u .no-locking, u .no-read, u .no-write, u .no-close, u .no-logoff, u .no-tree-disconnect, u .no-process-exit) }
+      record {
+        is = rw (u .no-locking, u .no-read, u .no-write, u .no-close, u .no-logoff, u .no-tree-disconnect, u .no-process-exit, u .no-core-read, u .no-core-write, u .no-lock-byte-range, u .no-unlock-byte-range);
+      }
 
   pub parse-row : (command : ℕ) → Row command
   parse-row command =
       by-request (λ (request : ServedRequest) (command : ℕ). Row command) command row-locking row-read row-write row-close row-logoff row-tree-disconnect
-      (ProcessExit, row-process-exit) (λ u. (ProcessExit, row-none command u))
+      (ProcessExit, row-process-exit) row-core-read row-core-write row-lock-byte-range row-unlock-byte-range (λ u. (ProcessExit, row-none command u))
 
 -- ---- a block judged
 
@@ -103,6 +125,10 @@ row-inside s named.Close at e = bare-inside s at 3 e
 row-inside s named.Logoff at e = bare-inside s at 2 e
 row-inside s named.TreeDisconnect at e = bare-inside s at 0 e
 row-inside s named.ProcessExit at e = bare-inside s at 0 e
+row-inside s named.CoreRead at e = bare-inside s at 5 e
+row-inside s named.CoreWrite at e = core-write-inside s at e
+row-inside s named.LockByteRange at e = bare-inside s at 5 e
+row-inside s named.UnlockByteRange at e = bare-inside s at 5 e
 row-inside s named.None at e = absurd (false≢true e)
 
 judged-answer : (s : List ℕ) (command at : ℕ) (t : Bool) (body : Body) (next : Next) → judged (answer s command at t body next) ≡ cond t (judge.Fits next) judge.Malformed

@@ -23,7 +23,14 @@ pub struct WriteFields {
     pub from: usize,
 }
 
-// A block by its command.
+// What a LOCK_BYTE_RANGE or UNLOCK_BYTE_RANGE block asks: one range, of the header's process.
+pub struct RangeFields {
+    pub fid: u16,
+    pub offset: u32,
+    pub length: u32,
+}
+
+// A block by its command. A core READ or WRITE has the fields of its AndX counterpart (document 02, CR 3).
 pub enum Body {
     Locking(LockingFields),
     Read(ReadFields),
@@ -32,6 +39,10 @@ pub enum Body {
     Logoff,
     TreeDisconnect,
     ProcessExit,
+    CoreRead(ReadFields),
+    CoreWrite(WriteFields),
+    LockByteRange(RangeFields),
+    UnlockByteRange(RangeFields),
 }
 
 // What follows a block: nothing, or a block with that command at that place.

@@ -18,6 +18,14 @@ pub const TREE_DISCONNECT: u8 = 0x71;
 
 pub const LOGOFF: u8 = 0x74;
 
+pub const CORE_READ: u8 = 0x0a;
+
+pub const CORE_WRITE: u8 = 0x0b;
+
+pub const LOCK_BYTE_RANGE: u8 = 0x0c;
+
+pub const UNLOCK_BYTE_RANGE: u8 = 0x0d;
+
 // The AndXCommand that ends a chain.
 pub const NO_COMMAND: u8 = 0xff;
 
@@ -30,6 +38,10 @@ pub enum ServedRequest {
     Logoff,
     TreeDisconnect,
     ProcessExit,
+    CoreRead,
+    CoreWrite,
+    LockByteRange,
+    UnlockByteRange,
     None,
 }
 
@@ -45,6 +57,10 @@ pub(crate) fn request_named(command: u8) -> ServedRequest
         LOGOFF => ServedRequest::Logoff,
         TREE_DISCONNECT => ServedRequest::TreeDisconnect,
         PROCESS_EXIT => ServedRequest::ProcessExit,
+        CORE_READ => ServedRequest::CoreRead,
+        CORE_WRITE => ServedRequest::CoreWrite,
+        LOCK_BYTE_RANGE => ServedRequest::LockByteRange,
+        UNLOCK_BYTE_RANGE => ServedRequest::UnlockByteRange,
         _ => ServedRequest::None,
     }
 }
@@ -61,6 +77,10 @@ pub(crate) fn is_andx(request: ServedRequest) -> bool
         ServedRequest::Logoff => true,
         ServedRequest::TreeDisconnect => false,
         ServedRequest::ProcessExit => false,
+        ServedRequest::CoreRead => false,
+        ServedRequest::CoreWrite => false,
+        ServedRequest::LockByteRange => false,
+        ServedRequest::UnlockByteRange => false,
         ServedRequest::None => false,
     }
 }
@@ -84,7 +104,13 @@ pub fn may_follow(command: u8, next: u8) -> bool
         if next == READ {
             return true;
         }
-        return next == WRITE;
+        if next == WRITE {
+            return true;
+        }
+        if next == CORE_READ {
+            return true;
+        }
+        return next == CORE_WRITE;
     }
     if command == READ {
         return next == CLOSE;

@@ -7,9 +7,13 @@ use crate::command::ServedRequest;
 use crate::command::is_andx;
 use crate::command::may_follow;
 use crate::command::request_named;
+use crate::place::CORE_COUNT;
+use crate::place::CORE_WRITE_BYTE_COUNT;
+use crate::place::DATA_MARK;
 use crate::place::LOCK_TYPE;
 use crate::place::LOCKING_BYTE_COUNT;
 use crate::place::LOCKS;
+use crate::place::MARKED_LENGTH;
 use crate::place::UNLOCKS;
 use crate::place::WRITE_DATA_OFFSET;
 use crate::place::WRITE_LENGTH;
@@ -20,7 +24,7 @@ use locks::wire_form::range_size;
 ghost use mathlib.Core.Path.{_≡_};
 ghost use Prim.Native.Nat.{_<_};
 ghost use lib.ListN.{length};
-ghost use Rattle.chain.specs.Parse.{lockingFits, readFits, writeFits, dataInside, parse};
+ghost use Rattle.chain.specs.Parse.{lockingFits, readFits, writeFits, dataInside, coreWriteFits, parse};
 ghost use Rattle.chain.specs.Rows.{rowFits, linkJudged};
 ghost use Rattle.chain.specs.Judged.{judged};
 
@@ -74,6 +78,25 @@ fn write_fits(s: &[u8], at: usize) -> bool
     false
 }
 
+// Whether the core WRITE block at a place has just a data block, marked 0x01 and as long as its count word says: "a data block
+// not marked 0x01 or whose lengths disagree is 2/1" (document 02, CR 3).
+fn core_write_fits(s: &[u8], at: usize) -> bool
+    ensures { λ r. ⌜ r ≡ coreWriteFits (now (s .entry)) at ⌝ }
+{
+    if !has_shape(s, at, 5) {
+        return false;
+    }
+    if wire::byte_at(s, at + DATA_MARK) != 1 {
+        return false;
+    }
+    let count = wire::le16_at(s, at + CORE_COUNT);
+    if wire::le16_at(s, at + MARKED_LENGTH) != count {
+        return false;
+    }
+    let bytes = wire::le16_at(s, at + CORE_WRITE_BYTE_COUNT) as usize;
+    bytes == 3 + count as usize
+}
+
 // Whether the block at a place is one of the request's row; no other request is served.
 fn row_fits(s: &[u8], request: ServedRequest, at: usize) -> bool
     ensures { λ r. ⌜ r ≡ rowFits (now (s .entry)) request at ⌝ }
@@ -86,6 +109,10 @@ fn row_fits(s: &[u8], request: ServedRequest, at: usize) -> bool
         ServedRequest::Logoff => is_bare(s, at, 2),
         ServedRequest::TreeDisconnect => is_bare(s, at, 0),
         ServedRequest::ProcessExit => is_bare(s, at, 0),
+        ServedRequest::CoreRead => is_bare(s, at, 5),
+        ServedRequest::CoreWrite => core_write_fits(s, at),
+        ServedRequest::LockByteRange => is_bare(s, at, 5),
+        ServedRequest::UnlockByteRange => is_bare(s, at, 5),
         ServedRequest::None => false,
     }
 }

@@ -4,16 +4,22 @@ use crate::block::Block;
 use crate::block::Body;
 use crate::block::LockingFields;
 use crate::block::Next;
+use crate::block::RangeFields;
 use crate::block::ReadFields;
 use crate::block::WriteFields;
 use crate::command::ServedRequest;
 use crate::command::is_andx;
 use crate::command::request_named;
-use crate::place::CLOSE_FID;
+use crate::place::CORE_COUNT;
+use crate::place::CORE_OFFSET;
 use crate::place::FID;
+use crate::place::FIRST_FID;
 use crate::place::LOCK_TYPE;
 use crate::place::LOCKS;
+use crate::place::MARKED_DATA;
 use crate::place::OFFSET;
+use crate::place::RANGE_COUNT;
+use crate::place::RANGE_OFFSET;
 use crate::place::READ_MAX;
 use crate::place::READ_OFFSET_HIGH;
 use crate::place::UNLOCKS;
@@ -27,10 +33,10 @@ ghost use Prim.Native.Nat.{_<_};
 ghost use mathlib.Core.Bool.{true};
 ghost use lib.ListN.{length};
 ghost use Rattle.wire.specs.LittleEndian.{le32At};
-ghost use Rattle.chain.specs.Parse.{wideOffset, parse};
+ghost use Rattle.chain.specs.Parse.{wideOffset, coreReadAt, rangeFields, parse};
 ghost use Rattle.chain.specs.Rows.{HasBody, nextAt};
 ghost use Rattle.chain.specs.Judged.{isWhole};
-ghost use Rattle.chain.specs.Layout.{LOCKING, READ, WRITE, CLOSE};
+ghost use Rattle.chain.specs.Layout.{LOCKING, READ, WRITE, CORE-WRITE};
 ghost use Rattle.chain.specs.declared.block.Parsed.the-variants.{Whole};
 
 fn locking_body(s: &[u8], at: usize) -> Body
@@ -97,6 +103,49 @@ fn write_body(s: &[u8], at: usize) -> Body
     })
 }
 
+// "with 32-bit offsets".
+fn core_read_body(s: &[u8], at: usize) -> Body
+    requires { ⌜ at < length (now s) ⌝ }
+    ensures { λ r. ⌜ r ≡ coreReadAt (now (s .entry)) at ⌝ }
+{
+    let fid = wire::le16_at(s, at + FIRST_FID);
+    let offset = wire::le32_at(s, at + CORE_OFFSET) as u64;
+    let max = wire::le16_at(s, at + CORE_COUNT);
+    Body::CoreRead(ReadFields { fid, offset, max })
+}
+
+// A block that was judged to stand there has 5 words: its data stand where `MARKED_DATA` says.
+fn core_write_body(s: &[u8], at: usize) -> Body
+    requires { ⌜ at < length (now s) ⌝ }
+    ensures { λ r. ⌜ HasBody (now (s .entry)) CORE-WRITE at r ⌝ }
+{
+    let fid = wire::le16_at(s, at + FIRST_FID);
+    let offset = wire::le32_at(s, at + CORE_OFFSET) as u64;
+    let count = wire::le16_at(s, at + CORE_COUNT);
+    let from = at + MARKED_DATA;
+    Body::CoreWrite(WriteFields {
+        fid,
+        offset,
+        count,
+        from,
+    })
+}
+
+// The one range of a LOCK_BYTE_RANGE or UNLOCK_BYTE_RANGE.
+fn range_fields(s: &[u8], at: usize) -> RangeFields
+    requires { ⌜ at < length (now s) ⌝ }
+    ensures { λ r. ⌜ r ≡ rangeFields (now (s .entry)) at ⌝ }
+{
+    let fid = wire::le16_at(s, at + FIRST_FID);
+    let offset = wire::le32_at(s, at + RANGE_OFFSET);
+    let length = wire::le32_at(s, at + RANGE_COUNT);
+    RangeFields {
+        fid,
+        offset,
+        length,
+    }
+}
+
 // The fields of a block by its command. What is no request served has no block, so it may have any.
 fn body_at(s: &[u8], command: u8, at: usize) -> Body
     requires { ⌜ at < length (now s) ⌝ }
@@ -107,10 +156,14 @@ fn body_at(s: &[u8], command: u8, at: usize) -> Body
         ServedRequest::Locking => locking_body(s, at),
         ServedRequest::Read => read_body(s, at),
         ServedRequest::Write => write_body(s, at),
-        ServedRequest::Close => Body::Close(wire::le16_at(s, at + CLOSE_FID)),
+        ServedRequest::Close => Body::Close(wire::le16_at(s, at + FIRST_FID)),
         ServedRequest::Logoff => Body::Logoff,
         ServedRequest::TreeDisconnect => Body::TreeDisconnect,
         ServedRequest::ProcessExit => Body::ProcessExit,
+        ServedRequest::CoreRead => core_read_body(s, at),
+        ServedRequest::CoreWrite => core_write_body(s, at),
+        ServedRequest::LockByteRange => Body::LockByteRange(range_fields(s, at)),
+        ServedRequest::UnlockByteRange => Body::UnlockByteRange(range_fields(s, at)),
         ServedRequest::None => Body::ProcessExit,
     }
 }

@@ -1,4 +1,4 @@
-// Where fields stand, from a block's start: document 01, "Words after AndX"; specs/Layout.antt has the same places.
+// Where fields stand, from a block's start: document 01, "Words after AndX"; document 02, CR 3; specs/Layout.antt has the same places.
 pub(crate) const FID: usize = 5;
 
 pub(crate) const LOCK_TYPE: usize = 7;
@@ -21,4 +21,24 @@ pub(crate) const WRITE_DATA_OFFSET: usize = 23;
 
 pub(crate) const WRITE_OFFSET_HIGH: usize = 25;
 
-pub(crate) const CLOSE_FID: usize = 1;
+// Without AndX the FID is the first word.
+pub(crate) const FIRST_FID: usize = 1;
+
+// The core READ and WRITE (document 02, CR 3), and the data block in a WRITE's bytes: a block of 5 words has them 13 places behind
+// its start.
+pub(crate) const CORE_COUNT: usize = 3;
+
+pub(crate) const CORE_OFFSET: usize = 5;
+
+pub(crate) const CORE_WRITE_BYTE_COUNT: usize = 11;
+
+pub(crate) const DATA_MARK: usize = 13;
+
+pub(crate) const MARKED_LENGTH: usize = 14;
+
+pub(crate) const MARKED_DATA: usize = 16;
+
+// LOCK_BYTE_RANGE and UNLOCK_BYTE_RANGE.
+pub(crate) const RANGE_COUNT: usize = 3;
+
+pub(crate) const RANGE_OFFSET: usize = 7;

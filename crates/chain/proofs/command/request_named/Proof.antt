@@ -35,9 +35,25 @@ returns-7 c = rw (c .match .keys7)
 
 returns-8 : tie.Need-returns-8
 unfolding requestNamed
-returns-8 c =
+returns-8 c = rw (c .match .keys8)
+
+returns-9 : tie.Need-returns-9
+unfolding requestNamed
+returns-9 c = rw (c .match .keys9)
+
+returns-10 : tie.Need-returns-10
+unfolding requestNamed
+returns-10 c = rw (c .match .keys10)
+
+returns-11 : tie.Need-returns-11
+unfolding requestNamed
+returns-11 c = rw (c .match .keys11)
+
+returns-12 : tie.Need-returns-12
+unfolding requestNamed
+returns-12 c =
     let command = c .before .args .command in
-    rw (ne-eqb command 36 (c .match .rest .0 .0 .0 .0 .0 .0 .1), ne-eqb command 46 (c .match .rest .0 .0 .0 .0 .0 .1), ne-eqb command 47 (c .match .rest .0 .0 .0 .0 .1), ne-eqb command 4 (c .match .rest .0 .0 .0 .1), ne-eqb command 116 (c .match .rest .0 .0 .1), ne-eqb command 113 (c .match .rest .0 .1), ne-eqb command 17 (c .match .rest .1))
+    rw (ne-eqb command 36 (c .match .rest .0 .0 .0 .0 .0 .0 .0 .0 .0 .0 .1), ne-eqb command 46 (c .match .rest .0 .0 .0 .0 .0 .0 .0 .0 .0 .1), ne-eqb command 47 (c .match .rest .0 .0 .0 .0 .0 .0 .0 .0 .1), ne-eqb command 4 (c .match .rest .0 .0 .0 .0 .0 .0 .0 .1), ne-eqb command 116 (c .match .rest .0 .0 .0 .0 .0 .0 .1), ne-eqb command 113 (c .match .rest .0 .0 .0 .0 .0 .1), ne-eqb command 17 (c .match .rest .0 .0 .0 .0 .1), ne-eqb command 10 (c .match .rest .0 .0 .0 .1), ne-eqb command 11 (c .match .rest .0 .0 .1), ne-eqb command 12 (c .match .rest .0 .1), ne-eqb command 13 (c .match .rest .1))
 
 pub request-named-spec : {M : Type 1} → statement M
-request-named-spec = tie.close (tie.spec returns returns-2 returns-3 returns-4 returns-5 returns-6 returns-7 returns-8)
+request-named-spec = tie.close (tie.spec returns returns-2 returns-3 returns-4 returns-5 returns-6 returns-7 returns-8 returns-9 returns-10 returns-11 returns-12)

@@ -50,6 +50,30 @@ is-bare-requires-4 c κs = search needs
 enum-told-8 : tie.Need-enum-told-8
 enum-told-8 c = search needs
 
+is-bare-requires-5 : tie.Need-is-bare-requires-5
+is-bare-requires-5 c κs = search needs
+
+enum-told-9 : tie.Need-enum-told-9
+enum-told-9 c = search needs
+
+core-write-fits-requires : tie.Need-core-write-fits-requires
+core-write-fits-requires c κs = search needs
+
+enum-told-10 : tie.Need-enum-told-10
+enum-told-10 c = search needs
+
+is-bare-requires-6 : tie.Need-is-bare-requires-6
+is-bare-requires-6 c κs = search needs
+
+enum-told-11 : tie.Need-enum-told-11
+enum-told-11 c = search needs
+
+is-bare-requires-7 : tie.Need-is-bare-requires-7
+is-bare-requires-7 c κs = search needs
+
+enum-told-12 : tie.Need-enum-told-12
+enum-told-12 c = search needs
+
 returns : tie.Need-returns
 unfolding rowFits
 returns c = rw (c .before .enum-told .given .1) (c .locking-fits .ensures)
@@ -80,7 +104,23 @@ returns-7 c = rw (c .before .enum-told7 .given .1) (c .is-bare4 .ensures)
 
 returns-8 : tie.Need-returns-8
 unfolding rowFits
-returns-8 c = rw (c .enum-told8 .given .1)
+returns-8 c = rw (c .before .enum-told8 .given .1) (c .is-bare5 .ensures)
+
+returns-9 : tie.Need-returns-9
+unfolding rowFits
+returns-9 c = rw (c .before .enum-told9 .given .1) (c .core-write-fits .ensures)
+
+returns-10 : tie.Need-returns-10
+unfolding rowFits
+returns-10 c = rw (c .before .enum-told10 .given .1) (c .is-bare6 .ensures)
+
+returns-11 : tie.Need-returns-11
+unfolding rowFits
+returns-11 c = rw (c .before .enum-told11 .given .1) (c .is-bare7 .ensures)
+
+returns-12 : tie.Need-returns-12
+unfolding rowFits
+returns-12 c = rw (c .enum-told12 .given .1)
 
 pub row-fits-spec : {M : Type 1} → statement M
 row-fits-spec =
@@ -101,6 +141,14 @@ row-fits-spec =
     enum-told-7
     is-bare-requires-4
     enum-told-8
+    is-bare-requires-5
+    enum-told-9
+    core-write-fits-requires
+    enum-told-10
+    is-bare-requires-6
+    enum-told-11
+    is-bare-requires-7
+    enum-told-12
     returns
     returns-2
     returns-3
@@ -108,4 +156,8 @@ row-fits-spec =
     returns-5
     returns-6
     returns-7
-    returns-8)
+    returns-8
+    returns-9
+    returns-10
+    returns-11
+    returns-12)

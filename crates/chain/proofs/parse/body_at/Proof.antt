@@ -1,7 +1,7 @@
 -- `chain::parse::body_at` meets its contract: each request's arm is the definition's, at the request's number.
 -- Assumes nothing.
 use mathlib.Core.Path.{sym, _∙_}
-use Rattle.chain.specs.Parse.{parse, parseClose, parseLogoff, parseEmpty}
+use Rattle.chain.specs.Parse.{parse, parseLogoff, parseBare}
 use Rattle.chain.specs.Request.{requestNamed, isAndx}
 use Rattle.chain.specs.RequestLaws.{Names, names}
 use Rattle.chain.specs.Rows.{fits, rowFits, nextAt, row-process-exit, row-none}
@@ -51,6 +51,30 @@ enum-told-7 c = search needs
 enum-told-8 : tie.Need-enum-told-8
 enum-told-8 c = search needs
 
+core-read-body-requires : tie.Need-core-read-body-requires
+core-read-body-requires c κs = search needs
+
+enum-told-9 : tie.Need-enum-told-9
+enum-told-9 c = search needs
+
+core-write-body-requires : tie.Need-core-write-body-requires
+core-write-body-requires c κs = search needs
+
+enum-told-10 : tie.Need-enum-told-10
+enum-told-10 c = search needs
+
+range-fields-requires : tie.Need-range-fields-requires
+range-fields-requires c κs = search needs
+
+enum-told-11 : tie.Need-enum-told-11
+enum-told-11 c = search needs
+
+range-fields-requires-2 : tie.Need-range-fields-requires-2
+range-fields-requires-2 c κs = search needs
+
+enum-told-12 : tie.Need-enum-told-12
+enum-told-12 c = search needs
+
 returns : tie.Need-returns
 unfolding Names
 returns c = rw (names (c .before .before .before .before .before .args .command) (sym (c .before .enum-told .given .1) ∙ c .before .before .before .request-named .ensures)) (c .locking-body .ensures)
@@ -64,7 +88,7 @@ unfolding Names
 returns-3 c = rw (names (c .before .before .before .before .before .args .command) (sym (c .before .enum-told3 .given .1) ∙ c .before .before .before .request-named .ensures)) (c .write-body .ensures)
 
 returns-4 : tie.Need-returns-4
-unfolding Names parse fits rowFits isAndx requestNamed nextAt parseClose
+unfolding Names parse fits rowFits isAndx requestNamed nextAt parseBare
 returns-4 c = record { is = rw (names (c .before .before .before .before .before .args .command) (sym (c .before .enum-told4 .given .1) ∙ c .before .before .before .request-named .ensures), c .le16-at .ensures) }
 
 returns-5 : tie.Need-returns-5
@@ -72,7 +96,7 @@ unfolding Names parse fits rowFits isAndx requestNamed nextAt parseLogoff
 returns-5 c = record { is = rw (names (c .before .before .before .before .args .command) (sym (c .enum-told5 .given .1) ∙ c .before .before .request-named .ensures)) }
 
 returns-6 : tie.Need-returns-6
-unfolding Names parse fits rowFits isAndx requestNamed nextAt parseEmpty
+unfolding Names parse fits rowFits isAndx requestNamed nextAt parseBare
 returns-6 c = record { is = rw (names (c .before .before .before .before .args .command) (sym (c .enum-told6 .given .1) ∙ c .before .before .request-named .ensures)) }
 
 returns-7 : tie.Need-returns-7
@@ -82,10 +106,24 @@ returns-7 c =
     rw (names (args .command) (sym (c .enum-told7 .given .1) ∙ c .before .before .request-named .ensures)) (row-process-exit (args .s .now) (args .at))
 
 returns-8 : tie.Need-returns-8
+unfolding Names parse fits rowFits isAndx requestNamed nextAt parseBare
+returns-8 c = record { is = rw (names (c .before .before .before .before .before .args .command) (sym (c .before .enum-told8 .given .1) ∙ c .before .before .before .request-named .ensures), c .core-read-body .ensures) }
+
+returns-9 : tie.Need-returns-9
 unfolding Names
-returns-8 c =
-    let args = c .before .before .before .before .args in
-    row-none (args .s .now) (args .at) (args .command) (names (args .command) (sym (c .enum-told8 .given .1) ∙ c .before .before .request-named .ensures))
+returns-9 c = rw (names (c .before .before .before .before .before .args .command) (sym (c .before .enum-told9 .given .1) ∙ c .before .before .before .request-named .ensures)) (c .core-write-body .ensures)
+
+returns-10 : tie.Need-returns-10
+unfolding Names parse fits rowFits isAndx requestNamed nextAt parseBare
+returns-10 c = record { is = rw (names (c .before .before .before .before .before .args .command) (sym (c .before .enum-told10 .given .1) ∙ c .before .before .before .request-named .ensures), c .range-fields .ensures) }
+
+returns-11 : tie.Need-returns-11
+unfolding Names parse fits rowFits isAndx requestNamed nextAt parseBare
+returns-11 c = record { is = rw (names (c .before .before .before .before .before .args .command) (sym (c .before .enum-told11 .given .1) ∙ c .before .before .before .request-named .ensures), c .range-fields2 .ensures) }
+
+returns-12 : tie.Need-returns-12
+unfolding Names
+returns-12 c = row-none (c .before .before .before .before .args .s .now) (c .before .before .before .before .args .at) (c .before .before .before .before .args .command) (names (c .before .before .before .before .args .command) (sym (c .enum-told12 .given .1) ∙ c .before .before .request-named .ensures))
 
 pub body-at-spec : {M : Type 1} → statement M
 body-at-spec =
@@ -105,6 +143,14 @@ body-at-spec =
     enum-told-6
     enum-told-7
     enum-told-8
+    core-read-body-requires
+    enum-told-9
+    core-write-body-requires
+    enum-told-10
+    range-fields-requires
+    enum-told-11
+    range-fields-requires-2
+    enum-told-12
     returns
     returns-2
     returns-3
@@ -112,4 +158,8 @@ body-at-spec =
     returns-5
     returns-6
     returns-7
-    returns-8)
+    returns-8
+    returns-9
+    returns-10
+    returns-11
+    returns-12)
