@@ -2,7 +2,7 @@
 -- pad 2, offset high 4, low 4, length high 4, low 4". `large` is lock type bit 0x10.
 -- Assumes nothing.
 use mathlib.Core.Path.{_≡_, refl, ap}
-use Prim.Native.Nat.{ℕ, zero, suc, _+_, _-_, _*_, _^_, _≤_, _<_}
+use Prim.Native.Nat.{ℕ, zero, suc, _+_, _-_, _*_, _/_, _%_, _^_, _≤_, _<_}
 use native.Mathlib.Nat.{add-zero}
 use native.Mathlib.Numerals.{add-one}
 use native.Mathlib.Omega.{arith}
@@ -37,6 +37,33 @@ rangeAt large s k = rangeFrom large s (k * rangeSize large)
 unfoldable pub rangesAt : Bool → List ℕ → ℕ → ℕ → List LockRange
 rangesAt large s k zero = []
 rangesAt large s k (suc n) = rangeAt large s k ∷ rangesAt large s (suc k) n
+
+-- a range in the 10-byte form: of each number as much as its field holds
+unfoldable pub smallForm : LockRange → List ℕ
+smallForm r =
+    r .process % 256 ∷ r .process / 256 % 256
+    ∷ r .offset % 256 ∷ r .offset / 256 % 256 ∷ r .offset / 65536 % 256 ∷ r .offset / 16777216 % 256
+    ∷ r .length % 256 ∷ r .length / 256 % 256 ∷ r .length / 65536 % 256 ∷ r .length / 16777216 % 256
+    ∷ []
+
+-- two bytes and four of a number
+two-bytes : (n : ℕ) → n % 256 + 256 * (n / 256 % 256) ≡ n % 65536
+two-bytes n = omega arith
+
+above : (n : ℕ) → n / 65536 / 256 ≡ n / 16777216
+above n = omega arith
+
+halves : (n : ℕ) → n % 65536 + 65536 * (n / 65536 % 65536) ≡ n % 4294967296
+halves n = omega arith
+
+four-bytes : (n : ℕ) → n % 256 + 256 * (n / 256 % 256) + 65536 * (n / 65536 % 256 + 256 * (n / 16777216 % 256)) ≡ n % 4294967296
+four-bytes n = rw (← (above n), two-bytes n, two-bytes (n / 65536)) (halves n)
+
+-- what is read back of it
+pub small-back : (r : LockRange)
+    → rangeAt false (smallForm r) 0 ≡ record { process = r .process % 65536; offset = r .offset % 4294967296; length = r .length % 4294967296 }
+unfolding rangeAt rangeFrom numberAt rangeSize smallForm le32At le16At
+small-back r = rw (two-bytes (r .process), four-bytes (r .offset), four-bytes (r .length))
 
 -- the place of a range in an area of fewer than 2^17 ranges is small
 pub place-small : (large : Bool) (k : ℕ) → k < 2 ^ 17 → k * rangeSize large ≤ 2621440

@@ -1,13 +1,14 @@
 // The two wire forms of a lock range, 10 and 20 bytes. The area is a part of the message that starts
-// at the block's byte area.
+// at the block's byte area, or the one range of a core command.
 
 use crate::types::LockRange;
 use crate::types::Request;
+use tables::cut::low8;
 ghost use mathlib.Core.Path.{_≡_};
 ghost use Prim.Native.Nat.{ℕ, _+_, _*_, _≤_, _<_, _^_};
 ghost use lib.ListN.{length};
 ghost use Rattle.wire.specs.LittleEndian.{le32At};
-ghost use Rattle.locks.specs.Wire.{rangeSize, numberAt, rangeFrom, rangeAt};
+ghost use Rattle.locks.specs.Wire.{rangeSize, numberAt, rangeFrom, rangeAt, smallForm};
 ghost use Rattle.locks.specs.Request.{ofHeader};
 
 // How many bytes a range takes.
@@ -27,6 +28,25 @@ fn wide64(x: u32) -> u64
     ensures { λ r. ⌜ r ≡ x ⌝ }
 {
     x as u64
+}
+
+// A range in the 10-byte form: LOCK_BYTE_RANGE and UNLOCK_BYTE_RANGE are a LOCKING of one range (document 02, CR 3).
+pub fn small_form(r: LockRange) -> [u8; 10]
+    ensures { λ a. ⌜ a ≡ smallForm r ⌝ }
+{
+    let process = wide64(r.process);
+    [
+        low8(process),
+        low8(process / 256),
+        low8(r.offset),
+        low8(r.offset / 256),
+        low8(r.offset / 65536),
+        low8(r.offset / 16777216),
+        low8(r.length),
+        low8(r.length / 256),
+        low8(r.length / 65536),
+        low8(r.length / 16777216),
+    ]
 }
 
 // A number of 32 bits that stands inside the area.
