@@ -1,10 +1,10 @@
--- What one command does (document 01, "Refusals on the wire" for the order, "Locks, reads and writes" for the rest). It takes
+-- What one command does (document 01, "Refusals on the wire" for the order, "Locks, reads and writes" for the rest; document 02, CR 3). It takes
 -- the caller's numbers, the command's fields and its bytes, never its place, and gives a refusal or the new state with what
 -- its reply block says. Assumes nothing.
-use Prim.Native.Nat.{ℕ, _+_, _/_, _%_}
+use Prim.Native.Nat.{ℕ, min, max, _+_, _-_, _/_, _%_}
 use mathlib.Core.Bool.{Bool, cond, not, _&&_, _||_}
 use mathlib.Core.List.{List}
-use lib.ListN.{length, getD}
+use lib.ListN.{length, drop, getD}
 use lib.Dec.{ltb, eqb}
 use Rattle.lists.specs.Walk.{any, found}
 use Rattle.lists.specs.declared.Found.{Found}
@@ -17,7 +17,9 @@ use Rattle.records.specs.Empty.{noOpen}
 use Rattle.records.specs.Held.{sessionsOf, treesOf, opensOf, locksOf}
 use Rattle.locks.specs.Answer.{answers}
 use Rattle.locks.specs.Request.{holderAt, locking}
+use Rattle.locks.specs.Wire.{smallForm}
 use Rattle.locks.specs.declared.types.Ask.{Ask}
+use Rattle.locks.specs.declared.types.LockRange.{LockRange}
 use Rattle.locks.specs.declared.types.Request.{Request}
 use Rattle.locks.specs.declared.types.Locking.{Locking}
 use Rattle.locks.specs.declared.types.Outcome.{Outcome}
@@ -31,10 +33,11 @@ use Rattle.removal.specs.declared.Gone.the-variants.{Session as UserGone, Tree 
 use Rattle.chain.specs.declared.block.LockingFields.{LockingFields}
 use Rattle.chain.specs.declared.block.ReadFields.{ReadFields}
 use Rattle.chain.specs.declared.block.WriteFields.{WriteFields}
+use Rattle.chain.specs.declared.block.RangeFields.{RangeFields}
 use Rattle.chain.specs.declared.block.Body.{Body}
-use Rattle.chain.specs.declared.block.Body.the-variants.{Locking as LockingBody, Read as ReadBody, Write as WriteBody, Close, Logoff, TreeDisconnect, ProcessExit}
+use Rattle.chain.specs.declared.block.Body.the-variants.{Locking as LockingBody, Read as ReadBody, Write as WriteBody, Close, Logoff, TreeDisconnect, ProcessExit, CoreRead as CoreReadBody, CoreWrite as CoreWriteBody, LockByteRange, UnlockByteRange}
 use Rattle.message.specs.declared.caller.Caller.{Caller}
-use Rattle.message.specs.Contents.{readBytes, written, resized}
+use Rattle.message.specs.Contents.{sizeOf, readBytes, grown, written, withSize, resized}
 use Rattle.message.specs.declared.refusal.Refusal.{Refusal}
 use Rattle.message.specs.declared.refusal.Refusal.the-variants.{NotSentence, NoSession, NoTree, NoOpen, NoAccess, LockType, NoSuchLock, PassesEnd, Conflict, NoRecord, NoSpace}
 
@@ -45,6 +48,8 @@ pub data Said : Type 0 where
   read : List ℕ → Said
   wrote : ℕ → Said
   plain : Said
+  coreRead : List ℕ → Said
+  coreWrote : ℕ → Said
 
 -- a command refused, or done: the tables and the file memory it leaves, and what it says
 pub data Given : Type 0 where
@@ -149,23 +154,66 @@ doRead c t memory f =
     (unlessBarred t (barring t (askBy c (f .fid) (f .offset) (f .max) Reading))
     (done t memory (read (readBytes t memory (o .file) (f .offset) (f .max))))))
 
--- "or a write on access 0"; "write would end past 4,096"; "Length 0 writes nothing, changes no size and is done at any offset"
+-- what every write is refused for, in this order, and what it gives otherwise: "or a write on access 0"; 1/33 for what it asks of the locks; 3/39
+abbrev pub writing : Caller → Tables → ℕ → (Open → Ask) → Bool → (Open → Given) → Given
+writing c t fid ask past next =
+    withOpen c t fid
+    (λ o.
+    cond (eqb (o .access) 0) (refused NoAccess)
+    (unlessBarred t (barring t (ask o)) (cond past (refused NoSpace) (next o))))
+
+-- "write would end past 4,096"; "Length 0 writes nothing, changes no size and is done at any offset"
 unfoldable pub endsPast : ℕ → ℕ → Bool
 endsPast offset count = not (eqb count 0) && ltb 4096 (offset + count)
 
 unfoldable pub doWrite : Caller → Tables → List ℕ → WriteFields → List ℕ → Given
 doWrite c t memory f bytes =
-    withOpen c t (f .fid)
-    (λ o.
-    cond (eqb (o .access) 0) (refused NoAccess)
-    (unlessBarred t (barring t (askBy c (f .fid) (f .offset) (f .count) Writing))
-    (cond (endsPast (f .offset) (f .count)) (refused NoSpace)
-    (done (resized t (o .file) (f .offset) (f .count)) (written t memory (o .file) (f .offset) bytes) (wrote (f .count))))))
+    writing c t (f .fid) (λ o. askBy c (f .fid) (f .offset) (f .count) Writing) (endsPast (f .offset) (f .count))
+    (λ o. done (resized t (o .file) (f .offset) (f .count)) (written t memory (o .file) (f .offset) bytes) (wrote (f .count)))
 
--- ---- all seven
+-- ---- the core commands (document 02, CR 3): "with 32-bit offsets and the rules of their AndX counterparts"
+
+-- what is said in the counterpart's reply block, in the core command's
+unfoldable pub coreSaid : Said → Said
+coreSaid locked = plain
+coreSaid loggedOff = loggedOff
+coreSaid (read bytes) = coreRead bytes
+coreSaid (wrote count) = coreWrote count
+coreSaid plain = plain
+coreSaid (coreRead bytes) = coreRead bytes
+coreSaid (coreWrote count) = coreWrote count
+
+unfoldable pub asCore : Given → Given
+asCore (refused why) = refused why
+asCore (done t memory said) = done t memory (coreSaid said)
+
+-- "the process from the header; the lock is exclusive": LOCK_BYTE_RANGE and UNLOCK_BYTE_RANGE are the LOCKING of one range
+unfoldable pub rangeBy : Caller → RangeFields → LockRange
+rangeBy c f = record { process = c .process; offset = f .offset; length = f .length }
+
+unfoldable pub oneRange : RangeFields → ℕ → ℕ → LockingFields
+oneRange f unlocks locks = record { fid = f .fid; kind = 0; unlocks = unlocks; locks = locks }
+
+unfoldable pub doRange : Caller → Tables → List ℕ → RangeFields → ℕ → ℕ → Given
+doRange c t memory f unlocks locks = asCore (doLocking c t memory (oneRange f unlocks locks) (smallForm (rangeBy c f)))
+
+-- "A core WRITE of count 0 sets the file's size to the offset (past 4,096 is 3/39), with zeros where it grows and no byte changed where it
+-- shrinks; for locks it covers the bytes between the old and the new size."
+unfoldable pub betweenSizes : Caller → ℕ → ℕ → ℕ → Ask
+betweenSizes c fid old new = askBy c fid (min old new) (max old new - min old new) Writing
+
+unfoldable pub doSetSize : Caller → Tables → List ℕ → WriteFields → Given
+doSetSize c t memory f =
+    writing c t (f .fid) (λ o. betweenSizes c (f .fid) (sizeOf t (o .file)) (f .offset)) (ltb 4096 (f .offset))
+    (λ o. done (withSize t (o .file) (f .offset)) (grown t memory (o .file) (f .offset)) (coreWrote 0))
+
+unfoldable pub doCoreWrite : Caller → Tables → List ℕ → WriteFields → List ℕ → Given
+doCoreWrite c t memory f bytes = cond (eqb (f .count) 0) (doSetSize c t memory f) (asCore (doWrite c t memory f bytes))
+
+-- ---- all eleven
 
 -- "LOGOFF and PROCESS_EXIT stop after 2/91, TREE_DISCONNECT after 2/5, CLOSE after 1/6." `area` is the block's byte area,
--- `bytes` a write's data.
+-- `bytes` a write's data; a core WRITE's data stand in its byte area, behind the mark and the length of its data block.
 unfoldable pub perform : Caller → Tables → List ℕ → Body → List ℕ → List ℕ → Given
 perform c t memory (LockingBody f) area bytes = doLocking c t memory f area
 perform c t memory (ReadBody f) area bytes = doRead c t memory f
@@ -174,3 +222,7 @@ perform c t memory (Close fid) area bytes = withOpen c t fid (λ o. done (remove
 perform c t memory Logoff area bytes = withSession c t (done (remove (UserGone (c .uid)) t) memory loggedOff)
 perform c t memory TreeDisconnect area bytes = withTree c t (done (remove (TreeGone (c .tid)) t) memory plain)
 perform c t memory ProcessExit area bytes = withSession c t (done (remove (ProcessGone (c .uid) (c .process)) t) memory plain)
+perform c t memory (CoreReadBody f) area bytes = asCore (doRead c t memory f)
+perform c t memory (CoreWriteBody f) area bytes = doCoreWrite c t memory f (drop 3 area)
+perform c t memory (LockByteRange f) area bytes = doRange c t memory f 0 1
+perform c t memory (UnlockByteRange f) area bytes = doRange c t memory f 1 0

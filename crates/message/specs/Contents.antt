@@ -1,5 +1,5 @@
 -- The bytes of a file: "Files: 16, numbered from 0, 4,096 bytes each, in file memory of 65,536 bytes; each has a size"
--- (document 01, "Tables and room"), what a read yields and what a write leaves ("Locks, reads and writes"). Assumes nothing.
+-- (document 01, "Tables and room"), what a read yields and what a write leaves ("Locks, reads and writes"; document 02, CR 3). Assumes nothing.
 use Prim.Native.Nat.{ℕ, max, _+_, _-_, _*_}
 use mathlib.Core.Bool.{cond}
 use mathlib.Core.List.{List}
@@ -21,14 +21,21 @@ contents t memory file = take (sizeOf t file) (drop (file * 4096) memory)
 unfoldable pub readBytes : Tables → List ℕ → ℕ → ℕ → ℕ → List ℕ
 readBytes t memory file offset most = take most (drop offset (contents t memory file))
 
+-- the file memory with 0 from the file's size up to a place, where that lies further on
+abbrev pub grown : Tables → List ℕ → ℕ → ℕ → List ℕ
+grown t memory file end = put memory (file * 4096 + sizeOf t file) (replicate (end - sizeOf t file) 0)
+
 -- "Bytes between the old size and the write become 0"; the bytes written; bytes past the write's end stay. "Length 0 writes
 -- nothing, changes no size".
 unfoldable pub written : Tables → List ℕ → ℕ → ℕ → List ℕ → List ℕ
 written t memory file offset bytes =
     cond (eqb (length bytes) 0) memory
-    (put (put memory (file * 4096 + sizeOf t file) (replicate (offset - sizeOf t file) 0)) (file * 4096 + offset) bytes)
+    (put (grown t memory file offset) (file * 4096 + offset) bytes)
+
+abbrev pub withSize : Tables → ℕ → ℕ → Tables
+withSize t file size = withFiles t (set (t .files) file (record { size = size }))
 
 -- "and a size below the write's end becomes that end"
 unfoldable pub resized : Tables → ℕ → ℕ → ℕ → Tables
 resized t file offset count =
-    cond (eqb count 0) t (withFiles t (set (t .files) file (record { size = max (sizeOf t file) (offset + count) })))
+    cond (eqb count 0) t (withSize t file (max (sizeOf t file) (offset + count)))

@@ -8,7 +8,7 @@ use lib.Dec.{ltb, eqb}
 use Rattle.lists.specs.Put.{put}
 use Rattle.records.specs.declared.Tables.{Tables}
 use Rattle.soundness.specs.Sound.{sound}
-use Rattle.chain.specs.Layout.{CLOSE, PROCESS_EXIT, LOCKING, READ, WRITE, TREE_DISCONNECT, LOGOFF, headerCommand, FIRST, byteArea, byteCount, dataOffset, dataLength}
+use Rattle.chain.specs.Layout.{CLOSE, PROCESS_EXIT, LOCKING, READ, WRITE, TREE_DISCONNECT, LOGOFF, CORE-READ, CORE-WRITE, LOCK_BYTE_RANGE, UNLOCK_BYTE_RANGE, headerCommand, FIRST, byteArea, byteCount, dataOffset, dataLength}
 use Rattle.chain.specs.Header.{dropped}
 use Rattle.chain.specs.Chain.{blocks}
 use Rattle.chain.specs.declared.block.Block.{Block}
@@ -63,7 +63,8 @@ run c s (b ∷ bs) place t memory =
 -- "2/22 header command not served"
 unfoldable pub served : ℕ → Bool
 served command =
-    eqb command LOCKING || (eqb command READ || (eqb command WRITE || (eqb command CLOSE || (eqb command LOGOFF || (eqb command TREE_DISCONNECT || eqb command PROCESS_EXIT)))))
+    eqb command LOCKING || (eqb command READ || (eqb command WRITE || (eqb command CLOSE || (eqb command LOGOFF || (eqb command TREE_DISCONNECT || (eqb command PROCESS_EXIT
+    || (eqb command CORE-READ || (eqb command CORE-WRITE || (eqb command LOCK_BYTE_RANGE || eqb command UNLOCK_BYTE_RANGE)))))))))
 
 unfoldable pub onlyStatus : Status → Tables → List ℕ → Ran
 onlyStatus why t memory = record { status = why; holder = Nobody; tables = t; memory = memory; blocks = refusedBlock }

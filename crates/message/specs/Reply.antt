@@ -1,10 +1,10 @@
--- The bytes of a reply (document 01, "Header" and "Reply blocks"). Assumes nothing.
+-- The bytes of a reply (document 01, "Header" and "Reply blocks"; document 02, CR 3). Assumes nothing.
 use Prim.Native.Nat.{ℕ, _+_, _*_, _/_, _%_}
 use mathlib.Core.List.{List, [], _∷_, _++_}
 use lib.ListN.{length, take, drop, replicate}
 use Rattle.wire.specs.LittleEndian.{byteAt}
 use Rattle.message.specs.declared.refusal.Status.{Status}
-use Rattle.message.specs.Command.{Said, locked, loggedOff, read, wrote, plain}
+use Rattle.message.specs.Command.{Said, locked, loggedOff, read, wrote, plain, coreRead, coreWrote}
 use Rattle.message.specs.declared.link.Link.{Link}
 use Rattle.message.specs.declared.link.Link.the-variants.{None as none, Next as next}
 
@@ -28,7 +28,8 @@ linkWords (next command place) = command ∷ 0 ∷ two place
 
 -- "LOCKING and LOGOFF: 2 words. READ: 12 words: AndX, 0xFFFF, 0, 0, length, data offset, ten zero bytes; the bytes are the
 -- data. WRITE: 6 words: AndX, count, 0xFFFF, four zero bytes. Others: 0 words." The block stands at `place`; a READ's data
--- stand behind its 27 bytes before them.
+-- stand behind its 27 bytes before them. The core READ (source document 000): 5 words: count, eight zero bytes; the bytes are a data block, 0x01,
+-- length, data. The core WRITE: 1 word, the count.
 unfoldable pub replyBlock : Said → ℕ → Link → List ℕ
 replyBlock locked place link = 2 ∷ (linkWords link ++ (0 ∷ 0 ∷ []))
 replyBlock loggedOff place link = 2 ∷ (linkWords link ++ (0 ∷ 0 ∷ []))
@@ -37,6 +38,9 @@ replyBlock (read bytes) place link =
     ++ (two 0xFFFF ++ (two 0 ++ (two 0 ++ (two (length bytes) ++ (two (place + 27) ++ (replicate 10 0 ++ (two (length bytes) ++ bytes))))))))
 replyBlock (wrote count) place link = 6 ∷ (linkWords link ++ (two count ++ (two 0xFFFF ++ (replicate 4 0 ++ (0 ∷ 0 ∷ [])))))
 replyBlock plain place link = 0 ∷ 0 ∷ 0 ∷ []
+replyBlock (coreRead bytes) place link =
+    5 ∷ (two (length bytes) ++ (replicate 8 0 ++ (two (3 + length bytes) ++ (0x01 ∷ (two (length bytes) ++ bytes)))))
+replyBlock (coreWrote count) place link = 1 ∷ (two count ++ (0 ∷ 0 ∷ []))
 
 -- "A refused command or message gives WordCount 0 and ByteCount 0"
 unfoldable pub refusedBlock : List ℕ
@@ -49,3 +53,5 @@ replySize loggedOff = 7
 replySize (read bytes) = 27 + length bytes
 replySize (wrote count) = 15
 replySize plain = 3
+replySize (coreRead bytes) = 16 + length bytes
+replySize (coreWrote count) = 5

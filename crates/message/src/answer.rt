@@ -4,7 +4,7 @@ use crate::refusal::Refusal;
 use records::Tables;
 
 // What the reply block says. The bytes that a READ yields are not copied out: `Read(place, count)` says where
-// they stand in the file memory.
+// they stand in the file memory. `CoreRead` and `CoreWrote` say the same in the blocks of the core commands.
 pub enum Answer {
     Refused(Refusal),
     Locked,
@@ -12,6 +12,8 @@ pub enum Answer {
     Read(usize, usize),
     Wrote(u16),
     Plain,
+    CoreRead(usize, usize),
+    CoreWrote(u16),
 }
 
 // The answer, and the tables that the command left.
