@@ -93,16 +93,16 @@ unfoldable pub parseBare : List ℕ → ℕ → ℕ → ℕ → Body → Parsed
 parseBare s command at words body = answer s command at (bare s at words) body End
 
 -- "with 32-bit offsets": the fields are the counterpart's
-unfoldable pub coreReadAt : List ℕ → ℕ → Body
+abbrev pub coreReadAt : List ℕ → ℕ → Body
 coreReadAt s at = CoreRead (record { fid = firstFid s at; offset = coreOffset s at; max = coreCount s at })
 
-unfoldable pub parseCoreWrite : List ℕ → ℕ → Parsed
-parseCoreWrite s at =
-    answer s CORE-WRITE at (coreWriteFits s at)
-    (CoreWrite (record { fid = firstFid s at; offset = coreOffset s at; count = coreCount s at; from = markedData s at }))
-    End
+abbrev pub coreWriteAt : List ℕ → ℕ → Body
+coreWriteAt s at = CoreWrite (record { fid = firstFid s at; offset = coreOffset s at; count = coreCount s at; from = markedData s at })
 
-unfoldable pub rangeFields : List ℕ → ℕ → RangeFields
+unfoldable pub parseCoreWrite : List ℕ → ℕ → Parsed
+parseCoreWrite s at = answer s CORE-WRITE at (coreWriteFits s at) (coreWriteAt s at) End
+
+abbrev pub rangeFields : List ℕ → ℕ → RangeFields
 rangeFields s at = record { fid = firstFid s at; offset = rangeOffset s at; length = rangeCount s at }
 
 -- the block at a place, by its command; no other request is served

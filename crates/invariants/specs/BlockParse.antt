@@ -10,11 +10,11 @@ use lib.ListN.{length}
 use lib.Dec.{leb, eqb}
 use borrow.Author.Tests.{eqb-true, leb-true, eq-eqb, le-leb, ne-eqb}
 use Rattle.lists.specs.Truth.{both-hold, hold-both, test-cases, choice-cases}
-use Rattle.chain.specs.Layout.{CLOSE, PROCESS_EXIT, LOCKING, READ, WRITE, TREE_DISCONNECT, LOGOFF, NO_COMMAND, wordCount, blockEnd, andxCommand, andxOffset, fidAfterAndx, lockType, unlockCount, lockCount, offsetLow, readMax, readOffsetHigh, dataLength, dataOffset, writeOffsetHigh, closeFid}
-use Rattle.chain.specs.Grammar.{IsBlock, locking-10, locking-20, read-10, read-12, write-12, write-14, close, logoff, tree-disconnect, process-exit, MayFollow, locking-read, locking-write, read-close, write-write, write-read, write-close, NamedAndx, locking-andx, read-andx, write-andx, logoff-andx, Plain, close-plain, tree-disconnect-plain, process-exit-plain}
-use Rattle.chain.specs.Parse.{mayFollow, linkFits, linkAt, answer, wideOffset, parseLocking, parseRead, parseWrite, parseClose, parseLogoff, parseEmpty, parse}
+use Rattle.chain.specs.Layout.{CLOSE, PROCESS_EXIT, LOCKING, READ, WRITE, TREE_DISCONNECT, LOGOFF, CORE-READ, CORE-WRITE, LOCK_BYTE_RANGE, UNLOCK_BYTE_RANGE, NO_COMMAND, wordCount, blockEnd, andxCommand, andxOffset, fidAfterAndx, lockType, unlockCount, lockCount, offsetLow, readMax, readOffsetHigh, dataLength, dataOffset, writeOffsetHigh, firstFid}
+use Rattle.chain.specs.Grammar.{IsBlock, locking-10, locking-20, read-10, read-12, write-12, write-14, close, logoff, tree-disconnect, process-exit, core-read, core-write, lock-byte-range, unlock-byte-range, MayFollow, locking-read, locking-write, locking-core-read, locking-core-write, read-close, write-write, write-read, write-close, NamedAndx, locking-andx, read-andx, write-andx, logoff-andx, Plain, close-plain, tree-disconnect-plain, process-exit-plain, core-read-plain, core-write-plain, lock-byte-range-plain, unlock-byte-range-plain}
+use Rattle.chain.specs.Parse.{mayFollow, linkFits, linkAt, answer, wideOffset, parseLocking, parseRead, parseWrite, parseLogoff, parseBare, coreReadAt, coreWriteAt, parseCoreWrite, rangeFields, parse}
 use Rattle.chain.specs.declared.block.Body.{Body}
-use Rattle.chain.specs.declared.block.Body.the-variants.{Locking, Read, Write, Close, Logoff, TreeDisconnect, ProcessExit}
+use Rattle.chain.specs.declared.block.Body.the-variants.{Locking, Read, Write, Close, Logoff, TreeDisconnect, ProcessExit, LockByteRange, UnlockByteRange}
 use Rattle.chain.specs.declared.block.Next.{Next}
 use Rattle.chain.specs.declared.block.Next.the-variants.{End, Follow}
 use Rattle.chain.specs.declared.block.Block.{Block}
@@ -31,9 +31,14 @@ bodyAt s command at =
     (Read (record { fid = fidAfterAndx s at; offset = wideOffset (offsetLow s at) (readOffsetHigh s at) (eqb (wordCount s at) 12); max = readMax s at }))
     (cond (eqb command WRITE)
     (Write (record { fid = fidAfterAndx s at; offset = wideOffset (offsetLow s at) (writeOffsetHigh s at) (eqb (wordCount s at) 14); count = dataLength s at; from = dataOffset s at }))
-    (cond (eqb command CLOSE) (Close (closeFid s at))
+    (cond (eqb command CLOSE) (Close (firstFid s at))
     (cond (eqb command LOGOFF) Logoff
-    (cond (eqb command TREE_DISCONNECT) TreeDisconnect ProcessExit)))))
+    (cond (eqb command TREE_DISCONNECT) TreeDisconnect
+    (cond (eqb command CORE-READ) (coreReadAt s at)
+    (cond (eqb command CORE-WRITE) (coreWriteAt s at)
+    (cond (eqb command LOCK_BYTE_RANGE) (LockByteRange (rangeFields s at))
+    (cond (eqb command UNLOCK_BYTE_RANGE) (UnlockByteRange (rangeFields s at))
+    ProcessExit)))))))))
 
 -- the length of the block at a place
 abbrev pub blockSize : List ℕ → ℕ → ℕ
@@ -68,6 +73,10 @@ block-served (close h) = plain close-plain
 block-served (logoff h) = andx logoff-andx
 block-served (tree-disconnect h) = plain tree-disconnect-plain
 block-served (process-exit h) = plain process-exit-plain
+block-served (core-read h) = plain core-read-plain
+block-served (core-write h) = plain core-write-plain
+block-served (lock-byte-range h) = plain lock-byte-range-plain
+block-served (unlock-byte-range h) = plain unlock-byte-range-plain
 
 -- "all inside the message"
 pub block-inside : {s : List ℕ} {at command : ℕ} → IsBlock s at command → blockEnd s at ≤ length s
@@ -81,11 +90,17 @@ block-inside (close h) = h .shape .inside
 block-inside (logoff h) = h .shape .inside
 block-inside (tree-disconnect h) = h .shape .inside
 block-inside (process-exit h) = h .shape .inside
+block-inside (core-read h) = h .shape .inside
+block-inside (core-write h) = h .shape .inside
+block-inside (lock-byte-range h) = h .shape .inside
+block-inside (unlock-byte-range h) = h .shape .inside
 
 -- only a request named ANDX is followed
 pub follow-andx : {command next : ℕ} → MayFollow command next → NamedAndx command
 follow-andx locking-read = locking-andx
 follow-andx locking-write = locking-andx
+follow-andx locking-core-read = locking-andx
+follow-andx locking-core-write = locking-andx
 follow-andx read-close = read-andx
 follow-andx write-write = write-andx
 follow-andx write-read = write-andx
@@ -95,6 +110,8 @@ follow-andx write-close = write-andx
 pub follow-not-end : {command next : ℕ} → MayFollow command next → next ≡ NO_COMMAND → ⊥
 follow-not-end locking-read e = omega arith
 follow-not-end locking-write e = omega arith
+follow-not-end locking-core-read e = omega arith
+follow-not-end locking-core-write e = omega arith
 follow-not-end read-close e = omega arith
 follow-not-end write-write e = omega arith
 follow-not-end write-read e = omega arith
@@ -114,6 +131,22 @@ plain-andx-at process-exit-plain locking-andx e = omega arith
 plain-andx-at process-exit-plain read-andx e = omega arith
 plain-andx-at process-exit-plain write-andx e = omega arith
 plain-andx-at process-exit-plain logoff-andx e = omega arith
+plain-andx-at core-read-plain locking-andx e = omega arith
+plain-andx-at core-read-plain read-andx e = omega arith
+plain-andx-at core-read-plain write-andx e = omega arith
+plain-andx-at core-read-plain logoff-andx e = omega arith
+plain-andx-at core-write-plain locking-andx e = omega arith
+plain-andx-at core-write-plain read-andx e = omega arith
+plain-andx-at core-write-plain write-andx e = omega arith
+plain-andx-at core-write-plain logoff-andx e = omega arith
+plain-andx-at lock-byte-range-plain locking-andx e = omega arith
+plain-andx-at lock-byte-range-plain read-andx e = omega arith
+plain-andx-at lock-byte-range-plain write-andx e = omega arith
+plain-andx-at lock-byte-range-plain logoff-andx e = omega arith
+plain-andx-at unlock-byte-range-plain locking-andx e = omega arith
+plain-andx-at unlock-byte-range-plain read-andx e = omega arith
+plain-andx-at unlock-byte-range-plain write-andx e = omega arith
+plain-andx-at unlock-byte-range-plain logoff-andx e = omega arith
 
 pub plain-not-andx : {command : ℕ} → Plain command → NamedAndx command → ⊥
 plain-not-andx p a = plain-andx-at p a refl
@@ -130,6 +163,10 @@ write-words (close h) e = absurd (omega arith)
 write-words (logoff h) e = absurd (omega arith)
 write-words (tree-disconnect h) e = absurd (omega arith)
 write-words (process-exit h) e = absurd (omega arith)
+write-words (core-read h) e = absurd (omega arith)
+write-words (core-write h) e = absurd (omega arith)
+write-words (lock-byte-range h) e = absurd (omega arith)
+write-words (unlock-byte-range h) e = absurd (omega arith)
 
 -- "AndX words begin AndXCommand (1), reserved (1), AndXOffset (2)": a block of a request named ANDX has them
 pub andx-words : {s : List ℕ} {at command : ℕ} → IsBlock s at command → NamedAndx command → 2 ≤ wordCount s at
@@ -143,6 +180,10 @@ andx-words (close h) a = absurd (plain-not-andx close-plain a)
 andx-words (logoff h) a = omega arith
 andx-words (tree-disconnect h) a = absurd (plain-not-andx tree-disconnect-plain a)
 andx-words (process-exit h) a = absurd (plain-not-andx process-exit-plain a)
+andx-words (core-read h) a = absurd (plain-not-andx core-read-plain a)
+andx-words (core-write h) a = absurd (plain-not-andx core-write-plain a)
+andx-words (lock-byte-range h) a = absurd (plain-not-andx lock-byte-range-plain a)
+andx-words (unlock-byte-range h) a = absurd (plain-not-andx unlock-byte-range-plain a)
 
 -- an answer that is a block
 answer-whole : (s : List ℕ) (command at : ℕ) (good : Bool) (body : Body) (next : Next) (b : Block) → answer s command at good body next ≡ Whole b
@@ -168,10 +209,14 @@ module _ (s : List ℕ) (at : ℕ) where
 
   -- for one not so named
   pub parse-plain : {command : ℕ} → Plain command → parse s command at ≡ answer s command at (fits s command at) (bodyAt s command at) End
-  unfolding parse parseClose parseEmpty fits bodyAt
+  unfolding parse parseBare parseCoreWrite fits bodyAt
   parse-plain close-plain = refl
   parse-plain tree-disconnect-plain = refl
   parse-plain process-exit-plain = refl
+  parse-plain core-read-plain = refl
+  parse-plain core-write-plain = refl
+  parse-plain lock-byte-range-plain = refl
+  parse-plain unlock-byte-range-plain = refl
 
   -- only a request served is read
   parse-served : (command : ℕ) (b : Block) → parse s command at ≡ Whole b → Served command
@@ -186,7 +231,13 @@ module _ (s : List ℕ) (at : ℕ) where
       (λ p _. rw (eqb-true command TREE_DISCONNECT p) (plain tree-disconnect-plain))
       (λ _ e. choice-cases (eqb command PROCESS_EXIT) _ _ _ e
       (λ p _. rw (eqb-true command PROCESS_EXIT p) (plain process-exit-plain))
-      (λ _ e. let no : _≡_ {A = ℕ} 0 1 = cc in absurd (omega arith))))))))
+      (λ _ e. choice-cases (eqb command CORE-READ) _ _ _ e (λ p _. rw (eqb-true command CORE-READ p) (plain core-read-plain))
+      (λ _ e. choice-cases (eqb command CORE-WRITE) _ _ _ e (λ p _. rw (eqb-true command CORE-WRITE p) (plain core-write-plain))
+      (λ _ e. choice-cases (eqb command LOCK_BYTE_RANGE) _ _ _ e
+      (λ p _. rw (eqb-true command LOCK_BYTE_RANGE p) (plain lock-byte-range-plain))
+      (λ _ e. choice-cases (eqb command UNLOCK_BYTE_RANGE) _ _ _ e
+      (λ p _. rw (eqb-true command UNLOCK_BYTE_RANGE p) (plain unlock-byte-range-plain))
+      (λ _ e. let no : _≡_ {A = ℕ} 0 1 = cc in absurd (omega arith))))))))))))
 
   -- AndX words that pass the test are those of the grammar
   link-sound : {command : ℕ} → NamedAndx command → linkFits s command at ≡ true → Linked s command at (linkAt s at)

@@ -4,16 +4,16 @@ use mathlib.Core.Path.{_≡_}
 use mathlib.Core.Logic.{_↔_}
 use Prim.Native.Nat.{ℕ, _+_, _*_, _/_, _%_}
 use native.Mathlib.Omega.{arith}
-use mathlib.Core.Bool.{Bool, true, false, cond, _||_}
+use mathlib.Core.Bool.{Bool, true, false, cond, _&&_, _||_}
 use mathlib.Core.List.{List}
 use lib.ListN.{length}
 use lib.Dec.{leb, eqb}
 use borrow.Author.Tests.{eqb-true, eqb-false, leb-true, eq-eqb, le-leb, ne-eqb}
 use Rattle.lists.specs.Truth.{both-hold, hold-both, holds-first, holds-second, test-cases, either-cases}
 use Rattle.locks.specs.Wire.{rangeSize}
-use Rattle.chain.specs.Layout.{CLOSE, LOCKING, READ, WRITE, LOGOFF, wordCount, byteArea, byteCount, blockEnd, lockType, unlockCount, lockCount, dataLength, dataOffset}
-use Rattle.chain.specs.Grammar.{Shape, Bare, Ranges, Data, IsBlock, locking-10, locking-20, read-10, read-12, write-12, write-14, close, logoff, tree-disconnect, process-exit, NamedAndx, locking-andx, read-andx, write-andx, logoff-andx, Plain, close-plain, tree-disconnect-plain, process-exit-plain}
-use Rattle.chain.specs.Parse.{shaped, bare, isLarge, lockingFits, readFits, dataInside, writeFits}
+use Rattle.chain.specs.Layout.{CLOSE, LOCKING, READ, WRITE, LOGOFF, CORE-READ, CORE-WRITE, LOCK_BYTE_RANGE, UNLOCK_BYTE_RANGE, wordCount, byteArea, byteCount, blockEnd, lockType, unlockCount, lockCount, dataLength, dataOffset, coreCount, dataMark, markedLength}
+use Rattle.chain.specs.Grammar.{Shape, Bare, Ranges, Data, MarkedData, IsBlock, locking-10, locking-20, read-10, read-12, write-12, write-14, close, logoff, tree-disconnect, process-exit, core-read, core-write, lock-byte-range, unlock-byte-range, NamedAndx, locking-andx, read-andx, write-andx, logoff-andx, Plain, close-plain, tree-disconnect-plain, process-exit-plain, core-read-plain, core-write-plain, lock-byte-range-plain, unlock-byte-range-plain}
+use Rattle.chain.specs.Parse.{shaped, bare, isLarge, lockingFits, readFits, dataInside, writeFits, coreWriteFits}
 
 -- the requests served: those named ANDX and the others
 pub data Served : ℕ → Type 0 where
@@ -28,7 +28,11 @@ fits s command at =
     (cond (eqb command WRITE) (writeFits s at)
     (cond (eqb command CLOSE) (bare s at 3)
     (cond (eqb command LOGOFF) (bare s at 2)
-    (bare s at 0)))))
+    (cond (eqb command CORE-READ) (bare s at 5)
+    (cond (eqb command CORE-WRITE) (coreWriteFits s at)
+    (cond (eqb command LOCK_BYTE_RANGE) (bare s at 5)
+    (cond (eqb command UNLOCK_BYTE_RANGE) (bare s at 5)
+    (bare s at 0)))))))))
 
 module _ (s : List ℕ) (at : ℕ) where
   -- "A block is WordCount, the words, ByteCount, the bytes, all inside the message"
@@ -116,12 +120,35 @@ module _ (s : List ℕ) (at : ℕ) where
       let h = both-hold (shaped s at 12 || shaped s at 14) (dataInside s at) e in
       either-cases (shaped s at 12) (shaped s at 14) (h .0) (λ p. write-12 (data-sound 12 p (h .1))) (λ p. write-14 (data-sound 14 p (h .1)))
 
+  -- the core WRITE: "a data block not marked 0x01 or whose lengths disagree is 2/1"
+  marked-sound : coreWriteFits s at ≡ true → MarkedData s at
+  unfolding coreWriteFits
+  marked-sound e =
+      let h = both-hold (shaped s at 5) _ e in
+      let m = both-hold (eqb (dataMark s at) 1) _ (h .1) in
+      let l = both-hold (eqb (markedLength s at) (coreCount s at)) (eqb (byteCount s at) (3 + coreCount s at)) (m .1) in
+      record {
+        shape = shaped-sound 5 (h .0);
+        marked = eqb-true (dataMark s at) 1 (m .0);
+        counted = eqb-true (markedLength s at) (coreCount s at) (l .0);
+        filled = eqb-true (byteCount s at) (3 + coreCount s at) (l .1);
+      }
+
+  marked-complete : MarkedData s at → coreWriteFits s at ≡ true
+  unfolding coreWriteFits
+  marked-complete h =
+      rw (shaped-complete 5 (h .shape), eq-eqb (dataMark s at) 1 (h .marked), eq-eqb (markedLength s at) (coreCount s at) (h .counted), eq-eqb (byteCount s at) (3 + coreCount s at) (h .filled))
+
   -- the test of a request served finds a block of the table
   pub fits-sound : {command : ℕ} → Served command → fits s command at ≡ true → IsBlock s at command
   unfolding fits
   fits-sound (plain close-plain) e = close (bare-sound 3 e)
   fits-sound (plain tree-disconnect-plain) e = tree-disconnect (bare-sound 0 e)
   fits-sound (plain process-exit-plain) e = process-exit (bare-sound 0 e)
+  fits-sound (plain core-read-plain) e = core-read (bare-sound 5 e)
+  fits-sound (plain core-write-plain) e = core-write (marked-sound e)
+  fits-sound (plain lock-byte-range-plain) e = lock-byte-range (bare-sound 5 e)
+  fits-sound (plain unlock-byte-range-plain) e = unlock-byte-range (bare-sound 5 e)
   fits-sound (andx locking-andx) e = locking-sound e
   fits-sound (andx read-andx) e = read-sound e
   fits-sound (andx write-andx) e = write-sound e
@@ -144,6 +171,10 @@ module _ (s : List ℕ) (at : ℕ) where
   fits-complete (logoff h) = bare-complete 2 h
   fits-complete (tree-disconnect h) = bare-complete 0 h
   fits-complete (process-exit h) = bare-complete 0 h
+  fits-complete (core-read h) = bare-complete 5 h
+  fits-complete (core-write h) = marked-complete h
+  fits-complete (lock-byte-range h) = bare-complete 5 h
+  fits-complete (unlock-byte-range h) = bare-complete 5 h
 
   -- so each test is its rows of the table, no more and no less
   pub bare-exact : (words : ℕ) → (bare s at words ≡ true) ↔ Bare s at words
@@ -160,6 +191,9 @@ module _ (s : List ℕ) (at : ℕ) where
   pub write-exact : (writeFits s at ≡ true) ↔ IsBlock s at WRITE
   unfolding fits
   write-exact = (write-sound, fits-complete)
+
+  pub core-write-exact : (coreWriteFits s at ≡ true) ↔ MarkedData s at
+  core-write-exact = (marked-sound, marked-complete)
 
   pub fits-exact : {command : ℕ} → Served command → (fits s command at ≡ true) ↔ IsBlock s at command
   fits-exact served = (fits-sound served, fits-complete)

@@ -7,15 +7,18 @@ use native.Mathlib.Omega.{arith}
 use mathlib.Core.Bool.{true, false, cond, _||_}
 use lib.Dec.{eqb}
 use borrow.Author.Tests.{eqb-true}
-use Rattle.chain.specs.Layout.{CLOSE, LOCKING, READ, WRITE}
-use Rattle.chain.specs.Grammar.{MayFollow, locking-read, locking-write, read-close, write-write, write-read, write-close}
+use Rattle.chain.specs.Layout.{CLOSE, LOCKING, READ, WRITE, CORE-READ, CORE-WRITE}
+use Rattle.chain.specs.Grammar.{MayFollow, locking-read, locking-write, locking-core-read, locking-core-write, read-close, write-write, write-read, write-close}
 use Rattle.chain.specs.Parse.{mayFollow}
 use Rattle.lists.specs.Truth.{either-cases, choice-cases}
 
--- behind a LOCKING block: READ_ANDX, WRITE_ANDX
-after-locking : (next : ℕ) → (eqb next READ || eqb next WRITE) ≡ true → MayFollow LOCKING next
+-- behind a LOCKING block: READ_ANDX, WRITE_ANDX, and the core READ and WRITE
+after-locking : (next : ℕ) → (eqb next READ || (eqb next WRITE || (eqb next CORE-READ || eqb next CORE-WRITE))) ≡ true → MayFollow LOCKING next
 after-locking next e =
-    either-cases (eqb next READ) (eqb next WRITE) e (λ p. rw (eqb-true next READ p) locking-read) (λ p. rw (eqb-true next WRITE p) locking-write)
+    either-cases (eqb next READ) _ e (λ p. rw (eqb-true next READ p) locking-read)
+    (λ q. either-cases (eqb next WRITE) _ q (λ p. rw (eqb-true next WRITE p) locking-write)
+    (λ r. either-cases (eqb next CORE-READ) (eqb next CORE-WRITE) r (λ p. rw (eqb-true next CORE-READ p) locking-core-read)
+    (λ p. rw (eqb-true next CORE-WRITE p) locking-core-write)))
 
 -- behind a READ block: CLOSE
 after-read : (next : ℕ) → eqb next CLOSE ≡ true → MayFollow READ next
@@ -31,7 +34,7 @@ after-write next e =
 pub follow-sound : (command next : ℕ) → mayFollow command next ≡ true → MayFollow command next
 unfolding mayFollow
 follow-sound command next e =
-    choice-cases (eqb command LOCKING) (eqb next READ || eqb next WRITE)
+    choice-cases (eqb command LOCKING) (eqb next READ || (eqb next WRITE || (eqb next CORE-READ || eqb next CORE-WRITE)))
     (cond (eqb command READ) (eqb next CLOSE) (cond (eqb command WRITE) (eqb next WRITE || (eqb next READ || eqb next CLOSE)) false)) true e
     (λ p q. rw (eqb-true command LOCKING p) (after-locking next q))
     (λ _ r. choice-cases (eqb command READ) (eqb next CLOSE) (cond (eqb command WRITE) (eqb next WRITE || (eqb next READ || eqb next CLOSE)) false)
@@ -45,6 +48,8 @@ pub follow-complete : {command next : ℕ} → MayFollow command next → mayFol
 unfolding mayFollow
 follow-complete locking-read = refl
 follow-complete locking-write = refl
+follow-complete locking-core-read = refl
+follow-complete locking-core-write = refl
 follow-complete read-close = refl
 follow-complete write-write = refl
 follow-complete write-read = refl

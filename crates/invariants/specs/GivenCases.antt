@@ -6,7 +6,7 @@ use mathlib.Core.Bool.{Bool, true, false, cond}
 use mathlib.Core.List.{List}
 use mathlib.Core.Option.{Option, none, some}
 use lib.ListN.{length, getD}
-use lib.Dec.{leb}
+use lib.Dec.{leb, eqb}
 use borrow.Author.Tests.{leb-true}
 use Rattle.lists.specs.Walk.{any, found}
 use Rattle.lists.specs.declared.Found.{Found}
@@ -18,12 +18,13 @@ use Rattle.records.specs.Empty.{noOpen}
 use Rattle.records.specs.Held.{sessionsOf, treesOf, opensOf}
 use Rattle.locks.specs.Request.{releaseAll, Grants, granted, blocked, grantAll, Result, done as doneWith, refused as refusedBy, afterGrants, rangePasses, afterReleases, request}
 use Rattle.locks.specs.declared.types.LockRange.{LockRange}
+use Rattle.locks.specs.declared.types.Ask.{Ask}
 use Rattle.locks.specs.declared.types.Holder.{Holder}
 use Rattle.locks.specs.declared.types.Outcome.the-variants.{NoSuchLock as NoLock, PassesEnd as PastEnd, Conflict as InWay, NoRecord as NoRoom}
 use Rattle.soundness.specs.Lookup.{isTree}
 use Rattle.message.specs.declared.caller.Caller.{Caller}
-use Rattle.message.specs.Command.{Given, refused, isSession, withSession, withTree, isOpen, openAt, withOpen, unlessBarred}
-use Rattle.message.specs.declared.refusal.Refusal.the-variants.{NoSession, NoTree, NoOpen, Conflict}
+use Rattle.message.specs.Command.{Given, refused, isSession, withSession, withTree, isOpen, openAt, withOpen, unlessBarred, barring, writing}
+use Rattle.message.specs.declared.refusal.Refusal.the-variants.{NoSession, NoTree, NoOpen, NoAccess, Conflict, NoSpace}
 
 -- of a choice
 pub cond-case : {A : Type 0} (P : A → Type 0) (t : Bool) (x y : A) → (t ≡ true → P x) → (t ≡ false → P y) → P (cond t x y)
@@ -83,3 +84,12 @@ module _ (P : Given → Type 0) where
   unfolding unlessBarred
   barred-case t (At k) next bad good = bad _
   barred-case t Nothing next bad good = good refl
+
+  -- of a write, whatever it asks of the locks and leaves
+  pub writing-case : (c : Caller) (t : Tables) (fid : ℕ) (ask : Open → Ask) (past : Bool) (next : Open → Given)
+      → P (refused NoSession) → P (refused NoTree) → P (refused NoOpen) → P (refused NoAccess) → ((h : Holder) → P (refused (Conflict h))) → P (refused NoSpace)
+      → ((k : ℕ) → found (isOpen c fid) (opensOf t) ≡ At k → past ≡ false → P (next (getD (opensOf t) k noOpen))) → P (writing c t fid ask past next)
+  writing-case c t fid ask past next no-session no-tree no-open no-access conflict no-space good =
+      open-case c t fid _ no-session no-tree no-open
+      (λ k e. cond-case P (eqb (getD (opensOf t) k noOpen .access) 0) (refused NoAccess) _ (λ _. no-access)
+      (λ _. barred-case t (barring t (ask (getD (opensOf t) k noOpen))) _ conflict (λ _. cond-case P past (refused NoSpace) _ (λ _. no-space) (good k e))))

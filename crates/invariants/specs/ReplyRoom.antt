@@ -1,5 +1,6 @@
 -- "reply room under 12,292 bytes" (document 01, "What a call returns"): that room suffices for every reply. No reply block but READ's is longer
--- than its request block; READ's is longer by at most 4 + 4,096, and only CLOSE follows it. Assumes nothing.
+-- than its request block; READ_ANDX's is longer by at most 4 + 4,096, and only CLOSE follows it, the core READ's by at most 3 + 4,096, and nothing follows it.
+-- Assumes nothing.
 use mathlib.Core.Path.{_≡_, refl}
 use Prim.Native.Nat.{ℕ, min, _+_, _-_, _*_, _≤_}
 use native.Mathlib.Omega.{arith}
@@ -7,7 +8,7 @@ use mathlib.Core.Bool.{cond}
 use mathlib.Core.List.{List, [], _∷_}
 use mathlib.Core.Option.{Option, none, some}
 use lib.ListN.{length, take, drop, getD, length-append, length-take, length-drop}
-use lib.Dec.{eqb}
+use lib.Dec.{ltb, eqb}
 use Rattle.records.specs.declared.Tables.{Tables}
 use Rattle.records.specs.Empty.{noOpen}
 use Rattle.records.specs.Held.{opensOf, locksOf}
@@ -17,12 +18,13 @@ use Rattle.locks.specs.declared.types.Request.{Request}
 use Rattle.locks.specs.declared.types.Outcome.the-variants.{Malformed}
 use Rattle.soundness.specs.File.{fileOf}
 use Rattle.invariants.specs.SoundParts.{sound-says}
-use Rattle.chain.specs.Layout.{CLOSE, READ, headerCommand, FIRST, blockEnd, andxCommand}
-use Rattle.chain.specs.Grammar.{IsBlock, locking-10, locking-20, read-10, read-12, write-12, write-14, close, logoff, tree-disconnect, process-exit, MayFollow, locking-read, locking-write, read-close, write-write, write-read, write-close}
+use Rattle.chain.specs.Layout.{CLOSE, READ, CORE-READ, headerCommand, FIRST, blockEnd, andxCommand}
+use Rattle.chain.specs.Grammar.{IsBlock, locking-10, locking-20, read-10, read-12, write-12, write-14, close, logoff, tree-disconnect, process-exit, core-read, core-write, lock-byte-range, unlock-byte-range, MayFollow, locking-read, locking-write, locking-core-read, locking-core-write, read-close, write-write, write-read, write-close}
 use Rattle.chain.specs.Chain.{blocks}
 use Rattle.chain.specs.declared.block.LockingFields.{LockingFields}
 use Rattle.chain.specs.declared.block.ReadFields.{ReadFields}
 use Rattle.chain.specs.declared.block.WriteFields.{WriteFields}
+use Rattle.chain.specs.declared.block.RangeFields.{RangeFields}
 use Rattle.chain.specs.declared.block.Block.{Block}
 use Rattle.chain.specs.declared.block.Next.{Next}
 use Rattle.chain.specs.declared.block.Next.the-variants.{End, Follow}
@@ -32,22 +34,31 @@ use Rattle.message.specs.Caller.{callerOf}
 use Rattle.message.specs.declared.caller.Caller.{Caller}
 use Rattle.message.specs.Refusal.{statusOf}
 use Rattle.message.specs.Contents.{sizeOf, contents, readBytes}
-use Rattle.message.specs.Command.{Said, Given, refused, done, servedType, requestOf, lockingEnd, lockingAfter, doLocking, doRead, doWrite, endsPast, perform}
+use Rattle.message.specs.Command.{Said, locked, read, wrote, Given, refused, done, servedType, requestOf, lockingEnd, lockingAfter, doLocking, doRead, doWrite, endsPast, coreSaid, asCore, oneRange, doRange, doSetSize, doCoreWrite, perform}
 use Rattle.message.specs.Reply.{replyHeader, replyBlock, refusedBlock, replySize}
 use Rattle.message.specs.Message.{Ran, after, linkTo, afterGiven, run, served, onlyStatus, runChain, answered, replyOf}
 use Rattle.message.specs.declared.refusal.Refusal.{Refusal}
 use Rattle.message.specs.declared.refusal.Refusal.the-variants.{NotServed, NoAccess, LockType, NoSpace}
-use Rattle.invariants.specs.GivenCases.{cond-case, request-case, session-case, tree-case, open-case, barred-case}
+use Rattle.invariants.specs.GivenCases.{cond-case, request-case, session-case, tree-case, open-case, barred-case, writing-case}
 use Rattle.invariants.specs.ReplySize.{length-block, length-header}
 use Rattle.invariants.specs.Sound.{Good, Keeps, keeps-good, perform-keeps, size-most}
 
--- a command refused, or done with a reply block of at most that many bytes
-data Says (n : ℕ) : Given → Type 0 where
-  says-refused : {why : Refusal} → Says n (refused why)
-  says-done : {t : Tables} {memory : List ℕ} {said : Said} → replySize said ≤ n → Says n (done t memory said)
+-- a command refused, or done with a reply block of at most that many bytes, by that measure of what is said
+data Says (size : Said → ℕ) (n : ℕ) : Given → Type 0 where
+  says-refused : {why : Refusal} → Says size n (refused why)
+  says-done : {t : Tables} {memory : List ℕ} {said : Said} → size said ≤ n → Says size n (done t memory said)
 
-says-size : {n : ℕ} {t : Tables} {memory : List ℕ} {said : Said} → Says n (done t memory said) → replySize said ≤ n
+says-size : {size : Said → ℕ} {n : ℕ} {t : Tables} {memory : List ℕ} {said : Said} → Says size n (done t memory said) → size said ≤ n
 says-size (says-done h) = h
+
+-- a core command says what its counterpart says, in its own block
+coreSize : Said → ℕ
+coreSize said = replySize (coreSaid said)
+
+core-says : {n : ℕ} {d : Given} → Says coreSize n d → Says replySize n (asCore d)
+unfolding asCore coreSize
+core-says says-refused = says-refused
+core-says (says-done h) = says-done h
 
 -- "the file's bytes in the range below its size": no more than its size
 pub length-read : (t : Tables) (memory : List ℕ) (file offset most : ℕ) → length (readBytes t memory file offset most) ≤ sizeOf t file
@@ -58,73 +69,94 @@ length-read t memory file offset most =
     rw (length-take most (drop offset (take (sizeOf t file) (drop (file * 4096) memory))), length-drop offset (take (sizeOf t file) (drop (file * 4096) memory)), a)
     (omega arith)
 
-module _ (n : ℕ) (c : Caller) (t : Tables) (memory : List ℕ) where
-  request-says : (q : Request) (area : List ℕ) → 7 ≤ n → Says n (lockingAfter t memory (locking (fileOf (opensOf t)) (t .locks) (t .nlocks) q area))
-  unfolding locking settle lockingAfter lockingEnd replySize
+module _ (size : Said → ℕ) (n : ℕ) (c : Caller) (t : Tables) (memory : List ℕ) where
+  request-says : (q : Request) (area : List ℕ) → size locked ≤ n → Says size n (lockingAfter t memory (locking (fileOf (opensOf t)) (t .locks) (t .nlocks) q area))
+  unfolding locking settle lockingAfter lockingEnd
   request-says q area h =
-      cond-case (λ (r : Result). Says n (lockingAfter t memory (settle (t .locks) (t .nlocks) r))) (eqb (length area) ((q .unlocks + q .locks) * rangeSize (q .large)))
+      cond-case (λ (r : Result). Says size n (lockingAfter t memory (settle (t .locks) (t .nlocks) r))) (eqb (length area) ((q .unlocks + q .locks) * rangeSize (q .large)))
       (request (fileOf (opensOf t)) (q .fid) (q .shared) (rangesOf q area 0 (q .unlocks)) (rangesOf q area (q .unlocks) (q .locks)) (locksOf t))
       (refusedBy Malformed)
-      (λ _. request-case (λ (r : Result). Says n (lockingAfter t memory (settle (t .locks) (t .nlocks) r))) says-refused says-refused (λ k. says-refused) says-refused
+      (λ _. request-case (λ (r : Result). Says size n (lockingAfter t memory (settle (t .locks) (t .nlocks) r))) says-refused says-refused (λ k. says-refused) says-refused
       (fileOf (opensOf t)) (q .fid) (q .shared) (rangesOf q area (q .unlocks) (q .locks)) (rangesOf q area 0 (q .unlocks)) (locksOf t)
       (λ left list _ _ _ _. says-done h))
       (λ _. says-refused)
 
-  locking-says : (f : LockingFields) (area : List ℕ) → 7 ≤ n → Says n (doLocking c t memory f area)
+  locking-says : (f : LockingFields) (area : List ℕ) → size locked ≤ n → Says size n (doLocking c t memory f area)
   unfolding doLocking
   locking-says f area h =
-      open-case (Says n) c t (f .fid) _ says-refused says-refused says-refused
-      (λ k e. cond-case (Says n) (servedType (f .kind)) _ (refused LockType) (λ _. request-says (requestOf c f) area h) (λ _. says-refused))
+      open-case (Says size n) c t (f .fid) _ says-refused says-refused says-refused
+      (λ k e. cond-case (Says size n) (servedType (f .kind)) _ (refused LockType) (λ _. request-says (requestOf c f) area h) (λ _. says-refused))
 
-  read-says : (f : ReadFields) → Good t → 4123 ≤ n → Says n (doRead c t memory f)
-  unfolding doRead replySize
-  read-says f g h =
-      open-case (Says n) c t (f .fid) _ says-refused says-refused says-refused
-      (λ k _. cond-case (Says n) (eqb (getD (opensOf t) k noOpen .access) 1) (refused NoAccess) _ (λ _. says-refused)
-      (λ _. barred-case (Says n) t _ _ (λ j. says-refused)
+  read-says : (f : ReadFields) (front : ℕ) → ((bytes : List ℕ) → size (read bytes) ≡ front + length bytes) → Good t → front + 4096 ≤ n → Says size n (doRead c t memory f)
+  unfolding doRead
+  read-says f front is g h =
+      open-case (Says size n) c t (f .fid) _ says-refused says-refused says-refused
+      (λ k _. cond-case (Says size n) (eqb (getD (opensOf t) k noOpen .access) 1) (refused NoAccess) _ (λ _. says-refused)
+      (λ _. barred-case (Says size n) t _ _ (λ j. says-refused)
       (λ _. let a : length (readBytes t memory (getD (opensOf t) k noOpen .file) (f .offset) (f .max)) ≤ sizeOf t (getD (opensOf t) k noOpen .file) =
       length-read t memory (getD (opensOf t) k noOpen .file) (f .offset) (f .max) in
       let b : sizeOf t (getD (opensOf t) k noOpen .file) ≤ 4096 = size-most t (getD (opensOf t) k noOpen .file) (sound-says t (g .sound)) in
-      let l : 27 + length (readBytes t memory (getD (opensOf t) k noOpen .file) (f .offset) (f .max)) ≤ n = omega arith in
+      let e = is (readBytes t memory (getD (opensOf t) k noOpen .file) (f .offset) (f .max)) in
+      let l : size (read (readBytes t memory (getD (opensOf t) k noOpen .file) (f .offset) (f .max))) ≤ n = omega arith in
       says-done l)))
 
-  write-says : (f : WriteFields) (bytes : List ℕ) → 15 ≤ n → Says n (doWrite c t memory f bytes)
-  unfolding doWrite replySize
+  write-says : (f : WriteFields) (bytes : List ℕ) → size (wrote (f .count)) ≤ n → Says size n (doWrite c t memory f bytes)
+  unfolding doWrite
   write-says f bytes h =
-      open-case (Says n) c t (f .fid) _ says-refused says-refused says-refused
-      (λ k _. cond-case (Says n) (eqb (getD (opensOf t) k noOpen .access) 0) (refused NoAccess) _ (λ _. says-refused)
-      (λ _. barred-case (Says n) t _ _ (λ j. says-refused)
-      (λ _. cond-case (Says n) (endsPast (f .offset) (f .count)) (refused NoSpace) _ (λ _. says-refused) (λ _. says-done h))))
+      writing-case (Says size n) c t (f .fid) _ (endsPast (f .offset) (f .count)) _ says-refused says-refused says-refused says-refused (λ j. says-refused) says-refused
+      (λ k _ _. says-done h)
+
+-- the core commands
+module _ (n : ℕ) (c : Caller) (t : Tables) (memory : List ℕ) where
+  core-read-says : (f : ReadFields) → Good t → 4112 ≤ n → Says replySize n (asCore (doRead c t memory f))
+  unfolding coreSize coreSaid replySize
+  core-read-says f g h = core-says (read-says coreSize n c t memory f 16 (λ bytes. refl) g h)
+
+  core-write-says : (f : WriteFields) (bytes : List ℕ) → 5 ≤ n → Says replySize n (doCoreWrite c t memory f bytes)
+  unfolding doCoreWrite doSetSize coreSize coreSaid replySize
+  core-write-says f bytes h =
+      cond-case (Says replySize n) (eqb (f .count) 0) _ _
+      (λ _. writing-case (Says replySize n) c t (f .fid) _ (ltb 4096 (f .offset)) _ says-refused says-refused says-refused says-refused (λ j. says-refused) says-refused
+      (λ k _ _. says-done h))
+      (λ _. core-says (write-says coreSize n c t memory f bytes h))
+
+  range-says : (f : RangeFields) (unlocks locks : ℕ) → 3 ≤ n → Says replySize n (doRange c t memory f unlocks locks)
+  unfolding doRange coreSize coreSaid replySize
+  range-says f unlocks locks h = core-says (locking-says coreSize n c t memory (oneRange f unlocks locks) _ h)
 
 -- by how much a command's reply block may be longer than its request block, and a chain's from that command on
 unfoldable extra : ℕ → ℕ
-extra command = cond (eqb command READ) 4100 0
+extra command = cond (eqb command READ) 4100 (cond (eqb command CORE-READ) 4099 0)
 
 unfoldable slack : ℕ → ℕ
 slack command = cond (eqb command CLOSE) 0 4100
 
 -- one block
 block-says : {s : List ℕ} {at command : ℕ} (c : Caller) (t : Tables) (memory : List ℕ) → IsBlock s at command → Good t → (area bytes : List ℕ)
-    → Says (blockSize s at + extra command) (perform c t memory (bodyAt s command at) area bytes)
+    → Says replySize (blockSize s at + extra command) (perform c t memory (bodyAt s command at) area bytes)
 unfolding perform bodyAt extra replySize
-block-says c t memory (locking-10 p h) g area bytes = locking-says _ c t memory _ area (omega arith)
-block-says c t memory (locking-20 p h) g area bytes = locking-says _ c t memory _ area (omega arith)
-block-says c t memory (read-10 h) g area bytes = read-says _ c t memory _ g (omega arith)
-block-says c t memory (read-12 h) g area bytes = read-says _ c t memory _ g (omega arith)
-block-says c t memory (write-12 h) g area bytes = write-says _ c t memory _ bytes (omega arith)
-block-says c t memory (write-14 h) g area bytes = write-says _ c t memory _ bytes (omega arith)
+block-says c t memory (locking-10 p h) g area bytes = locking-says replySize _ c t memory _ area (omega arith)
+block-says c t memory (locking-20 p h) g area bytes = locking-says replySize _ c t memory _ area (omega arith)
+block-says c t memory (read-10 h) g area bytes = read-says replySize _ c t memory _ 27 (λ bytes. refl) g (omega arith)
+block-says c t memory (read-12 h) g area bytes = read-says replySize _ c t memory _ 27 (λ bytes. refl) g (omega arith)
+block-says c t memory (write-12 h) g area bytes = write-says replySize _ c t memory _ bytes (omega arith)
+block-says c t memory (write-14 h) g area bytes = write-says replySize _ c t memory _ bytes (omega arith)
 block-says {s} {at} c t memory (close h) g area bytes =
     let l : 3 ≤ blockSize s at + 0 = omega arith in
-    open-case (Says (blockSize s at + 0)) c t _ _ says-refused says-refused says-refused (λ k _. says-done l)
+    open-case (Says replySize (blockSize s at + 0)) c t _ _ says-refused says-refused says-refused (λ k _. says-done l)
 block-says {s} {at} c t memory (logoff h) g area bytes =
-    let l : 7 ≤ blockSize s at + 0 = omega arith in session-case (Says (blockSize s at + 0)) c t _ says-refused (λ _. says-done l)
+    let l : 7 ≤ blockSize s at + 0 = omega arith in session-case (Says replySize (blockSize s at + 0)) c t _ says-refused (λ _. says-done l)
 block-says {s} {at} c t memory (tree-disconnect h) g area bytes =
-    let l : 3 ≤ blockSize s at + 0 = omega arith in tree-case (Says (blockSize s at + 0)) c t _ says-refused says-refused (says-done l)
+    let l : 3 ≤ blockSize s at + 0 = omega arith in tree-case (Says replySize (blockSize s at + 0)) c t _ says-refused says-refused (says-done l)
 block-says {s} {at} c t memory (process-exit h) g area bytes =
-    let l : 3 ≤ blockSize s at + 0 = omega arith in session-case (Says (blockSize s at + 0)) c t _ says-refused (λ _. says-done l)
+    let l : 3 ≤ blockSize s at + 0 = omega arith in session-case (Says replySize (blockSize s at + 0)) c t _ says-refused (λ _. says-done l)
+block-says c t memory (core-read h) g area bytes = core-read-says _ c t memory _ g (omega arith)
+block-says c t memory (core-write h) g area bytes = core-write-says _ c t memory _ _ (omega arith)
+block-says c t memory (lock-byte-range h) g area bytes = range-says _ c t memory _ 0 1 (omega arith)
+block-says c t memory (unlock-byte-range h) g area bytes = range-says _ c t memory _ 1 0 (omega arith)
 
 -- the blocks after it
-after-says : (n more : ℕ) (d : Given) → Says n d → Keeps d → (bs : List Block) (place : ℕ) (t : Tables) (memory : List ℕ) (rest : ℕ → Tables → List ℕ → Ran) → 3 ≤ n
+after-says : (n more : ℕ) (d : Given) → Says replySize n d → Keeps d → (bs : List Block) (place : ℕ) (t : Tables) (memory : List ℕ) (rest : ℕ → Tables → List ℕ → Ran) → 3 ≤ n
     → ((p : ℕ) (u : Tables) (m : List ℕ) → Good u → length (rest p u m .blocks) ≤ more) → length (afterGiven d bs place t memory rest .blocks) ≤ n + more
 unfolding afterGiven after refusedBlock
 after-says n more (refused why) says keeps bs place t memory rest h f = omega arith
@@ -152,11 +184,17 @@ extra-slack (close h) = omega arith
 extra-slack (logoff h) = omega arith
 extra-slack (tree-disconnect h) = omega arith
 extra-slack (process-exit h) = omega arith
+extra-slack (core-read h) = omega arith
+extra-slack (core-write h) = omega arith
+extra-slack (lock-byte-range h) = omega arith
+extra-slack (unlock-byte-range h) = omega arith
 
 follow-slack : {command next : ℕ} → MayFollow command next → extra command + slack next ≤ slack command
 unfolding extra slack
 follow-slack locking-read = omega arith
 follow-slack locking-write = omega arith
+follow-slack locking-core-read = omega arith
+follow-slack locking-core-write = omega arith
 follow-slack read-close = omega arith
 follow-slack write-write = omega arith
 follow-slack write-read = omega arith

@@ -5,7 +5,7 @@ use native.Mathlib.Omega.{arith}
 use mathlib.Core.List.{List}
 use lib.ListN.{length, take, drop, length-take, length-drop}
 use Rattle.message.specs.declared.refusal.Status.{Status}
-use Rattle.message.specs.Command.{Said, locked, loggedOff, read, wrote, plain}
+use Rattle.message.specs.Command.{Said, locked, loggedOff, read, wrote, plain, coreRead, coreWrote}
 use Rattle.message.specs.Reply.{two, replyHeader, linkWords, replyBlock, replySize}
 use Rattle.message.specs.declared.link.Link.{Link}
 use Rattle.message.specs.declared.link.Link.the-variants.{None as none, Next as next}
@@ -22,6 +22,8 @@ length-block (read bytes) place (next c p) = omega arith
 length-block (wrote count) place none = refl
 length-block (wrote count) place (next c p) = refl
 length-block plain place link = refl
+length-block (coreRead bytes) place link = omega arith
+length-block (coreWrote count) place link = refl
 
 -- "Header": "32 bytes"
 pub length-header : (s : List ℕ) (why : Status) → 32 ≤ length s → length (replyHeader s why) ≡ 32

@@ -36,17 +36,18 @@ use Rattle.chain.specs.Chain.{blocks}
 use Rattle.chain.specs.declared.block.LockingFields.{LockingFields}
 use Rattle.chain.specs.declared.block.ReadFields.{ReadFields}
 use Rattle.chain.specs.declared.block.WriteFields.{WriteFields}
+use Rattle.chain.specs.declared.block.RangeFields.{RangeFields}
 use Rattle.chain.specs.declared.block.Body.{Body}
-use Rattle.chain.specs.declared.block.Body.the-variants.{Locking as LockingBody, Read as ReadBody, Write as WriteBody, Close, Logoff, TreeDisconnect, ProcessExit}
+use Rattle.chain.specs.declared.block.Body.the-variants.{Locking as LockingBody, Read as ReadBody, Write as WriteBody, Close, Logoff, TreeDisconnect, ProcessExit, CoreRead as CoreReadBody, CoreWrite as CoreWriteBody, LockByteRange, UnlockByteRange}
 use Rattle.chain.specs.declared.block.Block.{Block}
 use Rattle.message.specs.Caller.{callerOf}
 use Rattle.message.specs.declared.caller.Caller.{Caller}
-use Rattle.message.specs.Contents.{sizeOf, resized}
-use Rattle.message.specs.Command.{Given, Said, refused, done, isOpen, servedType, requestOf, withLockList, lockingEnd, lockingAfter, doLocking, doRead, endsPast, doWrite, perform}
+use Rattle.message.specs.Contents.{sizeOf, withSize, resized}
+use Rattle.message.specs.Command.{Given, Said, refused, done, isOpen, servedType, requestOf, withLockList, lockingEnd, lockingAfter, doLocking, doRead, endsPast, doWrite, asCore, oneRange, doRange, doSetSize, doCoreWrite, perform}
 use Rattle.message.specs.Message.{areaOf, dataOf, Ran, after, afterGiven, run, served, onlyStatus, runChain, answered}
 use Rattle.message.specs.declared.refusal.Refusal.{Refusal}
-use Rattle.message.specs.declared.refusal.Refusal.the-variants.{NoAccess, LockType, NoSpace}
-use Rattle.invariants.specs.GivenCases.{cond-case, request-case, session-case, tree-case, open-case, barred-case}
+use Rattle.message.specs.declared.refusal.Refusal.the-variants.{NoAccess, LockType}
+use Rattle.invariants.specs.GivenCases.{cond-case, request-case, session-case, tree-case, open-case, barred-case, writing-case}
 use Rattle.invariants.specs.FoundFacts.{Hit, found-hit, all-getD}
 use Rattle.invariants.specs.LockingSound.{release-ok, grant-ok}
 
@@ -63,6 +64,12 @@ pub data Keeps : Given → Type 0 where
 -- the tables that a command left
 pub keeps-good : {t : Tables} {memory : List ℕ} {said : Said} → Keeps (done t memory said) → Good t
 keeps-good (keeps-done g) = g
+
+-- a core command leaves what its counterpart leaves
+core-keeps : {d : Given} → Keeps d → Keeps (asCore d)
+unfolding asCore
+core-keeps keeps-refused = keeps-refused
+core-keeps (keeps-done g) = keeps-done g
 
 -- the open that a caller names: it is listed, with that FID
 module _ (c : Caller) (t : Tables) (fid k : ℕ) (e : found (isOpen c fid) (opensOf t) ≡ At k) where
@@ -132,11 +139,11 @@ module _ (t : Tables) (g : Good t) where
   -- ---- a write
 
   -- a file's new size
-  sized-good : (file size : ℕ) → size ≤ 4096 → Good (withFiles t (set (t .files) file (record { size = size })))
+  sized-good : (file size : ℕ) → size ≤ 4096 → Good (withSize t file size)
   unfolding withFiles fileOk
   sized-good file size h =
       record {
-        sound = sound-lists (withFiles t (set (t .files) file (record { size = size }))) (sessionsOf t) (treesOf t) (opensOf t) (locksOf t) refl refl refl refl
+        sound = sound-lists (withSize t file size) (sessionsOf t) (treesOf t) (opensOf t) (locksOf t) refl refl refl refl
             (listed .room) (all-set fileOk (t .files) file (record { size = size }) (listed .sizes) (le-leb size 4096 h)) (listed .records) (listed .locks);
         shaped = shaped-files t (g .shaped) (set (t .files) file (record { size = size })) (length-set (t .files) file (record { size = size }) ∙ g .shaped .files16);
       }
@@ -145,13 +152,13 @@ module _ (t : Tables) (g : Good t) where
   resized-good : (file offset count : ℕ) → endsPast offset count ≡ false → Good (resized t file offset count)
   unfolding resized endsPast
   resized-good file offset count e =
-      cond-case Good (eqb count 0) t (withFiles t (set (t .files) file (record { size = max (sizeOf t file) (offset + count) }))) (λ _. g)
+      cond-case Good (eqb count 0) t (withSize t file (max (sizeOf t file) (offset + count))) (λ _. g)
       (λ f. let past : ltb 4096 (offset + count) ≡ false = rw f at e in
       let low : offset + count ≤ 4096 = ltb-false 4096 (offset + count) past in
       let most : sizeOf t file ≤ 4096 = size-most t file listed in
       sized-good file (max (sizeOf t file) (offset + count)) (omega arith))
 
-  -- ---- all seven
+  -- ---- all eleven
 
   module _ (c : Caller) (memory : List ℕ) where
     locking-keeps : (f : LockingFields) (area : List ℕ) → Keeps (doLocking c t memory f area)
@@ -171,11 +178,23 @@ module _ (t : Tables) (g : Good t) where
     write-keeps : (f : WriteFields) (bytes : List ℕ) → Keeps (doWrite c t memory f bytes)
     unfolding doWrite
     write-keeps f bytes =
-        open-case Keeps c t (f .fid) _ keeps-refused keeps-refused keeps-refused
-        (λ k _. cond-case Keeps (eqb (getD (opensOf t) k noOpen .access) 0) (refused NoAccess) _ (λ _. keeps-refused)
-        (λ _. barred-case Keeps t _ _ (λ j. keeps-refused)
-        (λ _. cond-case Keeps (endsPast (f .offset) (f .count)) (refused NoSpace) _ (λ _. keeps-refused)
-        (λ e. keeps-done (resized-good (getD (opensOf t) k noOpen .file) (f .offset) (f .count) e)))))
+        writing-case Keeps c t (f .fid) _ (endsPast (f .offset) (f .count)) _ keeps-refused keeps-refused keeps-refused keeps-refused (λ h. keeps-refused) keeps-refused
+        (λ k _ e. keeps-done (resized-good (getD (opensOf t) k noOpen .file) (f .offset) (f .count) e))
+
+    -- "past 4,096 is 3/39"
+    set-size-keeps : (f : WriteFields) → Keeps (doSetSize c t memory f)
+    unfolding doSetSize
+    set-size-keeps f =
+        writing-case Keeps c t (f .fid) _ (ltb 4096 (f .offset)) _ keeps-refused keeps-refused keeps-refused keeps-refused (λ h. keeps-refused) keeps-refused
+        (λ k _ e. keeps-done (sized-good (getD (opensOf t) k noOpen .file) (f .offset) (ltb-false 4096 (f .offset) e)))
+
+    core-write-keeps : (f : WriteFields) (bytes : List ℕ) → Keeps (doCoreWrite c t memory f bytes)
+    unfolding doCoreWrite
+    core-write-keeps f bytes = cond-case Keeps (eqb (f .count) 0) _ _ (λ _. set-size-keeps f) (λ _. core-keeps (write-keeps f bytes))
+
+    range-keeps : (f : RangeFields) (unlocks locks : ℕ) → Keeps (doRange c t memory f unlocks locks)
+    unfolding doRange
+    range-keeps f unlocks locks = core-keeps (locking-keeps (oneRange f unlocks locks) _)
 
     -- a removal
     gone-good : (gone : Gone) → Good (remove gone t)
@@ -191,6 +210,10 @@ module _ (t : Tables) (g : Good t) where
     perform-keeps Logoff area bytes = session-case Keeps c t _ keeps-refused (λ _. keeps-done (gone-good (UserGone (c .uid))))
     perform-keeps TreeDisconnect area bytes = tree-case Keeps c t _ keeps-refused keeps-refused (keeps-done (gone-good (TreeGone (c .tid))))
     perform-keeps ProcessExit area bytes = session-case Keeps c t _ keeps-refused (λ _. keeps-done (gone-good (ProcessGone (c .uid) (c .process))))
+    perform-keeps (CoreReadBody f) area bytes = core-keeps (read-keeps f)
+    perform-keeps (CoreWriteBody f) area bytes = core-write-keeps f _
+    perform-keeps (LockByteRange f) area bytes = range-keeps f 0 1
+    perform-keeps (UnlockByteRange f) area bytes = range-keeps f 1 0
 
 -- ---- a chain
 

@@ -1,6 +1,5 @@
 -- `chain::parse::core_read_body` meets its contract: the numbers read are those of the definition.
 -- Assumes nothing.
-use Rattle.chain.specs.Parse.{coreReadAt}
 use borrow.Author.Needs.{needs}
 use Rattle.chain.proofs.parse.core_read_body.Statement.{statement}
 use Rattle.chain.proofs.parse.core_read_body.Tie as tie
@@ -27,7 +26,6 @@ le16-at-requires-2 : tie.Need-le16-at-requires-2
 le16-at-requires-2 c κs = search needs
 
 returns : tie.Need-returns
-unfolding coreReadAt
 returns c = rw (c .before .before .le16-at .ensures, c .before .le32-at .ensures, c .le16-at2 .ensures)
 
 pub core-read-body-spec : {M : Type 1} → statement M

@@ -1,6 +1,5 @@
 -- `chain::parse::range_fields` meets its contract: the numbers read are those of the definition.
 -- Assumes nothing.
-use Rattle.chain.specs.Parse.{rangeFields}
 use borrow.Author.Needs.{needs}
 use Rattle.chain.proofs.parse.range_fields.Statement.{statement}
 use Rattle.chain.proofs.parse.range_fields.Tie as tie
@@ -24,7 +23,6 @@ le32-at-requires-2 : tie.Need-le32-at-requires-2
 le32-at-requires-2 c κs = search needs
 
 returns : tie.Need-returns
-unfolding rangeFields
 returns c = rw (c .before .before .le16-at .ensures, c .before .le32-at .ensures, c .le32-at2 .ensures)
 
 pub range-fields-spec : {M : Type 1} → statement M
