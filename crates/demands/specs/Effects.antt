@@ -10,7 +10,7 @@ use Rattle.wire.specs.LittleEndian.{byteAt, le16At}
 use Rattle.records.specs.declared.Open.{Open}
 use Rattle.records.specs.declared.Tables.{Tables}
 use Rattle.claims.specs.RemovalPlain.{Closed, Disconnected, LoggedOff, Exited}
-use Rattle.chain.specs.Layout.{CLOSE, PROCESS_EXIT, READ, WRITE, TREE_DISCONNECT, LOGOFF, headerCommand, FIRST, fidAfterAndx, readMax, dataLength, dataOffset, closeFid}
+use Rattle.chain.specs.Layout.{CLOSE, PROCESS_EXIT, READ, WRITE, TREE_DISCONNECT, LOGOFF, headerCommand, FIRST, fidAfterAndx, readMax, dataLength, dataOffset, firstFid}
 use Rattle.chain.specs.Grammar.{Span, Reading}
 use Rattle.chain.specs.Parse.{wideOffset}
 use Rattle.chain.specs.declared.block.Body.the-variants.{Write as WriteBody}
@@ -122,9 +122,9 @@ module _ (connection : ℕ) (s : List ℕ) {span : Span} (r : Reading s (span �
       }
 
   -- "CLOSE removes the open and its locks"
-  pub close-reading : headerCommand s ≡ CLOSE → Closed (closeFid s FIRST) t (call .tables) × (call .memory ≡ memory)
+  pub close-reading : headerCommand s ≡ CLOSE → Closed (firstFid s FIRST) t (call .tables) × (call .memory ≡ memory)
   unfolding bodyAt
-  close-reading e = close-call connection s (only .block) (only .is-read) t memory room g fit z (closeFid s FIRST) (first-body only CLOSE e)
+  close-reading e = close-call connection s (only .block) (only .is-read) t memory room g fit z (firstFid s FIRST) (first-body only CLOSE e)
 
   -- "TREE_DISCONNECT removes the tree and its opens": TID stands at 24
   pub disconnect-reading : headerCommand s ≡ TREE_DISCONNECT → Disconnected (le16At s 24) t (call .tables) × (call .memory ≡ memory)

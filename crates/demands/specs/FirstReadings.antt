@@ -8,7 +8,7 @@ use mathlib.Core.List.{List, [], _∷_}
 use Rattle.records.specs.declared.Open.{Open}
 use Rattle.records.specs.declared.Tables.{Tables}
 use Rattle.records.specs.Held.{locksOf}
-use Rattle.chain.specs.Layout.{CLOSE, PROCESS_EXIT, LOCKING, READ, WRITE, TREE_DISCONNECT, LOGOFF, headerCommand, FIRST, fidAfterAndx, readMax, dataLength, closeFid}
+use Rattle.chain.specs.Layout.{CLOSE, PROCESS_EXIT, LOCKING, READ, WRITE, TREE_DISCONNECT, LOGOFF, headerCommand, FIRST, fidAfterAndx, readMax, dataLength, firstFid}
 use Rattle.chain.specs.Grammar.{Span, Reading}
 use Rattle.chain.specs.Parse.{wideOffset}
 use Rattle.chain.specs.declared.block.Body.{Body}
@@ -91,9 +91,9 @@ module _ (connection : ℕ) (s : List ℕ) {span : Span} (r : Reading s (span �
   write-exact e n = reason-of (WriteBody (writeFields s)) (first-body only WRITE e) n
 
   pub close-exact : headerCommand s ≡ CLOSE → (n : Status) → (statusRead (take-message connection s t memory room .room) ≡ n)
-      ↔ CloseStatus (callerOf connection s) t (closeFid s FIRST) n
+      ↔ CloseStatus (callerOf connection s) t (firstFid s FIRST) n
   unfolding bodyAt Reason
-  close-exact e n = reason-of (Close (closeFid s FIRST)) (first-body only CLOSE e) n
+  close-exact e n = reason-of (Close (firstFid s FIRST)) (first-body only CLOSE e) n
 
   pub disconnect-exact : headerCommand s ≡ TREE_DISCONNECT → (n : Status) → (statusRead (take-message connection s t memory room .room) ≡ n)
       ↔ TreeStatus (callerOf connection s) t n

@@ -7,7 +7,7 @@ use lib.ListN.{length, length-replicate}
 use Rattle.wire.specs.LittleEndian.{byteAt}
 use Rattle.records.specs.declared.Tables.{Tables}
 use Rattle.host.specs.HostCall.{addSession, addTree, addOpen, loadFile, loadMemory, dropConnection}
-use Rattle.chain.specs.Layout.{LOCKING, READ, WRITE, CLOSE, LOGOFF, TREE_DISCONNECT, PROCESS_EXIT, FIRST, closeFid}
+use Rattle.chain.specs.Layout.{LOCKING, READ, WRITE, CLOSE, LOGOFF, TREE_DISCONNECT, PROCESS_EXIT, FIRST, firstFid}
 use Rattle.chain.specs.Grammar.{Span, Reading, Sentence}
 use Rattle.message.specs.Message.{Taken, notTaken, take-message}
 use Rattle.message.specs.declared.refusal.Status.{Status}
@@ -49,7 +49,7 @@ pub record StatusForItsReason : Type 0 where
       → (statusGiven c ≡ n) ↔ LockingReason (c .connection) (c .message) (c .tables) n
   pub read : (c : Call) → Answerable c → OneCommand c READ → (n : Status) → (statusGiven c ≡ n) ↔ ReadStatus (sender c) (c .tables) (readFields (c .message)) n
   pub write : (c : Call) → Answerable c → OneCommand c WRITE → (n : Status) → (statusGiven c ≡ n) ↔ WriteStatus (sender c) (c .tables) (writeFields (c .message)) n
-  pub close : (c : Call) → Answerable c → OneCommand c CLOSE → (n : Status) → (statusGiven c ≡ n) ↔ CloseStatus (sender c) (c .tables) (closeFid (c .message) FIRST) n
+  pub close : (c : Call) → Answerable c → OneCommand c CLOSE → (n : Status) → (statusGiven c ≡ n) ↔ CloseStatus (sender c) (c .tables) (firstFid (c .message) FIRST) n
   pub disconnect : (c : Call) → Answerable c → OneCommand c TREE_DISCONNECT → (n : Status) → (statusGiven c ≡ n) ↔ TreeStatus (sender c) (c .tables) n
   pub logoff : (c : Call) → Answerable c → OneCommand c LOGOFF → (n : Status) → (statusGiven c ≡ n) ↔ SessionStatus (sender c) (c .tables) n
   pub exit : (c : Call) → Answerable c → OneCommand c PROCESS_EXIT → (n : Status) → (statusGiven c ≡ n) ↔ SessionStatus (sender c) (c .tables) n

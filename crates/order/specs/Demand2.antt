@@ -10,7 +10,7 @@ use Rattle.records.specs.declared.Lock.{Lock}
 use Rattle.records.specs.Held.{locksOf}
 use Rattle.locks.specs.Range.{Overlap}
 use Rattle.locks.specs.declared.types.LockRange.{LockRange}
-use Rattle.chain.specs.Layout.{LOCKING, READ, WRITE, CLOSE, LOGOFF, TREE_DISCONNECT, PROCESS_EXIT, headerCommand, FIRST, fidAfterAndx, lockType, unlockCount, lockCount, closeFid}
+use Rattle.chain.specs.Layout.{LOCKING, READ, WRITE, CLOSE, LOGOFF, TREE_DISCONNECT, PROCESS_EXIT, headerCommand, FIRST, fidAfterAndx, lockType, unlockCount, lockCount, firstFid}
 use Rattle.chain.specs.Grammar.{Span, Reading, Sentence}
 use Rattle.message.specs.Caller.{callerOf}
 use Rattle.claims.specs.Cases.{message, table, cases}
@@ -54,7 +54,7 @@ pub record CarriedOut : Type 0 where
   pub locking : (c : Call) → DoneAlone c LOCKING → LockingDone (c .connection) (c .message) (c .tables) (c .memory) (gives c)
   pub read : (c : Call) → DoneAlone c READ → ReadDone (c .connection) (c .message) (c .tables) (c .memory) (gives c)
   pub write : (c : Call) → DoneAlone c WRITE → WriteDone (c .connection) (c .message) (c .tables) (c .memory) (gives c)
-  pub close : (c : Call) → DoneAlone c CLOSE → Closed (closeFid (c .message) FIRST) (c .tables) (gives c .tables) × (gives c .memory ≡ c .memory)
+  pub close : (c : Call) → DoneAlone c CLOSE → Closed (firstFid (c .message) FIRST) (c .tables) (gives c .tables) × (gives c .memory ≡ c .memory)
   pub disconnect : (c : Call) → DoneAlone c TREE_DISCONNECT → Disconnected (le16At (c .message) 24) (c .tables) (gives c .tables) × (gives c .memory ≡ c .memory)
   pub logoff : (c : Call) → DoneAlone c LOGOFF → LoggedOff (le16At (c .message) 28) (c .tables) (gives c .tables) × (gives c .memory ≡ c .memory)
   pub exit : (c : Call) → DoneAlone c PROCESS_EXIT

@@ -11,7 +11,7 @@ use lib.ListN.{length}
 use lib.Dec.{eqb}
 use borrow.Author.Tests.{eqb-true}
 use Rattle.wire.specs.LittleEndian.{byteAt, le16At, le32At}
-use Rattle.chain.specs.Layout.{CLOSE, LOCKING, READ, WRITE, wordCount, byteArea, byteCount, blockEnd, fidAfterAndx, lockType, unlockCount, lockCount, offsetLow, readMax, readOffsetHigh, dataLength, dataOffset, writeOffsetHigh, closeFid}
+use Rattle.chain.specs.Layout.{CLOSE, LOCKING, READ, WRITE, wordCount, byteArea, byteCount, blockEnd, fidAfterAndx, lockType, unlockCount, lockCount, offsetLow, readMax, readOffsetHigh, dataLength, dataOffset, writeOffsetHigh, firstFid}
 use Rattle.chain.specs.Grammar.{Shape, Bare, Ranges, Data, IsBlock, locking-10, locking-20, read-10, read-12, write-12, write-14, close, logoff, tree-disconnect, process-exit, NamedAndx, locking-andx, read-andx, write-andx, Plain, close-plain, tree-disconnect-plain, process-exit-plain}
 use Rattle.chain.specs.Parse.{wideOffset}
 use Rattle.chain.specs.declared.block.Body.{Body}
@@ -127,7 +127,7 @@ module _ {s : List ℕ} {at : ℕ} {t : List ℕ} {to : ℕ} {command : ℕ} (m 
   pub moved-length : command ≡ WRITE → 10 ≤ wordCount s at → dataLength t to ≡ dataLength s at
   moved-length c h = front-16 21 (omega arith) (omega arith) (omega arith) (λ i p q u. let w = unread-write c u in omega arith)
 
-  pub moved-close-fid : Plain command → closeFid t to ≡ closeFid s at
+  pub moved-close-fid : Plain command → firstFid t to ≡ firstFid s at
   moved-close-fid p =
       let front : (k : ℕ) → k < 3 → KeptRead s at command k =
       λ k l. (kept-plain p, λ u. let w = unread-front (in-words (λ a _. absurd (plain-not-andx p a)) (omega arith) u) in omega arith) in
