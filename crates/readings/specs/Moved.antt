@@ -1,7 +1,7 @@
 -- A block that stands at another place, perhaps in another message, is read the same.
--- Its AndX words may differ, and a WRITE block's DataOffset moves with it.
+-- Its AndX words may differ, and a WRITE block's DataOffset moves with it; the data of a core WRITE have no offset.
 -- Assumes nothing.
-use mathlib.Core.Path.{_≡_, refl, _∙_}
+use mathlib.Core.Path.{_≡_, refl, ap, _∙_}
 use Prim.Native.Nat.{ℕ, _+_, _-_, _*_, _≤_, _<_}
 use native.Mathlib.Nat.{add-zero}
 use native.Mathlib.Omega.{arith}
@@ -11,15 +11,15 @@ use lib.ListN.{length}
 use lib.Dec.{eqb}
 use borrow.Author.Tests.{eqb-true}
 use Rattle.wire.specs.LittleEndian.{byteAt, le16At, le32At}
-use Rattle.chain.specs.Layout.{CLOSE, LOCKING, READ, WRITE, wordCount, byteArea, byteCount, blockEnd, fidAfterAndx, lockType, unlockCount, lockCount, offsetLow, readMax, readOffsetHigh, dataLength, dataOffset, writeOffsetHigh, firstFid}
-use Rattle.chain.specs.Grammar.{Shape, Bare, Ranges, Data, IsBlock, locking-10, locking-20, read-10, read-12, write-12, write-14, close, logoff, tree-disconnect, process-exit, NamedAndx, locking-andx, read-andx, write-andx, Plain, close-plain, tree-disconnect-plain, process-exit-plain}
-use Rattle.chain.specs.Parse.{wideOffset}
+use Rattle.chain.specs.Layout.{CLOSE, PROCESS_EXIT, LOCKING, READ, WRITE, CORE-READ, CORE-WRITE, LOCK_BYTE_RANGE, UNLOCK_BYTE_RANGE, wordCount, byteArea, byteCount, blockEnd, fidAfterAndx, lockType, unlockCount, lockCount, offsetLow, readMax, readOffsetHigh, dataLength, dataOffset, writeOffsetHigh, firstFid, coreCount, coreOffset, dataMark, markedLength, rangeCount, rangeOffset}
+use Rattle.chain.specs.Grammar.{Shape, Bare, Ranges, Data, MarkedData, IsBlock, locking-10, locking-20, read-10, read-12, write-12, write-14, close, logoff, tree-disconnect, process-exit, core-read, core-write, lock-byte-range, unlock-byte-range, NamedAndx, locking-andx, read-andx, write-andx, Plain, close-plain, tree-disconnect-plain, process-exit-plain, core-read-plain, core-write-plain, lock-byte-range-plain, unlock-byte-range-plain}
+use Rattle.chain.specs.Parse.{wideOffset, rangeFields}
 use Rattle.chain.specs.declared.block.Body.{Body}
-use Rattle.chain.specs.declared.block.Body.the-variants.{Locking, Read, Write, Close, Logoff, TreeDisconnect, ProcessExit}
+use Rattle.chain.specs.declared.block.Body.the-variants.{Locking, Read, Write, Close, Logoff, TreeDisconnect, ProcessExit, CoreRead, CoreWrite, LockByteRange, UnlockByteRange}
 use Rattle.invariants.specs.BlockParse.{bodyAt, plain-not-andx, andx-words, blockSize}
 use Rattle.readings.specs.SameNumbers.{SameBytes, same-16, same-32}
 use Rattle.readings.specs.Unread.{UnreadWord, Unread}
-use Rattle.readings.specs.UnreadLaws.{in-words, unread-locking, unread-read, unread-write, unread-front, unread-andx, unread-before-count}
+use Rattle.readings.specs.UnreadLaws.{in-words, unread-locking, unread-read, unread-write, unread-core, range-read, unread-front, unread-andx, unread-before-count, marked-looked}
 
 -- The bytes of a block that stay as they are, counted from its start: all of a request not named ANDX; of the others all but
 -- the four AndX words' bytes, 1 to 4, and of a WRITE block all but these and its DataOffset's bytes, 23 and 24.
@@ -50,6 +50,10 @@ movedBody at to (Close fid) = Close fid
 movedBody at to Logoff = Logoff
 movedBody at to TreeDisconnect = TreeDisconnect
 movedBody at to ProcessExit = ProcessExit
+movedBody at to (CoreRead f) = CoreRead f
+movedBody at to (CoreWrite f) = CoreWrite (record { fid = f .fid; offset = f .offset; count = f .count; from = f .from + to - at })
+movedBody at to (LockByteRange f) = LockByteRange f
+movedBody at to (UnlockByteRange f) = UnlockByteRange f
 
 -- an offset of 32 or 64 bits: the upper half counts only where the block has it
 wide-same : (low low′ high high′ : ℕ) (wide : Bool) → low ≡ low′ → (wide ≡ true → high ≡ high′) → wideOffset low high wide ≡ wideOffset low′ high′ wide
@@ -69,6 +73,10 @@ bytes-kept (close h) k e = kept-plain close-plain
 bytes-kept (logoff h) k e = kept-not-write {k = k} (omega arith) (omega arith)
 bytes-kept (tree-disconnect h) k e = kept-plain tree-disconnect-plain
 bytes-kept (process-exit h) k e = kept-plain process-exit-plain
+bytes-kept (core-read h) k e = kept-plain core-read-plain
+bytes-kept (core-write h) k e = kept-plain core-write-plain
+bytes-kept (lock-byte-range h) k e = kept-plain lock-byte-range-plain
+bytes-kept (unlock-byte-range h) k e = kept-plain unlock-byte-range-plain
 
 module _ {s : List ℕ} {at : ℕ} {t : List ℕ} {to : ℕ} {command : ℕ} (m : Moved s at t to command) where
   -- bytes that are kept
@@ -127,11 +135,29 @@ module _ {s : List ℕ} {at : ℕ} {t : List ℕ} {to : ℕ} {command : ℕ} (m 
   pub moved-length : command ≡ WRITE → 10 ≤ wordCount s at → dataLength t to ≡ dataLength s at
   moved-length c h = front-16 21 (omega arith) (omega arith) (omega arith) (λ i p q u. let w = unread-write c u in omega arith)
 
-  pub moved-close-fid : Plain command → firstFid t to ≡ firstFid s at
-  moved-close-fid p =
-      let front : (k : ℕ) → k < 3 → KeptRead s at command k =
-      λ k l. (kept-plain p, λ u. let w = unread-front (in-words (λ a _. absurd (plain-not-andx p a)) (omega arith) u) in omega arith) in
-      kept-16 1 (omega arith) (λ i _ q. front i q)
+  -- a byte of the words that is looked at, of a request not named ANDX
+  plain-kept : Plain command → (k : ℕ) → at + k < byteArea s at → (UnreadWord command k → ⊥) → KeptRead s at command k
+  plain-kept p k h n = (kept-plain p, λ u. n (in-words (λ a _. absurd (plain-not-andx p a)) h u))
+
+  pub moved-first-fid : Plain command → firstFid t to ≡ firstFid s at
+  moved-first-fid p = kept-16 1 (omega arith) (λ i _ q. plain-kept p i (omega arith) (λ u. let w = unread-front u in omega arith))
+
+  -- the numbers of a core command, in front of what it leaves unread
+  module _ (p : Plain command) (a : CORE-READ ≤ command) (b : command < PROCESS_EXIT) (w : wordCount s at ≡ 5) where
+    core-kept : (k : ℕ) → k < 9 → KeptRead s at command k
+    core-kept k l = plain-kept p k (omega arith) (λ u. let v = unread-core a b u in omega arith)
+
+    moved-core-count : coreCount t to ≡ coreCount s at
+    moved-core-count = kept-16 3 (omega arith) (λ i _ q. core-kept i (omega arith))
+
+    moved-core-offset : coreOffset t to ≡ coreOffset s at
+    moved-core-offset = kept-32 5 (omega arith) (λ i _ q. core-kept i (omega arith))
+
+    moved-range-count : rangeCount t to ≡ rangeCount s at
+    moved-range-count = kept-32 3 (omega arith) (λ i _ q. core-kept i (omega arith))
+
+    moved-range-offset : ((k : ℕ) → UnreadWord command k → ⊥) → rangeOffset t to ≡ rangeOffset s at
+    moved-range-offset n = kept-32 7 (omega arith) (λ i _ q. plain-kept p i (omega arith) (n i))
 
   -- the whole offset of a READ block
   pub moved-read-offset : command ≡ READ → 4 ≤ wordCount s at
@@ -225,6 +251,23 @@ module _ {s : List ℕ} {at : ℕ} {t : List ℕ} {to : ℕ} {command : ℕ} (m 
         let f : dataOffset s at + dataLength s at ≤ blockEnd s at = d .ends in
         record { shape = moved-shape (d .shape); starts = omega arith; ends = omega arith }
 
+    -- the data block again
+    moved-marked : command ≡ CORE-WRITE → MarkedData s at → MarkedData t to
+    moved-marked c d =
+        let w : wordCount s at ≡ 5 = d .shape .counted in
+        let n : coreCount t to ≡ coreCount s at = moved-core-count (rw c core-write-plain) (omega arith) (omega arith) w in
+        let f : byteCount s at ≡ 3 + coreCount s at = d .filled in
+        let look : (k : ℕ) → k < 3 → byteAt t (byteArea t to + k) ≡ byteAt s (byteArea s at + k) =
+        λ k l. moved-bytes k (omega arith) (marked-looked c (omega arith)) in
+        let mark : dataMark t to ≡ dataMark s at = rw (add-zero (byteArea t to), add-zero (byteArea s at)) at (look 0 (omega arith)) in
+        let long : markedLength t to ≡ markedLength s at =
+        same-16 s (byteArea s at + 1) t (byteArea t to + 1)
+        (λ j l.
+        let e : byteArea t to + 1 + j ≡ byteArea t to + (1 + j) = omega arith in
+        let g : byteArea s at + 1 + j ≡ byteArea s at + (1 + j) = omega arith in
+        rw (e, g) (look (1 + j) (omega arith))) in
+        record { shape = moved-shape (d .shape); marked = mark ∙ d .marked; counted = rw (long, n) (d .counted); filled = rw (moved-count, n) (d .filled) }
+
 -- "each block in turn makes a message ..., then the block at 32": a block that moved is a block by the same row of the table
 pub moved-block : {s : List ℕ} {at : ℕ} {t : List ℕ} {to command : ℕ} → IsBlock s at command → Moved s at t to command → IsBlock t to command
 moved-block {s} {at} (locking-10 p h) m =
@@ -241,6 +284,10 @@ moved-block (close h) m = close (moved-bare m (close h) h)
 moved-block (logoff h) m = logoff (moved-bare m (logoff h) h)
 moved-block (tree-disconnect h) m = tree-disconnect (moved-bare m (tree-disconnect h) h)
 moved-block (process-exit h) m = process-exit (moved-bare m (process-exit h) h)
+moved-block (core-read h) m = core-read (moved-bare m (core-read h) h)
+moved-block (core-write h) m = core-write (moved-marked m (core-write h) refl h)
+moved-block (lock-byte-range h) m = lock-byte-range (moved-bare m (lock-byte-range h) h)
+moved-block (unlock-byte-range h) m = unlock-byte-range (moved-bare m (unlock-byte-range h) h)
 
 -- a LOCKING block's fields
 moved-locking-body : {s : List ℕ} {at : ℕ} {t : List ℕ} {to : ℕ} → wordCount s at ≡ 8 → Moved s at t to LOCKING
@@ -268,7 +315,28 @@ moved-write-body {s} {at} {t} {to} w d m =
 -- a CLOSE block's
 moved-close-body : {s : List ℕ} {at : ℕ} {t : List ℕ} {to : ℕ} → Moved s at t to CLOSE → bodyAt t CLOSE to ≡ movedBody at to (bodyAt s CLOSE at)
 unfolding bodyAt movedBody
-moved-close-body m = rw (moved-close-fid m close-plain)
+moved-close-body m = rw (moved-first-fid m close-plain)
+
+-- a core READ's and WRITE's, with the data's place moved
+moved-core-read-body : {s : List ℕ} {at : ℕ} {t : List ℕ} {to : ℕ} → wordCount s at ≡ 5 → Moved s at t to CORE-READ
+    → bodyAt t CORE-READ to ≡ movedBody at to (bodyAt s CORE-READ at)
+unfolding bodyAt movedBody
+moved-core-read-body w m =
+    rw (moved-first-fid m core-read-plain, moved-core-offset m core-read-plain (omega arith) (omega arith) w, moved-core-count m core-read-plain (omega arith) (omega arith) w)
+
+moved-core-write-body : {s : List ℕ} {at : ℕ} {t : List ℕ} {to : ℕ} → wordCount s at ≡ 5 → Moved s at t to CORE-WRITE
+    → bodyAt t CORE-WRITE to ≡ movedBody at to (bodyAt s CORE-WRITE at)
+unfolding bodyAt movedBody
+moved-core-write-body {s} {at} {t} {to} w m =
+    let n = moved-words m in
+    let e : to + 3 + 2 * wordCount t to + 3 ≡ at + 3 + 2 * wordCount s at + 3 + to - at = omega arith in
+    rw (e, moved-first-fid m core-write-plain, moved-core-offset m core-write-plain (omega arith) (omega arith) w, moved-core-count m core-write-plain (omega arith) (omega arith) w)
+
+-- the one range of a LOCK_BYTE_RANGE or UNLOCK_BYTE_RANGE
+moved-range : {s : List ℕ} {at : ℕ} {t : List ℕ} {to command : ℕ} → Plain command → LOCK_BYTE_RANGE ≤ command → command ≤ UNLOCK_BYTE_RANGE → wordCount s at ≡ 5
+    → Moved s at t to command → rangeFields t to ≡ rangeFields s at
+moved-range p a b w m =
+    rw (moved-first-fid m p, moved-range-offset m p (omega arith) (omega arith) w (λ k u. range-read a b u), moved-range-count m p (omega arith) (omega arith) w)
 
 -- the fields that the reader yields are the same, and those of a WRITE block with the data's place moved
 pub moved-body : {s : List ℕ} {at : ℕ} {t : List ℕ} {to command : ℕ} → IsBlock s at command → Moved s at t to command
@@ -284,3 +352,7 @@ moved-body (close h) m = moved-close-body m
 moved-body (logoff h) m = refl
 moved-body (tree-disconnect h) m = refl
 moved-body (process-exit h) m = refl
+moved-body (core-read h) m = moved-core-read-body (h .shape .counted) m
+moved-body (core-write h) m = moved-core-write-body (h .shape .counted) m
+moved-body (lock-byte-range h) m = ap LockByteRange (moved-range lock-byte-range-plain (omega arith) (omega arith) (h .shape .counted) m)
+moved-body (unlock-byte-range h) m = ap UnlockByteRange (moved-range unlock-byte-range-plain (omega arith) (omega arith) (h .shape .counted) m)

@@ -1,9 +1,9 @@
--- The bytes inside a block that are not looked at (document 01, "What the build serves" and "The grammar of a chain"), counted
+-- The bytes inside a block that are not looked at (document 01, "What the build serves" and "The grammar of a chain"; document 02, CR 3), counted
 -- from the block's start, where WordCount stands. It cites the layout and the grammar alone. Assumes nothing.
 use mathlib.Core.Path.{_≡_}
 use Prim.Native.Nat.{ℕ, _+_, _*_, _/_, _%_, _≤_, _<_}
 use mathlib.Core.List.{List}
-use Rattle.chain.specs.Layout.{CLOSE, LOCKING, READ, WRITE, NO_COMMAND, byteArea, andxCommand, lockType, dataLength, dataOffset}
+use Rattle.chain.specs.Layout.{CLOSE, LOCKING, READ, WRITE, CORE-READ, CORE-WRITE, NO_COMMAND, byteArea, andxCommand, lockType, dataLength, dataOffset}
 use Rattle.chain.specs.Grammar.{NamedAndx}
 
 -- Of the words, by the request: "Timeout fields are not looked at", and no rule names the fields beside them.
@@ -16,6 +16,9 @@ pub data UnreadWord (command k : ℕ) : Type 0 where
   write-word : command ≡ WRITE → 11 ≤ k → k < 21 → UnreadWord command k
   -- "CLOSE: FID 2, time 4": time
   close-word : command ≡ CLOSE → 3 ≤ k → k < 7 → UnreadWord command k
+  -- the core READ and WRITE: "FID, count 2, offset 4, remaining 2": remaining
+  core-read-word : command ≡ CORE-READ → 9 ≤ k → k < 11 → UnreadWord command k
+  core-write-word : command ≡ CORE-WRITE → 9 ≤ k → k < 11 → UnreadWord command k
 
 -- the k-th byte of the block at a place is not looked at
 pub data Unread (s : List ℕ) (at command k : ℕ) : Type 0 where

@@ -7,11 +7,11 @@ use mathlib.Core.Bool.{Bool, true, false}
 use mathlib.Core.List.{List}
 use borrow.Author.Tests.{eqb-false}
 use Rattle.locks.specs.Wire.{rangeSize}
-use Rattle.chain.specs.Layout.{CLOSE, PROCESS_EXIT, LOCKING, READ, WRITE, NO_COMMAND, wordCount, byteArea, andxCommand, lockType, dataLength, dataOffset}
-use Rattle.chain.specs.Grammar.{IsBlock, locking-10, locking-20, read-10, read-12, write-12, write-14, close, logoff, tree-disconnect, process-exit, NamedAndx, close-plain}
+use Rattle.chain.specs.Layout.{CLOSE, PROCESS_EXIT, LOCKING, READ, WRITE, CORE-READ, CORE-WRITE, LOCK_BYTE_RANGE, UNLOCK_BYTE_RANGE, NO_COMMAND, wordCount, byteArea, andxCommand, lockType, dataLength, dataOffset}
+use Rattle.chain.specs.Grammar.{IsBlock, locking-10, locking-20, read-10, read-12, write-12, write-14, close, logoff, tree-disconnect, process-exit, core-read, core-write, lock-byte-range, unlock-byte-range, NamedAndx, close-plain, core-read-plain, core-write-plain}
 use Rattle.chain.specs.Parse.{isLarge}
 use Rattle.invariants.specs.BlockParse.{plain-not-andx}
-use Rattle.readings.specs.Unread.{UnreadWord, locking-word, read-word, write-word, close-word, Unread, unread-word, unread-reserved, unread-offset, unread-pad, unread-before, unread-behind}
+use Rattle.readings.specs.Unread.{UnreadWord, locking-word, read-word, write-word, close-word, core-read-word, core-write-word, Unread, unread-word, unread-reserved, unread-offset, unread-pad, unread-before, unread-behind}
 
 -- before the bytes, and but for the AndX words, only the words of the table are not looked at
 pub in-words : {s : List ℕ} {at command k : ℕ} → (NamedAndx command → 2 ≤ k → 5 ≤ k) → at + k < byteArea s at → Unread s at command k → UnreadWord command k
@@ -28,24 +28,50 @@ unread-locking c (locking-word e f g) = (f, g)
 unread-locking c (read-word e f g) = absurd (omega arith)
 unread-locking c (write-word e f g) = absurd (omega arith)
 unread-locking c (close-word e f g) = absurd (omega arith)
+unread-locking c (core-read-word e f g) = absurd (omega arith)
+unread-locking c (core-write-word e f g) = absurd (omega arith)
 
 pub unread-read : {command k : ℕ} → command ≡ READ → UnreadWord command k → (13 ≤ k) × (k < 21)
 unread-read c (locking-word e f g) = absurd (omega arith)
 unread-read c (read-word e f g) = (f, g)
 unread-read c (write-word e f g) = absurd (omega arith)
 unread-read c (close-word e f g) = absurd (omega arith)
+unread-read c (core-read-word e f g) = absurd (omega arith)
+unread-read c (core-write-word e f g) = absurd (omega arith)
 
 pub unread-write : {command k : ℕ} → command ≡ WRITE → UnreadWord command k → (11 ≤ k) × (k < 21)
 unread-write c (locking-word e f g) = absurd (omega arith)
 unread-write c (read-word e f g) = absurd (omega arith)
 unread-write c (write-word e f g) = (f, g)
 unread-write c (close-word e f g) = absurd (omega arith)
+unread-write c (core-read-word e f g) = absurd (omega arith)
+unread-write c (core-write-word e f g) = absurd (omega arith)
 
 unread-close : {command k : ℕ} → command ≡ CLOSE → UnreadWord command k → (3 ≤ k) × (k < 7)
 unread-close c (locking-word e f g) = absurd (omega arith)
 unread-close c (read-word e f g) = absurd (omega arith)
 unread-close c (write-word e f g) = absurd (omega arith)
 unread-close c (close-word e f g) = (f, g)
+unread-close c (core-read-word e f g) = absurd (omega arith)
+unread-close c (core-write-word e f g) = absurd (omega arith)
+
+-- those of a core READ or WRITE, 0x0A and 0x0B, behind the offset
+pub unread-core : {command k : ℕ} → CORE-READ ≤ command → command < PROCESS_EXIT → UnreadWord command k → (9 ≤ k) × (k < 11)
+unread-core a b (locking-word e f g) = absurd (omega arith)
+unread-core a b (read-word e f g) = absurd (omega arith)
+unread-core a b (write-word e f g) = absurd (omega arith)
+unread-core a b (close-word e f g) = absurd (omega arith)
+unread-core a b (core-read-word e f g) = (f, g)
+unread-core a b (core-write-word e f g) = (f, g)
+
+-- a LOCK_BYTE_RANGE and an UNLOCK_BYTE_RANGE have none
+pub range-read : {command k : ℕ} → LOCK_BYTE_RANGE ≤ command → command ≤ UNLOCK_BYTE_RANGE → UnreadWord command k → ⊥
+range-read a b (locking-word e f g) = omega arith
+range-read a b (read-word e f g) = omega arith
+range-read a b (write-word e f g) = omega arith
+range-read a b (close-word e f g) = omega arith
+range-read a b (core-read-word e f g) = omega arith
+range-read a b (core-write-word e f g) = omega arith
 
 -- the other requests have none
 unread-named : {command k : ℕ} → UnreadWord command k → (command ≤ WRITE) × (command ≡ PROCESS_EXIT → ⊥)
@@ -53,6 +79,8 @@ unread-named (locking-word e f g) = (omega arith, λ c. omega arith)
 unread-named (read-word e f g) = (omega arith, λ c. omega arith)
 unread-named (write-word e f g) = (omega arith, λ c. omega arith)
 unread-named (close-word e f g) = (omega arith, λ c. omega arith)
+unread-named (core-read-word e f g) = (omega arith, λ c. omega arith)
+unread-named (core-write-word e f g) = (omega arith, λ c. omega arith)
 
 -- WordCount is looked at, and what stands just behind it
 pub unread-front : {command k : ℕ} → UnreadWord command k → 3 ≤ k
@@ -60,6 +88,8 @@ unread-front (locking-word e f g) = omega arith
 unread-front (read-word e f g) = omega arith
 unread-front (write-word e f g) = omega arith
 unread-front (close-word e f g) = f
+unread-front (core-read-word e f g) = omega arith
+unread-front (core-write-word e f g) = omega arith
 
 -- so is a FID behind the AndX words
 pub unread-andx : {command k : ℕ} → NamedAndx command → UnreadWord command k → 8 ≤ k
@@ -67,6 +97,8 @@ unread-andx a (locking-word e f g) = f
 unread-andx a (read-word e f g) = omega arith
 unread-andx a (write-word e f g) = omega arith
 unread-andx a (close-word e f g) = absurd (plain-not-andx close-plain (rw e at a))
+unread-andx a (core-read-word e f g) = absurd (plain-not-andx core-read-plain (rw e at a))
+unread-andx a (core-write-word e f g) = absurd (plain-not-andx core-write-plain (rw e at a))
 
 -- and ByteCount, behind the words
 pub unread-before-count : {s : List ℕ} {at command k : ℕ} → IsBlock s at command → UnreadWord command k → k < 1 + 2 * wordCount s at
@@ -80,6 +112,10 @@ unread-before-count (close h) u = let w = unread-close refl u in omega arith
 unread-before-count (logoff h) u = let w = unread-named u in absurd (omega arith)
 unread-before-count (tree-disconnect h) u = let w = unread-named u in absurd (omega arith)
 unread-before-count (process-exit h) u = absurd (unread-named u .1 refl)
+unread-before-count (core-read h) u = let w = unread-core (omega arith) (omega arith) u in omega arith
+unread-before-count (core-write h) u = let w = unread-core (omega arith) (omega arith) u in omega arith
+unread-before-count (lock-byte-range h) u = let w = unread-core (omega arith) (omega arith) u in omega arith
+unread-before-count (unlock-byte-range h) u = let w = unread-core (omega arith) (omega arith) u in omega arith
 
 -- an AndXOffset is looked at where AndXCommand is another than 0xFF
 pub offset-looked : {s : List ℕ} {at command k : ℕ} → NamedAndx command → (andxCommand s at ≡ NO_COMMAND → ⊥) → 2 ≤ wordCount s at → 3 ≤ k → k < 5
@@ -102,6 +138,15 @@ range-looked true i j w b l n e c (unread-pad f g m p q) = n refl (omega arith) 
 range-looked {s} {at} false i j w b l n e c (unread-pad f g m p q) = eqb-false (lockType s at / 16 % 2) 1 b g
 range-looked large i j w b l n e c (unread-before f p q) = omega arith
 range-looked large i j w b l n e c (unread-behind f p q) = omega arith
+
+-- a byte of a core WRITE's data block is looked at
+pub marked-looked : {s : List ℕ} {at command k : ℕ} → command ≡ CORE-WRITE → 11 ≤ k → Unread s at command k → ⊥
+marked-looked c l (unread-word u) = let w = unread-core (omega arith) (omega arith) u in omega arith
+marked-looked c l (unread-reserved n e) = omega arith
+marked-looked c l (unread-offset n e f g) = omega arith
+marked-looked c l (unread-pad e p i f g) = omega arith
+marked-looked c l (unread-before e f g) = omega arith
+marked-looked c l (unread-behind e f g) = omega arith
 
 -- a byte of a WRITE block's data is looked at
 pub data-looked : {s : List ℕ} {at command k : ℕ} → command ≡ WRITE → 12 ≤ wordCount s at → byteArea s at ≤ dataOffset s at → dataOffset s at ≤ at + k
