@@ -11,7 +11,7 @@ use lib.Dec.{eqb}
 use borrow.Author.Tests.{eqb-true}
 use Rattle.wire.specs.LittleEndian.{byteAt, le16At}
 use Rattle.chain.specs.Layout.{LOCKING, READ, WRITE, LOGOFF, NO_COMMAND, headerCommand, FIRST, wordCount, byteArea, blockEnd, andxCommand, dataLength, dataOffset}
-use Rattle.chain.specs.Grammar.{IsBlock, locking-10, locking-20, read-10, read-12, write-12, write-14, close, logoff, tree-disconnect, process-exit, NamedAndx, locking-andx, read-andx, write-andx, logoff-andx, Plain, close-plain, tree-disconnect-plain, process-exit-plain}
+use Rattle.chain.specs.Grammar.{IsBlock, locking-10, locking-20, read-10, read-12, write-12, write-14, close, logoff, tree-disconnect, process-exit, core-read, core-write, lock-byte-range, unlock-byte-range, NamedAndx, locking-andx, read-andx, write-andx, logoff-andx, Plain, close-plain, tree-disconnect-plain, process-exit-plain, core-read-plain, core-write-plain, lock-byte-range-plain, unlock-byte-range-plain}
 use Rattle.chain.specs.declared.block.Block.{Block}
 use Rattle.invariants.specs.BlockParse.{block-inside, write-words, andx-words, blockSize}
 use Rattle.readings.specs.Moved.{Kept, kept-plain, kept-count, kept-front, kept-behind, kept-not-write, Moved}
@@ -76,11 +76,19 @@ unfolding namedAndx
 plain-not close-plain e = let z : _≡_ {A = ℕ} 0 1 = cc in omega arith
 plain-not tree-disconnect-plain e = let z : _≡_ {A = ℕ} 0 1 = cc in omega arith
 plain-not process-exit-plain e = let z : _≡_ {A = ℕ} 0 1 = cc in omega arith
+plain-not core-read-plain e = let z : _≡_ {A = ℕ} 0 1 = cc in omega arith
+plain-not core-write-plain e = let z : _≡_ {A = ℕ} 0 1 = cc in omega arith
+plain-not lock-byte-range-plain e = let z : _≡_ {A = ℕ} 0 1 = cc in omega arith
+plain-not unlock-byte-range-plain e = let z : _≡_ {A = ℕ} 0 1 = cc in omega arith
 
 plain-not-write : {command : ℕ} → Plain command → eqb command WRITE ≡ true → ⊥
 plain-not-write close-plain e = let z : _≡_ {A = ℕ} 0 1 = cc in omega arith
 plain-not-write tree-disconnect-plain e = let z : _≡_ {A = ℕ} 0 1 = cc in omega arith
 plain-not-write process-exit-plain e = let z : _≡_ {A = ℕ} 0 1 = cc in omega arith
+plain-not-write core-read-plain e = let z : _≡_ {A = ℕ} 0 1 = cc in omega arith
+plain-not-write core-write-plain e = let z : _≡_ {A = ℕ} 0 1 = cc in omega arith
+plain-not-write lock-byte-range-plain e = let z : _≡_ {A = ℕ} 0 1 = cc in omega arith
+plain-not-write unlock-byte-range-plain e = let z : _≡_ {A = ℕ} 0 1 = cc in omega arith
 
 andx-is : {command : ℕ} → NamedAndx command → namedAndx command ≡ true
 unfolding namedAndx
@@ -102,6 +110,10 @@ write-data (close h) e = absurd (omega arith)
 write-data (logoff h) e = absurd (omega arith)
 write-data (tree-disconnect h) e = absurd (omega arith)
 write-data (process-exit h) e = absurd (omega arith)
+write-data (core-read h) e = absurd (omega arith)
+write-data (core-write h) e = absurd (omega arith)
+write-data (lock-byte-range h) e = absurd (omega arith)
+write-data (unlock-byte-range h) e = absurd (omega arith)
 
 -- bytes kept are not those set
 kept-end : {command k : ℕ} → Kept command k → namedAndx command ≡ true → k ≡ 1 → ⊥

@@ -18,7 +18,7 @@ use Rattle.locks.specs.Range.{passesEnd}
 use Rattle.locks.specs.Wire.{rangeSize}
 use Rattle.locks.specs.Request.{rangePasses}
 use Rattle.chain.specs.Layout.{LOCKING, headerCommand, FIRST, byteArea, byteCount, fidAfterAndx, lockType, unlockCount, lockCount}
-use Rattle.chain.specs.Grammar.{IsBlock, locking-10, locking-20, read-10, read-12, write-12, write-14, close, logoff, tree-disconnect, process-exit, Span, Reading}
+use Rattle.chain.specs.Grammar.{IsBlock, locking-10, locking-20, read-10, read-12, write-12, write-14, close, logoff, tree-disconnect, process-exit, core-read, core-write, lock-byte-range, unlock-byte-range, Span, Reading}
 use Rattle.chain.specs.Chain.{blocks}
 use Rattle.chain.specs.declared.block.LockingFields.{LockingFields}
 use Rattle.chain.specs.declared.block.ReadFields.{ReadFields}
@@ -37,7 +37,7 @@ use Rattle.message.specs.declared.refusal.Status.{Status}
 use Rattle.message.specs.declared.refusal.Refusal.{Refusal}
 use Rattle.message.specs.declared.refusal.Refusal.the-variants.{NotServed, NotSentence, NoSession, NoTree, NoOpen, NoAccess, LockType, NoSuchLock, PassesEnd, Conflict, NoRecord, NoSpace}
 use Rattle.message.specs.declared.caller.Caller.{Caller}
-use Rattle.message.specs.Command.{Said, locked, loggedOff, read, wrote, plain, Given, refused, done, doLocking, doRead, doWrite, perform}
+use Rattle.message.specs.Command.{Said, locked, loggedOff, read, wrote, plain, coreRead, coreWrote, Given, refused, done, doLocking, doRead, doWrite, perform}
 use Rattle.message.specs.Reply.{replyBlock, refusedBlock, replySize}
 use Rattle.message.specs.Message.{areaOf, dataOf, Ran, after, linkTo, afterGiven, run, Taken, take-message}
 use Rattle.demands.specs.Malformed.{length-area}
@@ -92,6 +92,8 @@ size-least loggedOff = omega arith
 size-least (read bytes) = omega arith
 size-least (wrote count) = omega arith
 size-least plain = omega arith
+size-least (coreRead bytes) = omega arith
+size-least (coreWrote count) = omega arith
 
 -- of a command that is done, or refused, and those behind it there is a block
 pub given-least : (g : Given) (bs : List Block) (place : ℕ) (t : Tables) (memory : List ℕ) (rest : ℕ → Tables → List ℕ → Ran)
@@ -151,6 +153,10 @@ area-announced (close h) nx f e = let z : _≡_ {A = ℕ} 0 1 = cc in absurd (om
 area-announced (logoff h) nx f e = let z : _≡_ {A = ℕ} 0 1 = cc in absurd (omega arith)
 area-announced (tree-disconnect h) nx f e = let z : _≡_ {A = ℕ} 0 1 = cc in absurd (omega arith)
 area-announced (process-exit h) nx f e = let z : _≡_ {A = ℕ} 0 1 = cc in absurd (omega arith)
+area-announced (core-read h) nx f e = let z : _≡_ {A = ℕ} 0 1 = cc in absurd (omega arith)
+area-announced (core-write h) nx f e = let z : _≡_ {A = ℕ} 0 1 = cc in absurd (omega arith)
+area-announced (lock-byte-range h) nx f e = let z : _≡_ {A = ℕ} 0 1 = cc in absurd (omega arith)
+area-announced (unlock-byte-range h) nx f e = let z : _≡_ {A = ℕ} 0 1 = cc in absurd (omega arith)
 
 pub area-first : {s : List ℕ} {at command : ℕ} {all : List Block} → Chained s command at all → (b : Block) (bs : List Block) → all ≡ b ∷ bs → (f : LockingFields) → b .body ≡ LockingBody f
     → length (areaOf s b) ≡ (f .unlocks + f .locks) * rangeSize (eqb (f .kind / 16 % 2) 1)

@@ -1,6 +1,6 @@
 -- Which messages are answered as malformed: exactly those that are no sentence.
 -- Assumes nothing.
-use mathlib.Core.Path.{_≡_, refl, _∙_, ap}
+use mathlib.Core.Path.{_≡_, refl, sym, _∙_, ap}
 use mathlib.Core.Logic.{_↔_}
 use Prim.Native.Nat.{ℕ, _+_, _*_, _/_, _%_, _≤_}
 use native.Mathlib.Omega.{arith}
@@ -9,21 +9,22 @@ use mathlib.Core.List.{List}
 use mathlib.Core.Option.{Option, none, some}
 use lib.ListN.{length, take, drop, getD, length-drop}
 use lib.Seq.{length-take-le}
-use lib.Dec.{eqb}
+use lib.Dec.{ltb, eqb}
 use borrow.Author.Tests.{eq-eqb, ne-eqb}
 use Rattle.records.specs.declared.Tables.{Tables}
 use Rattle.records.specs.Empty.{noOpen}
 use Rattle.records.specs.Held.{opensOf}
-use Rattle.locks.specs.Wire.{rangeSize}
+use Rattle.locks.specs.Wire.{rangeSize, smallForm}
 use Rattle.locks.specs.Request.{rangesOf, Result, settle, locking}
 use Rattle.locks.specs.declared.types.Request.{Request}
 use Rattle.locks.specs.declared.types.Holder.{Holder}
 use Rattle.soundness.specs.File.{fileOf}
 use Rattle.chain.specs.Layout.{headerCommand, FIRST, byteArea, byteCount, blockEnd, lockType}
-use Rattle.chain.specs.Grammar.{IsBlock, locking-10, locking-20, read-10, read-12, write-12, write-14, close, logoff, tree-disconnect, process-exit, Sentence}
+use Rattle.chain.specs.Grammar.{IsBlock, locking-10, locking-20, read-10, read-12, write-12, write-14, close, logoff, tree-disconnect, process-exit, core-read, core-write, lock-byte-range, unlock-byte-range, Sentence}
 use Rattle.chain.specs.Chain.{blocks}
 use Rattle.chain.specs.declared.block.LockingFields.{LockingFields}
 use Rattle.chain.specs.declared.block.ReadFields.{ReadFields}
+use Rattle.chain.specs.declared.block.RangeFields.{RangeFields}
 use Rattle.chain.specs.declared.block.WriteFields.{WriteFields}
 use Rattle.chain.specs.declared.block.Block.{Block}
 use Rattle.chain.specs.declared.block.Next.{Next}
@@ -34,11 +35,11 @@ use Rattle.message.specs.Caller.{callerOf}
 use Rattle.message.specs.declared.caller.Caller.{Caller}
 use Rattle.message.specs.Refusal.{status, statusOf}
 use Rattle.message.specs.declared.refusal.Status.{Status}
-use Rattle.message.specs.Command.{Given, Said, refused, done, servedType, requestOf, lockingEnd, lockingAfter, doLocking, doRead, doWrite, endsPast, perform}
+use Rattle.message.specs.Command.{Given, Said, refused, done, servedType, requestOf, lockingEnd, lockingAfter, doLocking, doRead, doWrite, endsPast, asCore, oneRange, doRange, doSetSize, doCoreWrite, perform}
 use Rattle.message.specs.Message.{areaOf, Ran, after, afterGiven, run, served, onlyStatus, runChain, answered}
 use Rattle.message.specs.declared.refusal.Refusal.{Refusal}
 use Rattle.message.specs.declared.refusal.Refusal.the-variants.{NoSession, NoTree, NoOpen, NoAccess, LockType, NoSuchLock, PassesEnd, Conflict, NoRecord, NoSpace}
-use Rattle.invariants.specs.GivenCases.{cond-case, request-case, session-case, tree-case, open-case, barred-case}
+use Rattle.invariants.specs.GivenCases.{cond-case, request-case, session-case, tree-case, open-case, barred-case, writing-case}
 
 -- a command is done, or refused with another status than 2/1
 pub data Other : Given → Type 0 where
@@ -91,6 +92,12 @@ other-space : Other (refused NoSpace)
 unfolding statusOf status
 other-space = other-code NoSpace (λ e. omega arith)
 
+-- a core command is refused as its counterpart
+core-other : {g : Given} → Other g → Other (asCore g)
+unfolding asCore
+core-other (other-refusal n) = other-refusal n
+core-other no-refusal = no-refusal
+
 -- a LOCKING request whose area has just the announced ranges is not malformed
 locking-other : (t : Tables) (memory : List ℕ) (file : ℕ → ℕ) (q : Request) (area : List ℕ) → length area ≡ (q .unlocks + q .locks) * rangeSize (q .large)
     → Other (lockingAfter t memory (locking file (t .locks) (t .nlocks) q area))
@@ -118,9 +125,19 @@ module _ (c : Caller) (t : Tables) (memory : List ℕ) where
   do-write-other : (f : WriteFields) (bytes : List ℕ) → Other (doWrite c t memory f bytes)
   unfolding doWrite
   do-write-other f bytes =
-      open-case Other c t (f .fid) _ other-session other-tree other-open
-      (λ k _. cond-case Other (eqb (getD (opensOf t) k noOpen .access) 0) (refused NoAccess) _ (λ _. other-access)
-      (λ _. barred-case Other t _ _ other-conflict (λ _. cond-case Other (endsPast (f .offset) (f .count)) (refused NoSpace) _ (λ _. other-space) (λ _. no-refusal))))
+      writing-case Other c t (f .fid) _ (endsPast (f .offset) (f .count)) _ other-session other-tree other-open other-access other-conflict other-space (λ k _ _. no-refusal)
+
+  -- the core commands
+  do-core-write-other : (f : WriteFields) (bytes : List ℕ) → Other (doCoreWrite c t memory f bytes)
+  unfolding doCoreWrite doSetSize
+  do-core-write-other f bytes =
+      cond-case Other (eqb (f .count) 0) _ _
+      (λ _. writing-case Other c t (f .fid) _ (ltb 4096 (f .offset)) _ other-session other-tree other-open other-access other-conflict other-space (λ k _ _. no-refusal))
+      (λ _. core-other (do-write-other f bytes))
+
+  do-range-other : (f : RangeFields) (unlocks locks : ℕ) → (unlocks + locks) * 10 ≡ 10 → Other (doRange c t memory f unlocks locks)
+  unfolding doRange oneRange smallForm rangeSize
+  do-range-other f unlocks locks e = core-other (do-locking-other (oneRange f unlocks locks) _ (sym e))
 
 -- "The byte area of a block is handed on as a part of the message": it has just the announced length
 pub length-area : {s : List ℕ} {at command : ℕ} → IsBlock s at command → (next : Next) → length (areaOf s (blockAt s command at next)) ≡ byteCount s at
@@ -145,6 +162,10 @@ block-other c t memory (close h) area bytes e = open-case Other c t _ _ other-se
 block-other c t memory (logoff h) area bytes e = session-case Other c t _ other-session (λ _. no-refusal)
 block-other c t memory (tree-disconnect h) area bytes e = tree-case Other c t _ other-session other-tree no-refusal
 block-other c t memory (process-exit h) area bytes e = session-case Other c t _ other-session (λ _. no-refusal)
+block-other c t memory (core-read h) area bytes e = core-other (do-read-other c t memory _)
+block-other c t memory (core-write h) area bytes e = do-core-write-other c t memory _ _
+block-other c t memory (lock-byte-range h) area bytes e = do-range-other c t memory _ 0 1 refl
+block-other c t memory (unlock-byte-range h) area bytes e = do-range-other c t memory _ 1 0 refl
 
 -- a status other than 2/1, before a chain whose status is another too
 after-other : {g : Given} → Other g → (bs : List Block) (place : ℕ) (t : Tables) (memory : List ℕ) (rest : ℕ → Tables → List ℕ → Ran)

@@ -5,7 +5,7 @@ use native.Mathlib.Omega.{arith}
 use mathlib.Core.Bool.{false}
 use mathlib.Core.List.{List, []}
 use mathlib.Core.Option.{Option, none, some}
-use lib.ListN.{length, drop, getD, replicate, length-take, length-replicate}
+use lib.ListN.{length, drop, getD, replicate, length-take, length-drop, length-replicate}
 use lib.Dec.{eqb, ltb}
 use borrow.Author.Tests.{eqb-false, ne-eqb, ltb-false}
 use Rattle.lists.specs.Put.{put}
@@ -19,11 +19,12 @@ use Rattle.locks.specs.declared.types.Request.{Request}
 use Rattle.locks.specs.declared.types.Outcome.the-variants.{Malformed}
 use Rattle.soundness.specs.File.{fileOf}
 use Rattle.invariants.specs.SoundParts.{sound-says}
-use Rattle.chain.specs.Layout.{headerCommand, FIRST, dataLength, dataOffset}
-use Rattle.chain.specs.Grammar.{IsBlock, locking-10, locking-20, read-10, read-12, write-12, write-14, close, logoff, tree-disconnect, process-exit}
+use Rattle.chain.specs.Layout.{headerCommand, FIRST, byteArea, byteCount, dataLength, dataOffset}
+use Rattle.chain.specs.Grammar.{IsBlock, locking-10, locking-20, read-10, read-12, write-12, write-14, close, logoff, tree-disconnect, process-exit, core-read, core-write, lock-byte-range, unlock-byte-range}
 use Rattle.chain.specs.Chain.{blocks}
 use Rattle.chain.specs.declared.block.LockingFields.{LockingFields}
 use Rattle.chain.specs.declared.block.ReadFields.{ReadFields}
+use Rattle.chain.specs.declared.block.RangeFields.{RangeFields}
 use Rattle.chain.specs.declared.block.WriteFields.{WriteFields}
 use Rattle.chain.specs.declared.block.Block.{Block}
 use Rattle.invariants.specs.BlockParse.{bodyAt, blockAt}
@@ -31,12 +32,12 @@ use Rattle.invariants.specs.Chained.{Chained, chained-end, chained-more, read-c
 use Rattle.message.specs.Caller.{callerOf}
 use Rattle.message.specs.declared.caller.Caller.{Caller}
 use Rattle.message.specs.Refusal.{statusOf}
-use Rattle.message.specs.Contents.{sizeOf, written}
-use Rattle.message.specs.Command.{Said, Given, refused, done, servedType, requestOf, lockingEnd, lockingAfter, doLocking, doRead, doWrite, endsPast, perform}
-use Rattle.message.specs.Message.{dataOf, Ran, after, afterGiven, run, served, onlyStatus, runChain, answered}
+use Rattle.message.specs.Contents.{sizeOf, grown, written}
+use Rattle.message.specs.Command.{Said, Given, refused, done, servedType, requestOf, lockingEnd, lockingAfter, doLocking, doRead, doWrite, endsPast, asCore, oneRange, doRange, doSetSize, doCoreWrite, perform}
+use Rattle.message.specs.Message.{areaOf, dataOf, Ran, after, afterGiven, run, served, onlyStatus, runChain, answered}
 use Rattle.message.specs.declared.refusal.Refusal.{Refusal}
 use Rattle.message.specs.declared.refusal.Refusal.the-variants.{NotServed, NoAccess, LockType, NoSpace}
-use Rattle.invariants.specs.GivenCases.{cond-case, request-case, session-case, tree-case, open-case, barred-case}
+use Rattle.invariants.specs.GivenCases.{cond-case, request-case, session-case, tree-case, open-case, barred-case, writing-case}
 use Rattle.invariants.specs.Sound.{Good, Keeps, keeps-good, perform-keeps, size-most, open-file}
 
 -- a command refused, or done with that many bytes of file memory left
@@ -46,6 +47,11 @@ data Leaves : Given → Type 0 where
 
 leaves-size : {t : Tables} {memory : List ℕ} {said : Said} → Leaves (done t memory said) → length memory ≡ 65536
 leaves-size (leaves-done h) = h
+
+core-leaves : {d : Given} → Leaves d → Leaves (asCore d)
+unfolding asCore
+core-leaves leaves-refused = leaves-refused
+core-leaves (leaves-done h) = leaves-done h
 
 -- a write ends inside its file
 pub write-ends : (offset count : ℕ) → endsPast offset count ≡ false → (count ≡ 0 → ⊥) → offset + count ≤ 4096
@@ -72,6 +78,13 @@ length-written t memory file offset count bytes full low most e few =
     let ends : offset + count ≤ 4096 = write-ends offset count e z in
     length-puts memory (replicate (offset - sizeOf t file) 0) bytes (file * 4096 + sizeOf t file) (file * 4096 + offset) 65536 full
     (rw (length-replicate {A = ℕ} (offset - sizeOf t file) 0) (omega arith)) (omega arith))
+
+-- zeros up to a new size
+length-grown : (t : Tables) (memory : List ℕ) (file size : ℕ) → length memory ≡ 65536 → file ≤ 15 → sizeOf t file ≤ 4096 → size ≤ 4096
+    → length (grown t memory file size) ≡ 65536
+length-grown t memory file size full low most h =
+    let zeros : length (replicate {A = ℕ} (size - sizeOf t file) 0) ≡ size - sizeOf t file = length-replicate (size - sizeOf t file) 0 in
+    length-put memory (replicate (size - sizeOf t file) 0) (file * 4096 + sizeOf t file) (omega arith) ∙ full
 
 module _ (c : Caller) (t : Tables) (memory : List ℕ) (full : length memory ≡ 65536) where
   request-leaves : (q : Request) (area : List ℕ) → Leaves (lockingAfter t memory (locking (fileOf (opensOf t)) (t .locks) (t .nlocks) q area))
@@ -101,32 +114,52 @@ module _ (c : Caller) (t : Tables) (memory : List ℕ) (full : length memory ≡
   write-leaves : (f : WriteFields) (bytes : List ℕ) → Good t → length bytes ≤ f .count → Leaves (doWrite c t memory f bytes)
   unfolding doWrite
   write-leaves f bytes g few =
-      open-case Leaves c t (f .fid) _ leaves-refused leaves-refused leaves-refused
-      (λ k o. cond-case Leaves (eqb (getD (opensOf t) k noOpen .access) 0) (refused NoAccess) _ (λ _. leaves-refused)
-      (λ _. barred-case Leaves t _ _ (λ h. leaves-refused)
-      (λ _. cond-case Leaves (endsPast (f .offset) (f .count)) (refused NoSpace) _ (λ _. leaves-refused)
-      (λ e. leaves-done (length-written t memory (getD (opensOf t) k noOpen .file) (f .offset) (f .count) bytes full
-      (open-file c t (f .fid) k o (sound-says t (g .sound))) (size-most t (getD (opensOf t) k noOpen .file) (sound-says t (g .sound))) e few)))))
+      writing-case Leaves c t (f .fid) _ (endsPast (f .offset) (f .count)) _ leaves-refused leaves-refused leaves-refused leaves-refused (λ h. leaves-refused) leaves-refused
+      (λ k o e. leaves-done (length-written t memory (getD (opensOf t) k noOpen .file) (f .offset) (f .count) bytes full
+      (open-file c t (f .fid) k o (sound-says t (g .sound))) (size-most t (getD (opensOf t) k noOpen .file) (sound-says t (g .sound))) e few))
+
+  set-size-leaves : (f : WriteFields) → Good t → Leaves (doSetSize c t memory f)
+  unfolding doSetSize
+  set-size-leaves f g =
+      writing-case Leaves c t (f .fid) _ (ltb 4096 (f .offset)) _ leaves-refused leaves-refused leaves-refused leaves-refused (λ h. leaves-refused) leaves-refused
+      (λ k o e. leaves-done (length-grown t memory (getD (opensOf t) k noOpen .file) (f .offset) full (open-file c t (f .fid) k o (sound-says t (g .sound)))
+      (size-most t (getD (opensOf t) k noOpen .file) (sound-says t (g .sound))) (ltb-false 4096 (f .offset) e)))
+
+  core-write-leaves : (f : WriteFields) (bytes : List ℕ) → Good t → length bytes ≤ f .count → Leaves (doCoreWrite c t memory f bytes)
+  unfolding doCoreWrite
+  core-write-leaves f bytes g few = cond-case Leaves (eqb (f .count) 0) _ _ (λ _. set-size-leaves f g) (λ _. core-leaves (write-leaves f bytes g few))
+
+  range-leaves : (f : RangeFields) (unlocks locks : ℕ) → Leaves (doRange c t memory f unlocks locks)
+  unfolding doRange
+  range-leaves f unlocks locks = core-leaves (locking-leaves (oneRange f unlocks locks) _)
 
 -- a write's data is no longer than announced
 length-data : (s : List ℕ) (b : Block) → length (dataOf s b) ≤ dataLength s (b .at)
 unfolding dataOf
 length-data s b = rw (length-take (dataLength s (b .at)) (drop (dataOffset s (b .at)) s)) (omega arith)
 
+length-area : (s : List ℕ) (b : Block) → length (areaOf s b) ≤ byteCount s (b .at)
+unfolding areaOf
+length-area s b = rw (length-take (byteCount s (b .at)) (drop (byteArea s (b .at)) s)) (omega arith)
+
 -- a block of a reading
 block-leaves : {s : List ℕ} {at command : ℕ} (c : Caller) (t : Tables) (memory : List ℕ) → length memory ≡ 65536 → IsBlock s at command → Good t → (area bytes : List ℕ)
-    → length bytes ≤ dataLength s at → Leaves (perform c t memory (bodyAt s command at) area bytes)
+    → length area ≤ byteCount s at → length bytes ≤ dataLength s at → Leaves (perform c t memory (bodyAt s command at) area bytes)
 unfolding perform bodyAt
-block-leaves c t memory full (locking-10 p h) g area bytes few = locking-leaves c t memory full _ area
-block-leaves c t memory full (locking-20 p h) g area bytes few = locking-leaves c t memory full _ area
-block-leaves c t memory full (read-10 h) g area bytes few = read-leaves c t memory full _
-block-leaves c t memory full (read-12 h) g area bytes few = read-leaves c t memory full _
-block-leaves c t memory full (write-12 h) g area bytes few = write-leaves c t memory full _ bytes g few
-block-leaves c t memory full (write-14 h) g area bytes few = write-leaves c t memory full _ bytes g few
-block-leaves c t memory full (close h) g area bytes few = open-case Leaves c t _ _ leaves-refused leaves-refused leaves-refused (λ k _. leaves-done full)
-block-leaves c t memory full (logoff h) g area bytes few = session-case Leaves c t _ leaves-refused (λ _. leaves-done full)
-block-leaves c t memory full (tree-disconnect h) g area bytes few = tree-case Leaves c t _ leaves-refused leaves-refused (leaves-done full)
-block-leaves c t memory full (process-exit h) g area bytes few = session-case Leaves c t _ leaves-refused (λ _. leaves-done full)
+block-leaves c t memory full (locking-10 p h) g area bytes long few = locking-leaves c t memory full _ area
+block-leaves c t memory full (locking-20 p h) g area bytes long few = locking-leaves c t memory full _ area
+block-leaves c t memory full (read-10 h) g area bytes long few = read-leaves c t memory full _
+block-leaves c t memory full (read-12 h) g area bytes long few = read-leaves c t memory full _
+block-leaves c t memory full (write-12 h) g area bytes long few = write-leaves c t memory full _ bytes g few
+block-leaves c t memory full (write-14 h) g area bytes long few = write-leaves c t memory full _ bytes g few
+block-leaves c t memory full (close h) g area bytes long few = open-case Leaves c t _ _ leaves-refused leaves-refused leaves-refused (λ k _. leaves-done full)
+block-leaves c t memory full (logoff h) g area bytes long few = session-case Leaves c t _ leaves-refused (λ _. leaves-done full)
+block-leaves c t memory full (tree-disconnect h) g area bytes long few = tree-case Leaves c t _ leaves-refused leaves-refused (leaves-done full)
+block-leaves c t memory full (process-exit h) g area bytes long few = session-case Leaves c t _ leaves-refused (λ _. leaves-done full)
+block-leaves c t memory full (core-read h) g area bytes long few = core-leaves (read-leaves c t memory full _)
+block-leaves c t memory full (core-write h) g area bytes long few = core-write-leaves c t memory full _ _ g (rw (length-drop 3 area) (omega arith))
+block-leaves c t memory full (lock-byte-range h) g area bytes long few = range-leaves c t memory full _ 0 1
+block-leaves c t memory full (unlock-byte-range h) g area bytes long few = range-leaves c t memory full _ 1 0
 
 after-leaves : (d : Given) → Leaves d → Keeps d → (bs : List Block) (place : ℕ) (t : Tables) (memory : List ℕ) (rest : ℕ → Tables → List ℕ → Ran) → length memory ≡ 65536
     → ((p : ℕ) (u : Tables) (m : List ℕ) → Good u → length m ≡ 65536 → length (rest p u m .memory) ≡ 65536) → length (afterGiven d bs place t memory rest .memory) ≡ 65536
@@ -138,10 +171,10 @@ run-leaves : {s : List ℕ} {command at : ℕ} {bs : List Block} (c : Caller) �
     → length (run c s bs place t memory .memory) ≡ 65536
 unfolding run blockAt
 run-leaves {s} c (chained-end {command} {at} h l) place t memory g full =
-    after-leaves _ (block-leaves c t memory full h g _ _ (length-data s (blockAt s command at _))) (perform-keeps t g c memory (bodyAt s command at) _ _) [] place t memory
+    after-leaves _ (block-leaves c t memory full h g _ _ (length-area s (blockAt s command at _)) (length-data s (blockAt s command at _))) (perform-keeps t g c memory (bodyAt s command at) _ _) [] place t memory
     (λ p u m. run c s [] p u m) full (λ p u m _ e. e)
 run-leaves {s} c (chained-more {command} {at} {rest = rest} h l r) place t memory g full =
-    after-leaves _ (block-leaves c t memory full h g _ _ (length-data s (blockAt s command at _))) (perform-keeps t g c memory (bodyAt s command at) _ _) rest place t memory
+    after-leaves _ (block-leaves c t memory full h g _ _ (length-area s (blockAt s command at _)) (length-data s (blockAt s command at _))) (perform-keeps t g c memory (bodyAt s command at) _ _) rest place t memory
     (λ p u m. run c s rest p u m) full (λ p u m k e. run-leaves c r p u m k e)
 
 chain-leaves : (c : Caller) (s : List ℕ) (o : Option (List Block)) → blocks s ≡ o → (t : Tables) (memory : List ℕ) → Good t → length memory ≡ 65536

@@ -8,7 +8,7 @@ use mathlib.Core.Bool.{true}
 use mathlib.Core.List.{List, [], _∷_}
 use mathlib.Core.Option.{Option, none, some}
 use lib.ListN.{length, getD}
-use lib.Dec.{eqb}
+use lib.Dec.{ltb, eqb}
 use borrow.Author.Tests.{eqb-true}
 use Rattle.lists.specs.Truth.{fails, either-holds}
 use Rattle.records.specs.declared.Tables.{Tables}
@@ -19,27 +19,29 @@ use Rattle.locks.specs.Request.{rangesOf, Result, refused as refusedBy, settle,
 use Rattle.locks.specs.declared.types.Request.{Request}
 use Rattle.locks.specs.declared.types.Outcome.the-variants.{Malformed}
 use Rattle.soundness.specs.File.{fileOf}
-use Rattle.chain.specs.Layout.{CLOSE, PROCESS_EXIT, LOCKING, READ, WRITE, TREE_DISCONNECT, LOGOFF, headerCommand, FIRST}
+use Rattle.chain.specs.Layout.{CLOSE, PROCESS_EXIT, LOCKING, READ, WRITE, TREE_DISCONNECT, LOGOFF, CORE-READ, CORE-WRITE, LOCK_BYTE_RANGE, UNLOCK_BYTE_RANGE, headerCommand, FIRST}
 use Rattle.chain.specs.Chain.{blocks}
 use Rattle.chain.specs.declared.block.LockingFields.{LockingFields}
 use Rattle.chain.specs.declared.block.ReadFields.{ReadFields}
+use Rattle.chain.specs.declared.block.RangeFields.{RangeFields}
 use Rattle.chain.specs.declared.block.WriteFields.{WriteFields}
 use Rattle.chain.specs.declared.block.Body.{Body}
-use Rattle.chain.specs.declared.block.Body.the-variants.{Locking as LockingBody, Read as ReadBody, Write as WriteBody, Close, Logoff, TreeDisconnect, ProcessExit}
+use Rattle.chain.specs.declared.block.Body.the-variants.{Locking as LockingBody, Read as ReadBody, Write as WriteBody, Close, Logoff, TreeDisconnect, ProcessExit, CoreRead as CoreReadBody, CoreWrite as CoreWriteBody, LockByteRange, UnlockByteRange}
 use Rattle.chain.specs.declared.block.Block.{Block}
 use Rattle.message.specs.Caller.{callerOf}
 use Rattle.message.specs.declared.caller.Caller.{Caller}
 use Rattle.message.specs.Refusal.{status, statusOf}
 use Rattle.message.specs.declared.refusal.Status.{Status}
 use Rattle.message.specs.declared.refusal.Refusal.the-variants.{NoAccess, LockType, NoSpace}
-use Rattle.message.specs.Command.{Given, refused, done, servedType, requestOf, lockingEnd, lockingAfter, doLocking, doRead, endsPast, doWrite, perform}
+use Rattle.message.specs.Command.{Given, refused, done, servedType, requestOf, lockingEnd, lockingAfter, doLocking, doRead, endsPast, doWrite, asCore, oneRange, doRange, doSetSize, doCoreWrite, perform}
 use Rattle.message.specs.Message.{areaOf, dataOf, Ran, after, afterGiven, run, served, onlyStatus, runChain, answered, take-message}
-use Rattle.invariants.specs.GivenCases.{cond-case, request-case, session-case, tree-case, open-case, barred-case}
+use Rattle.invariants.specs.GivenCases.{cond-case, request-case, session-case, tree-case, open-case, barred-case, writing-case}
 use Rattle.demands.specs.Malformed.{not-served}
 use Rattle.invariants.specs.Fit.{Fit}
 use Rattle.demands.specs.Calls.{statusRead, status-call}
 
--- "Known: a request served": "CLOSE 0x04, PROCESS_EXIT 0x11, LOCKING_ANDX 0x24, READ_ANDX 0x2E, WRITE_ANDX 0x2F, TREE_DISCONNECT 0x71, LOGOFF_ANDX 0x74"
+-- "Known: a request served": "CLOSE 0x04, PROCESS_EXIT 0x11, LOCKING_ANDX 0x24, READ_ANDX 0x2E, WRITE_ANDX 0x2F, TREE_DISCONNECT 0x71, LOGOFF_ANDX 0x74", and document
+-- 02, CR 3: "READ 0x0A, WRITE 0x0B, LOCK_BYTE_RANGE 0x0C and UNLOCK_BYTE_RANGE 0x0D"
 pub data Known : ℕ → Type 0 where
   known-close : Known 0x04
   known-exit : Known 0x11
@@ -48,6 +50,10 @@ pub data Known : ℕ → Type 0 where
   known-write : Known 0x2F
   known-disconnect : Known 0x71
   known-logoff : Known 0x74
+  known-core-read : Known 0x0A
+  known-core-write : Known 0x0B
+  known-lock : Known 0x0C
+  known-unlock : Known 0x0D
 
 known-served : {command : ℕ} → Known command → served command ≡ true
 unfolding served
@@ -58,6 +64,10 @@ known-served known-read = refl
 known-served known-write = refl
 known-served known-disconnect = refl
 known-served known-logoff = refl
+known-served known-core-read = refl
+known-served known-core-write = refl
+known-served known-lock = refl
+known-served known-unlock = refl
 
 is-known : (command k : ℕ) → Known k → eqb command k ≡ true → Known command
 is-known command k h e = rw (eqb-true command k e) h
@@ -75,9 +85,21 @@ served-known command e =
             | inl a ↦ is-known command CLOSE known-close a
             | inr e ↦ elim (either-holds (eqb command LOGOFF) _ e) [
               | inl a ↦ is-known command LOGOFF known-logoff a
-              | inr e ↦ elim (either-holds (eqb command TREE_DISCONNECT) (eqb command PROCESS_EXIT) e) [
+              | inr e ↦ elim (either-holds (eqb command TREE_DISCONNECT) _ e) [
                 | inl a ↦ is-known command TREE_DISCONNECT known-disconnect a
-                | inr a ↦ is-known command PROCESS_EXIT known-exit a
+                | inr e ↦ elim (either-holds (eqb command PROCESS_EXIT) _ e) [
+                  | inl a ↦ is-known command PROCESS_EXIT known-exit a
+                  | inr e ↦ elim (either-holds (eqb command CORE-READ) _ e) [
+                    | inl a ↦ is-known command CORE-READ known-core-read a
+                    | inr e ↦ elim (either-holds (eqb command CORE-WRITE) _ e) [
+                      | inl a ↦ is-known command CORE-WRITE known-core-write a
+                      | inr e ↦ elim (either-holds (eqb command LOCK_BYTE_RANGE) (eqb command UNLOCK_BYTE_RANGE) e) [
+                        | inl a ↦ is-known command LOCK_BYTE_RANGE known-lock a
+                        | inr a ↦ is-known command UNLOCK_BYTE_RANGE known-unlock a
+                      ]
+                    ]
+                  ]
+                ]
               ]
             ]
           ]
@@ -85,7 +107,7 @@ served-known command e =
       ]
     ]
 
--- the seven are those served
+-- the eleven are those served
 pub known-exact : (command : ℕ) → (served command ≡ true) ↔ Known command
 known-exact command = (served-known command, known-served)
 
@@ -126,10 +148,25 @@ module _ (c : Caller) (t : Tables) (memory : List ℕ) where
   write-begun : (f : WriteFields) (bytes : List ℕ) → Begun (doWrite c t memory f bytes)
   unfolding doWrite codeOf statusOf status
   write-begun f bytes =
-      open-case Begun c t (f .fid) _ (λ e. omega arith) (λ e. omega arith) (λ e. omega arith)
-      (λ k _. cond-case Begun (eqb (getD (opensOf t) k noOpen .access) 0) (refused NoAccess) _ (λ _ e. omega arith)
-      (λ _. barred-case Begun t _ _ (λ h e. omega arith)
-      (λ _. cond-case Begun (endsPast (f .offset) (f .count)) (refused NoSpace) _ (λ _ e. omega arith) (λ _ e. omega arith))))
+      writing-case Begun c t (f .fid) _ (endsPast (f .offset) (f .count)) _ (λ e. omega arith) (λ e. omega arith) (λ e. omega arith) (λ e. omega arith) (λ h e. omega arith)
+      (λ e. omega arith) (λ k _ _ e. omega arith)
+
+  core-begun : (g : Given) → Begun g → Begun (asCore g)
+  unfolding asCore codeOf
+  core-begun (refused why) h = h
+  core-begun (done u m said) h = h
+
+  core-write-begun : (f : WriteFields) (bytes : List ℕ) → Begun (doCoreWrite c t memory f bytes)
+  unfolding doCoreWrite doSetSize codeOf statusOf status
+  core-write-begun f bytes =
+      cond-case Begun (eqb (f .count) 0) _ _
+      (λ _. writing-case Begun c t (f .fid) _ (ltb 4096 (f .offset)) _ (λ e. omega arith) (λ e. omega arith) (λ e. omega arith) (λ e. omega arith) (λ h e. omega arith)
+      (λ e. omega arith) (λ k _ _ e. omega arith))
+      (λ _. core-begun _ (write-begun f bytes))
+
+  range-begun : (f : RangeFields) (unlocks locks : ℕ) → Begun (doRange c t memory f unlocks locks)
+  unfolding doRange
+  range-begun f unlocks locks = core-begun _ (locking-begun (oneRange f unlocks locks) _)
 
   -- no command ends with 2/22
   perform-begun : (b : Body) (area bytes : List ℕ) → Begun (perform c t memory b area bytes)
@@ -141,6 +178,10 @@ module _ (c : Caller) (t : Tables) (memory : List ℕ) where
   perform-begun Logoff area bytes = session-case Begun c t _ (λ e. omega arith) (λ _ e. omega arith)
   perform-begun TreeDisconnect area bytes = tree-case Begun c t _ (λ e. omega arith) (λ e. omega arith) (λ e. omega arith)
   perform-begun ProcessExit area bytes = session-case Begun c t _ (λ e. omega arith) (λ _ e. omega arith)
+  perform-begun (CoreReadBody f) area bytes = core-begun _ (read-begun f)
+  perform-begun (CoreWriteBody f) area bytes = core-write-begun f _
+  perform-begun (LockByteRange f) area bytes = range-begun f 0 1
+  perform-begun (UnlockByteRange f) area bytes = range-begun f 1 0
 
 after-begun : (g : Given) → Begun g → (bs : List Block) (place : ℕ) (t : Tables) (memory : List ℕ) (rest : ℕ → Tables → List ℕ → Ran)
     → ((p : ℕ) (u : Tables) (m : List ℕ) → rest p u m .status .code ≡ 22 → ⊥) → afterGiven g bs place t memory rest .status .code ≡ 22 → ⊥
@@ -166,7 +207,7 @@ unfolding answered status
 served-begun connection s t memory e =
     rw e (λ h. chain-begun (callerOf connection s) s (blocks s) t memory (ap (λ (x : Status). x .code) h))
 
--- "2/22 header command not served": a message fit to be answered is so answered exactly if the header's command is none of the seven
+-- "2/22 header command not served": a message fit to be answered is so answered exactly if the header's command is none of the eleven
 pub not-served-exact : (connection : ℕ) (s : List ℕ) (t : Tables) (memory room : List ℕ) → Fit s t memory room
     → (statusRead (take-message connection s t memory room .room) ≡ status 2 22) ↔ (Known (headerCommand s) → ⊥)
 unfolding onlyStatus

@@ -3,7 +3,7 @@
 use mathlib.Core.Path.{_≡_, refl, sym, _∙_, ap}
 use Prim.Native.Nat.{ℕ, _+_, _≤_, _<_}
 use native.Mathlib.Omega.{arith}
-use mathlib.Core.Bool.{Bool, true, false, cond, _&&_}
+use mathlib.Core.Bool.{Bool, true, false, cond, _&&_, _||_}
 use mathlib.Core.List.{List, [], _∷_, _++_, append-nil, map}
 use mathlib.Core.Option.{some}
 use lib.ListN.{length, drop}
@@ -13,7 +13,7 @@ use Rattle.lists.specs.Put.{put}
 use Rattle.wire.specs.LittleEndian.{byteAt, le16At}
 use Rattle.records.specs.declared.Tables.{Tables}
 use Rattle.chain.specs.Layout.{headerCommand, FIRST, blockEnd, andxOffset}
-use Rattle.chain.specs.Grammar.{IsBlock, locking-andx, read-andx, write-andx, logoff-andx, close-plain, tree-disconnect-plain, process-exit-plain, Span, Reading}
+use Rattle.chain.specs.Grammar.{IsBlock, locking-andx, read-andx, write-andx, logoff-andx, close-plain, tree-disconnect-plain, process-exit-plain, core-read-plain, core-write-plain, lock-byte-range-plain, unlock-byte-range-plain, Span, Reading}
 use Rattle.chain.specs.Chain.{blocks}
 use Rattle.chain.specs.declared.block.Block.{Block}
 use Rattle.chain.specs.declared.block.Next.{Next}
@@ -31,7 +31,7 @@ use Rattle.message.specs.Refusal.{status, statusOf, holderOf}
 use Rattle.message.specs.declared.refusal.Status.{Status}
 use Rattle.message.specs.declared.refusal.HeldBy.{HeldBy}
 use Rattle.message.specs.declared.refusal.HeldBy.the-variants.{Nobody}
-use Rattle.message.specs.Command.{Said, locked, loggedOff, read, wrote, plain, Given, refused, done, perform}
+use Rattle.message.specs.Command.{Said, locked, loggedOff, read, wrote, plain, coreRead, coreWrote, Given, refused, done, perform}
 use Rattle.message.specs.Reply.{two, replyHeader, linkWords, replyBlock, refusedBlock, replySize}
 use Rattle.message.specs.declared.link.Link.{Link}
 use Rattle.message.specs.declared.link.Link.the-variants.{None as none, Next as next}
@@ -74,12 +74,16 @@ sendAll connection s (b ∷ bs) t memory =
 
 -- ---- comparing
 
--- a block's AndX words (bytes 1 to 4, where it has words) and a READ's data offset (bytes 13 and 14 of a block of 12 words) "set by Reply blocks"
+-- a block's AndX words (bytes 1 to 4, where it has them: LOCKING's and LOGOFF's 2 words, WRITE's 6 and READ's 12 begin with them) and a READ's data offset
+-- (bytes 13 and 14 of a block of 12 words) "set by Reply blocks"
 unfoldable pub placed : ℕ → List ℕ → List ℕ
 placed place block = cond (eqb (byteAt block 0) 12) (put block 13 (two (place + 27))) block
 
+unfoldable pub hasLink : ℕ → Bool
+hasLink words = eqb words 2 || (eqb words 6 || eqb words 12)
+
 unfoldable pub relinked : ℕ → Link → List ℕ → List ℕ
-relinked place link block = cond (eqb (byteAt block 0) 0) block (placed place (put block 1 (linkWords link)))
+relinked place link block = cond (hasLink (byteAt block 0)) (placed place (put block 1 (linkWords link))) block
 
 -- "AndX names the next block written; with none it is FF 00 00 00": the next reply's, with the command in its header
 unfoldable pub linkOf : List (List ℕ) → ℕ → Link
@@ -116,7 +120,7 @@ refusal-fails NoSpace = refl
 
 -- a reply block of a message of its own, set for its place in the chain's reply
 relinked-block : (said : Said) (place p : ℕ) (link : Link) → relinked place link (replyBlock said p none) ≡ replyBlock said place link
-unfolding relinked placed replyBlock linkWords put two
+unfolding relinked hasLink placed replyBlock linkWords put two
 relinked-block locked place p none = refl
 relinked-block locked place p (next c q) = refl
 relinked-block loggedOff place p none = refl
@@ -126,9 +130,11 @@ relinked-block (read bytes) place p (next c q) = refl
 relinked-block (wrote count) place p none = refl
 relinked-block (wrote count) place p (next c q) = refl
 relinked-block plain place p link = refl
+relinked-block (coreRead bytes) place p link = refl
+relinked-block (coreWrote count) place p link = refl
 
 relinked-refused : (place : ℕ) (link : Link) → relinked place link refusedBlock ≡ refusedBlock
-unfolding relinked refusedBlock
+unfolding relinked hasLink refusedBlock
 relinked-refused place link = refl
 
 -- the block of a reply
@@ -172,6 +178,10 @@ unfolding served
 served-true (plainServed close-plain) = refl
 served-true (plainServed tree-disconnect-plain) = refl
 served-true (plainServed process-exit-plain) = refl
+served-true (plainServed core-read-plain) = refl
+served-true (plainServed core-write-plain) = refl
+served-true (plainServed lock-byte-range-plain) = refl
+served-true (plainServed unlock-byte-range-plain) = refl
 served-true (andxServed locking-andx) = refl
 served-true (andxServed read-andx) = refl
 served-true (andxServed write-andx) = refl

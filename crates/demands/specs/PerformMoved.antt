@@ -15,16 +15,16 @@ use Rattle.locks.specs.Request.{rangesOf, locking}
 use Rattle.locks.specs.declared.types.Request.{Request}
 use Rattle.soundness.specs.File.{fileOf}
 use Rattle.chain.specs.Layout.{LOCKING, fidAfterAndx, lockType, unlockCount, lockCount, dataLength, dataOffset}
-use Rattle.chain.specs.Grammar.{Ranges, IsBlock, locking-10, locking-20, read-10, read-12, write-12, write-14, close, logoff, tree-disconnect, process-exit}
+use Rattle.chain.specs.Grammar.{Ranges, IsBlock, locking-10, locking-20, read-10, read-12, write-12, write-14, close, logoff, tree-disconnect, process-exit, core-read, core-write, lock-byte-range, unlock-byte-range}
 use Rattle.chain.specs.Parse.{isLarge}
 use Rattle.chain.specs.declared.block.LockingFields.{LockingFields}
 use Rattle.chain.specs.declared.block.Body.{Body}
-use Rattle.chain.specs.declared.block.Body.the-variants.{Locking, Read, Write, Close, Logoff, TreeDisconnect, ProcessExit}
+use Rattle.chain.specs.declared.block.Body.the-variants.{Locking, Read, Write, Close, Logoff, TreeDisconnect, ProcessExit, CoreRead, CoreWrite, LockByteRange, UnlockByteRange}
 use Rattle.invariants.specs.BlockParse.{bodyAt}
 use Rattle.readings.specs.Moved.{Moved, movedBody}
-use Rattle.readings.specs.MovedBytes.{part, areaAt, moved-area-length, moved-range-list, moved-data-part}
+use Rattle.readings.specs.MovedBytes.{part, areaAt, moved-area-length, moved-range-list, moved-marked-area, moved-data-part}
 use Rattle.message.specs.declared.caller.Caller.{Caller}
-use Rattle.message.specs.Command.{requestOf, doLocking, doWrite, perform}
+use Rattle.message.specs.Command.{requestOf, doLocking, doWrite, doSetSize, doCoreWrite, perform}
 
 -- the fields of a LOCKING block
 abbrev lockingFields : List ℕ → ℕ → LockingFields
@@ -41,7 +41,7 @@ locking-same file locks count q a b n r l = rw (n, r, l)
 module _ (c : Caller) (u : Tables) (memory : List ℕ) where
   -- the place of a WRITE block's data is not looked at
   pub perform-body : (at to : ℕ) (b : Body) (area bytes : List ℕ) → perform c u memory (movedBody at to b) area bytes ≡ perform c u memory b area bytes
-  unfolding perform movedBody doWrite
+  unfolding perform movedBody doWrite doSetSize doCoreWrite
   perform-body at to (Locking f) area bytes = refl
   perform-body at to (Read f) area bytes = refl
   perform-body at to (Write f) area bytes = refl
@@ -49,6 +49,10 @@ module _ (c : Caller) (u : Tables) (memory : List ℕ) where
   perform-body at to Logoff area bytes = refl
   perform-body at to TreeDisconnect area bytes = refl
   perform-body at to ProcessExit area bytes = refl
+  perform-body at to (CoreRead f) area bytes = refl
+  perform-body at to (CoreWrite f) area bytes = refl
+  perform-body at to (LockByteRange f) area bytes = refl
+  perform-body at to (UnlockByteRange f) area bytes = refl
 
   -- the ranges of a LOCKING block that moved do the same
   perform-ranges : {s : List ℕ} {at : ℕ} {t : List ℕ} {to : ℕ} → IsBlock s at LOCKING → Ranges s at (rangeSize (isLarge (lockType s at))) → Moved s at t to LOCKING
@@ -80,3 +84,7 @@ module _ (c : Caller) (u : Tables) (memory : List ℕ) where
   perform-bytes (logoff h) m = refl
   perform-bytes (tree-disconnect h) m = refl
   perform-bytes (process-exit h) m = refl
+  perform-bytes (core-read h) m = refl
+  perform-bytes (core-write h) m = rw (moved-marked-area m (core-write h) refl (h .shape .counted))
+  perform-bytes (lock-byte-range h) m = refl
+  perform-bytes (unlock-byte-range h) m = refl
