@@ -5,7 +5,7 @@ use Prim.Native.Nat.{ℕ, suc, _+_, _*_}
 use mathlib.Core.Bool.{Bool, true, false, cond, not, _||_}
 use mathlib.Core.List.{List, [], _∷_, _++_}
 use mathlib.Core.Option.{Option, none, some}
-use lib.ListN.{length, getD}
+use lib.ListN.{length, drop, getD}
 use lib.Dec.{leb, ltb, eqb}
 use Rattle.lists.specs.Walk.{any, foundFrom, found}
 use Rattle.lists.specs.declared.Found.{Found}
@@ -16,7 +16,7 @@ use Rattle.records.specs.declared.Tables.{Tables}
 use Rattle.records.specs.Empty.{noOpen}
 use Rattle.records.specs.Held.{sessionsOf, treesOf, opensOf, locksOf, withLocks}
 use Rattle.locks.specs.Answer.{answers}
-use Rattle.locks.specs.Wire.{rangeSize}
+use Rattle.locks.specs.Wire.{rangeSize, smallForm}
 use Rattle.locks.specs.Request.{rangesOf, askOf, lockOf, releaseAll, afterWalk, grantAll, Result, afterGrants, rangePasses, afterReleases, request, settle, locking}
 use Rattle.locks.specs.declared.types.Ask.{Ask}
 use Rattle.locks.specs.declared.types.LockRange.{LockRange}
@@ -31,16 +31,18 @@ use Rattle.chain.specs.Chain.{blocks}
 use Rattle.chain.specs.declared.block.LockingFields.{LockingFields}
 use Rattle.chain.specs.declared.block.ReadFields.{ReadFields}
 use Rattle.chain.specs.declared.block.WriteFields.{WriteFields}
+use Rattle.chain.specs.declared.block.RangeFields.{RangeFields}
 use Rattle.chain.specs.declared.block.Body.{Body}
-use Rattle.chain.specs.declared.block.Body.the-variants.{Locking as LockingBody, Read as ReadBody, Write as WriteBody, Close, Logoff, TreeDisconnect, ProcessExit}
+use Rattle.chain.specs.declared.block.Body.the-variants.{Locking as LockingBody, Read as ReadBody, Write as WriteBody, Close, Logoff, TreeDisconnect, ProcessExit, CoreRead as CoreReadBody, CoreWrite as CoreWriteBody, LockByteRange, UnlockByteRange}
 use Rattle.chain.specs.declared.block.Block.{Block}
 use Rattle.message.specs.Caller.{callerOf}
 use Rattle.message.specs.declared.caller.Caller.{Caller}
+use Rattle.message.specs.Contents.{sizeOf}
 use Rattle.message.specs.Refusal.{status, statusOf}
-use Rattle.message.specs.Command.{Given, refused, done, isSession, withSession, withTree, isOpen, openAt, withOpen, servedType, requestOf, withLockList, lockingEnd, lockingAfter, doLocking, askBy, unlessBarred, barring, doRead, endsPast, doWrite, perform}
+use Rattle.message.specs.Command.{plain, Given, refused, done, isSession, withSession, withTree, isOpen, openAt, withOpen, servedType, requestOf, withLockList, lockingEnd, lockingAfter, doLocking, askBy, unlessBarred, barring, doRead, writing, endsPast, doWrite, asCore, rangeBy, oneRange, doRange, betweenSizes, doSetSize, doCoreWrite, perform}
 use Rattle.message.specs.Message.{areaOf, dataOf, linkTo, Ran, after, afterGiven, run, served, onlyStatus, runChain, answered, replyOf, Taken, notTaken, replied, take-message}
 use Rattle.message.specs.Reply.{replyBlock, replySize}
-use Rattle.claims.specs.YesOrNo.{Gave, refusedWith, onward, grantsBefore, afterReleasesBefore, requestBefore, lockingBefore, unlessConflict, readBefore, writeBefore, plainly, performBefore, RanBefore, refusedBefore, inFront, afterGave, runBefore, chainBefore, answeredBefore, TakenBefore, untaken, repliedBefore, takeBefore}
+use Rattle.claims.specs.YesOrNo.{Gave, refusedWith, onward, plainly, openIn, opened, grantsBefore, afterReleasesBefore, requestBefore, lockingBefore, unlessConflict, readBefore, writingBefore, writeBefore, coreGave, rangeBefore, setSizeBefore, coreWriteBefore, performBefore, RanBefore, refusedBefore, inFront, afterGave, runBefore, chainBefore, answeredBefore, TakenBefore, untaken, repliedBefore, takeBefore}
 
 -- what the call gives back, the holder left out
 unfoldable pub withoutHolder : Taken → TakenBefore
@@ -127,51 +129,74 @@ module _ (t : Tables) (memory : List ℕ) where
 
 -- ---- who may ask
 
-module _ (k : Gave → Gave) where
-  -- a choice before what follows
-  on-choice : (b : Bool) (u v x y : Given) → onward u k ≡ plainly x → onward v k ≡ plainly y → onward (cond b u v) k ≡ plainly (cond b x y)
-  on-choice true u v x y p q = p
-  on-choice false u v x y p q = q
+-- what follows with the open that was found
+open-at-before : (f : Found) (opens : List Open) (t : Tables) (x : Open → Gave) (y : Open → Given) → ((o : Open) → x o ≡ plainly (y o))
+    → onward (openAt f opens (λ o. done t [] plain)) (λ _. x (openIn f opens)) ≡ plainly (openAt f opens y)
+unfolding onward plainly openAt openIn
+open-at-before (At j) opens t x y e = e (getD opens j noOpen)
+open-at-before Nothing opens t x y e = refl
 
-  on-open-at : (f : Found) (opens : List Open) (x y : Open → Given) → ((o : Open) → onward (x o) k ≡ plainly (y o))
-      → onward (openAt f opens x) k ≡ plainly (openAt f opens y)
-  unfolding onward plainly openAt
-  on-open-at (At j) opens x y e = e (getD opens j noOpen)
-  on-open-at Nothing opens x y e = refl
+-- a choice, and what follows it
+on-choice : (k : Gave → Gave) (b : Bool) (u v x y : Given) → onward u k ≡ plainly x → onward v k ≡ plainly y → onward (cond b u v) k ≡ plainly (cond b x y)
+on-choice k true u v x y p q = p
+on-choice k false u v x y p q = q
 
+module _ (c : Caller) (t : Tables) where
   -- the tests of a command on an open, before what follows
-  on-open : (c : Caller) (t : Tables) (fid : ℕ) (x y : Open → Given) → ((o : Open) → onward (x o) k ≡ plainly (y o))
-      → onward (withOpen c t fid x) k ≡ plainly (withOpen c t fid y)
-  unfolding withOpen withTree withSession onward plainly
-  on-open c t fid x y e =
-      on-choice (any (isSession c) (sessionsOf t)) _ _ _ _
-      (on-choice (any (isTree (c .tid) (c .uid)) (treesOf t)) _ _ _ _ (on-open-at (found (isOpen c fid) (opensOf t)) (opensOf t) x y e) refl) refl
-
-module _ (c : Caller) (t : Tables) (memory : List ℕ) where
-  locking-before : (f : LockingFields) (area : List ℕ) → lockingBefore c t memory f area ≡ plainly (doLocking c t memory f area)
-  unfolding lockingBefore doLocking onward plainly
-  locking-before f area =
-      on-open _ c t (f .fid) _ _ (λ o. on-choice _ (servedType (f .kind)) _ _ _ _ (request-before t memory (requestOf c f) area) refl)
-
-  -- ---- reading and writing
+  open-before : (fid : ℕ) (x : Open → Gave) (y : Open → Given) → ((o : Open) → x o ≡ plainly (y o)) → opened c t fid x ≡ plainly (withOpen c t fid y)
+  unfolding opened withOpen withTree withSession onward plainly
+  open-before fid x y e =
+      on-choice _ (any (isSession c) (sessionsOf t)) _ _ _ _
+      (on-choice _ (any (isTree (c .tid) (c .uid)) (treesOf t)) _ _ _ _ (open-at-before (found (isOpen c fid) (opensOf t)) (opensOf t) t x y e) refl) refl
 
   -- a read or a write against the locks
   transfer-before : (q : Ask) (x : Gave) (y : Given) → x ≡ plainly y → unlessConflict t q (locksOf t) x ≡ plainly (unlessBarred t (barring t q) y)
   unfolding unlessBarred barring plainly onward statusOf
   transfer-before q x y h = conflict-before t q (locksOf t) x (λ (f : Found). plainly (unlessBarred t f y)) (λ k. refl) h
 
+  -- every write, whatever it asks of the locks and leaves
+  writing-before : (fid : ℕ) (ask : Open → Ask) (past : Bool) (x : Open → Gave) (y : Open → Given) → ((o : Open) → x o ≡ plainly (y o))
+      → writingBefore c t fid ask past x ≡ plainly (writing c t fid ask past y)
+  unfolding writingBefore plainly onward statusOf
+  writing-before fid ask past x y e =
+      open-before fid _ _
+      (λ o. chosen plainly (eqb (o .access) 0) refl (transfer-before (ask o) _ _ (chosen plainly past refl (e o))))
+
+-- a command in its counterpart's way
+core-before : (x : Gave) (g : Given) → x ≡ plainly g → coreGave x ≡ plainly (asCore g)
+unfolding coreGave asCore plainly onward
+core-before x (refused why) e = ap coreGave e
+core-before x (done t memory said) e = ap coreGave e
+
+module _ (c : Caller) (t : Tables) (memory : List ℕ) where
+  locking-before : (f : LockingFields) (area : List ℕ) → lockingBefore c t memory f area ≡ plainly (doLocking c t memory f area)
+  unfolding lockingBefore doLocking plainly onward statusOf
+  locking-before f area =
+      open-before c t (f .fid) _ _ (λ o. chosen plainly (servedType (f .kind)) (request-before t memory (requestOf c f) area) refl)
+
   read-before : (f : ReadFields) → readBefore c t memory f ≡ plainly (doRead c t memory f)
-  unfolding readBefore doRead onward plainly
+  unfolding readBefore doRead plainly onward statusOf
   read-before f =
-      on-open _ c t (f .fid) _ _
-      (λ o. on-choice _ (eqb (o .access) 1) _ _ _ _ refl (transfer-before (askBy c (f .fid) (f .offset) (f .max) Reading) _ _ refl))
+      open-before c t (f .fid) _ _
+      (λ o. chosen plainly (eqb (o .access) 1) refl (transfer-before c t (askBy c (f .fid) (f .offset) (f .max) Reading) _ _ refl))
 
   write-before : (f : WriteFields) (bytes : List ℕ) → writeBefore c t memory f bytes ≡ plainly (doWrite c t memory f bytes)
-  unfolding writeBefore doWrite onward plainly statusOf
+  unfolding writeBefore doWrite plainly onward
   write-before f bytes =
-      on-open _ c t (f .fid) _ _
-      (λ o. on-choice _ (eqb (o .access) 0) _ _ _ _ refl
-      (transfer-before (askBy c (f .fid) (f .offset) (f .count) Writing) _ _ (chosen plainly (endsPast (f .offset) (f .count)) refl refl)))
+      writing-before c t (f .fid) (λ o. askBy c (f .fid) (f .offset) (f .count) Writing) (endsPast (f .offset) (f .count)) _ _ (λ o. refl)
+
+  set-size-before : (f : WriteFields) → setSizeBefore c t memory f ≡ plainly (doSetSize c t memory f)
+  unfolding setSizeBefore doSetSize plainly onward
+  set-size-before f =
+      writing-before c t (f .fid) (λ o. betweenSizes c (f .fid) (sizeOf t (o .file)) (f .offset)) (ltb 4096 (f .offset)) _ _ (λ o. refl)
+
+  core-write-before : (f : WriteFields) (bytes : List ℕ) → coreWriteBefore c t memory f bytes ≡ plainly (doCoreWrite c t memory f bytes)
+  unfolding coreWriteBefore doCoreWrite
+  core-write-before f bytes = chosen plainly (eqb (f .count) 0) (set-size-before f) (core-before _ _ (write-before f bytes))
+
+  range-before : (f : RangeFields) (unlocks locks : ℕ) → rangeBefore c t memory f unlocks locks ≡ plainly (doRange c t memory f unlocks locks)
+  unfolding rangeBefore doRange
+  range-before f unlocks locks = core-before _ _ (locking-before (oneRange f unlocks locks) (smallForm (rangeBy c f)))
 
   -- every command
   perform-before : (b : Body) (area bytes : List ℕ) → performBefore c t memory b area bytes ≡ plainly (perform c t memory b area bytes)
@@ -183,6 +208,10 @@ module _ (c : Caller) (t : Tables) (memory : List ℕ) where
   perform-before Logoff area bytes = refl
   perform-before TreeDisconnect area bytes = refl
   perform-before ProcessExit area bytes = refl
+  perform-before (CoreReadBody f) area bytes = core-before _ _ (read-before f)
+  perform-before (CoreWriteBody f) area bytes = core-write-before f (drop 3 area)
+  perform-before (LockByteRange f) area bytes = range-before f 0 1
+  perform-before (UnlockByteRange f) area bytes = range-before f 1 0
 
 -- ---- a message
 

@@ -4,15 +4,19 @@ use Prim.Native.Nat.{ℕ, _+_, _*_}
 use mathlib.Core.Bool.{Bool, cond, not, _||_}
 use mathlib.Core.List.{List, [], _∷_, _++_}
 use mathlib.Core.Option.{Option, none, some}
-use lib.ListN.{length}
+use lib.ListN.{length, drop, getD}
 use lib.Dec.{leb, ltb, eqb}
-use Rattle.lists.specs.Walk.{any}
+use Rattle.lists.specs.Walk.{any, found}
 use Rattle.lists.specs.Put.{put}
+use Rattle.lists.specs.declared.Found.{Found}
+use Rattle.lists.specs.declared.Found.the-variants.{At, Nothing}
 use Rattle.records.specs.declared.Lock.{Lock}
+use Rattle.records.specs.declared.Open.{Open}
 use Rattle.records.specs.declared.Tables.{Tables}
+use Rattle.records.specs.Empty.{noOpen}
 use Rattle.records.specs.Held.{opensOf, locksOf, withLocks}
 use Rattle.locks.specs.Answer.{answers}
-use Rattle.locks.specs.Wire.{rangeSize}
+use Rattle.locks.specs.Wire.{rangeSize, smallForm}
 use Rattle.locks.specs.Request.{rangesOf, askOf, lockOf, releaseAll, rangePasses}
 use Rattle.locks.specs.declared.types.Ask.{Ask}
 use Rattle.locks.specs.declared.types.LockRange.{LockRange}
@@ -26,16 +30,16 @@ use Rattle.chain.specs.Chain.{blocks}
 use Rattle.chain.specs.declared.block.LockingFields.{LockingFields}
 use Rattle.chain.specs.declared.block.ReadFields.{ReadFields}
 use Rattle.chain.specs.declared.block.WriteFields.{WriteFields}
+use Rattle.chain.specs.declared.block.RangeFields.{RangeFields}
 use Rattle.chain.specs.declared.block.Body.{Body}
-use Rattle.chain.specs.declared.block.Body.the-variants.{Locking as LockingBody, Read as ReadBody, Write as WriteBody, Close, Logoff, TreeDisconnect, ProcessExit}
+use Rattle.chain.specs.declared.block.Body.the-variants.{Locking as LockingBody, Read as ReadBody, Write as WriteBody, Close, Logoff, TreeDisconnect, ProcessExit, CoreRead as CoreReadBody, CoreWrite as CoreWriteBody, LockByteRange, UnlockByteRange}
 use Rattle.chain.specs.declared.block.Block.{Block}
 use Rattle.message.specs.Caller.{callerOf}
 use Rattle.message.specs.declared.caller.Caller.{Caller}
-use Rattle.message.specs.Contents.{readBytes, written, resized}
+use Rattle.message.specs.Contents.{sizeOf, readBytes, grown, written, withSize, resized}
 use Rattle.message.specs.Refusal.{status, statusOf}
 use Rattle.message.specs.declared.refusal.Status.{Status}
-use Rattle.message.specs.declared.refusal.Refusal.the-variants.{NoAccess, LockType}
-use Rattle.message.specs.Command.{Said, locked, read, wrote, Given, refused, done, withOpen, servedType, requestOf, askBy, endsPast, perform}
+use Rattle.message.specs.Command.{Said, locked, read, wrote, plain, coreWrote, Given, refused, done, isOpen, withOpen, servedType, requestOf, askBy, endsPast, coreSaid, rangeBy, oneRange, betweenSizes, perform}
 use Rattle.message.specs.Message.{areaOf, dataOf, linkTo, served}
 use Rattle.message.specs.Reply.{replyHeader, replyBlock, refusedBlock, replySize}
 
@@ -48,6 +52,18 @@ pub data Gave : Type 0 where
 unfoldable pub onward : Given → (Gave → Gave) → Gave
 onward (refused why) next = refusedWith (statusOf why)
 onward (done t memory said) next = next (did t memory said)
+
+-- the other commands meet no lock: what they give, a refusal by its Status
+unfoldable pub plainly : Given → Gave
+plainly given = onward given (λ end. end)
+
+unfoldable pub openIn : Found → List Open → Open
+openIn (At k) opens = getD opens k noOpen
+openIn Nothing opens = noOpen
+
+-- from "2/91 no session" to "1/6 no open of that FID, UID and TID", then what follows with the open that was found
+unfoldable pub opened : Caller → Tables → ℕ → (Open → Gave) → Gave
+opened c t fid next = onward (withOpen c t fid (λ o. done t [] plain)) (λ _. next (openIn (found (isOpen c fid) (opensOf t)) (opensOf t)))
 
 -- "1/33 lock conflict": some listed lock stands in the way, yes or no
 unfoldable pub unlessConflict : Tables → Ask → List Lock → Gave → Gave
@@ -76,38 +92,57 @@ requestBefore t memory q area =
     (releaseAll (fileOf (opensOf t)) (q .fid) (rangesOf q area 0 (q .unlocks)) (locksOf t)))
     (refusedWith (status 2 1))
 
--- from "2/91 no session" to "2/65535 lock type bit other than 0x01 and 0x10", then the request
+-- "2/65535 lock type bit other than 0x01 and 0x10", then the request
 unfoldable pub lockingBefore : Caller → Tables → List ℕ → LockingFields → List ℕ → Gave
 lockingBefore c t memory f area =
-    onward (withOpen c t (f .fid) (λ o. cond (servedType (f .kind)) (done t memory locked) (refused LockType)))
-    (λ _. requestBefore t memory (requestOf c f) area)
+    opened c t (f .fid) (λ o. cond (servedType (f .kind)) (requestBefore t memory (requestOf c f) area) (refusedWith (status 2 65535)))
 
 -- ---- reading and writing
 
--- "A read is refused 1/33 exactly if an exclusive lock of another owner overlaps offset and max."
+-- "A read is refused 1/33 exactly if an exclusive lock of another owner overlaps offset and max." "1/5 is a read on access 1"
 unfoldable pub readBefore : Caller → Tables → List ℕ → ReadFields → Gave
 readBefore c t memory f =
-    onward
-    (withOpen c t (f .fid) (λ o. cond (eqb (o .access) 1) (refused NoAccess) (done t memory (read (readBytes t memory (o .file) (f .offset) (f .max))))))
-    (λ end. unlessConflict t (askBy c (f .fid) (f .offset) (f .max) Reading) (locksOf t) end)
+    opened c t (f .fid)
+    (λ o.
+    cond (eqb (o .access) 1) (refusedWith (status 1 5))
+    (unlessConflict t (askBy c (f .fid) (f .offset) (f .max) Reading) (locksOf t)
+    (did t memory (read (readBytes t memory (o .file) (f .offset) (f .max))))))
 
--- "A write is refused 1/33 exactly if any lock overlaps it save the writer's own exclusive ones." "class 3, code 39, write would end past 4,096"
+-- "A write is refused 1/33 exactly if any lock overlaps it save the writer's own exclusive ones." "or a write on access 0"; "class 3, code 39, write
+-- would end past 4,096"
+unfoldable pub writingBefore : Caller → Tables → ℕ → (Open → Ask) → Bool → (Open → Gave) → Gave
+writingBefore c t fid ask past next =
+    opened c t fid
+    (λ o.
+    cond (eqb (o .access) 0) (refusedWith (status 1 5))
+    (unlessConflict t (ask o) (locksOf t) (cond past (refusedWith (status 3 39)) (next o))))
+
 unfoldable pub writeBefore : Caller → Tables → List ℕ → WriteFields → List ℕ → Gave
 writeBefore c t memory f bytes =
-    onward
-    (withOpen c t (f .fid)
-    (λ o.
-    cond (eqb (o .access) 0) (refused NoAccess)
-    (done (resized t (o .file) (f .offset) (f .count)) (written t memory (o .file) (f .offset) bytes) (wrote (f .count)))))
-    (λ end.
-    unlessConflict t (askBy c (f .fid) (f .offset) (f .count) Writing) (locksOf t)
-    (cond (endsPast (f .offset) (f .count)) (refusedWith (status 3 39)) end))
+    writingBefore c t (f .fid) (λ o. askBy c (f .fid) (f .offset) (f .count) Writing) (endsPast (f .offset) (f .count))
+    (λ o. did (resized t (o .file) (f .offset) (f .count)) (written t memory (o .file) (f .offset) bytes) (wrote (f .count)))
+
+-- ---- the core commands (document 02, CR 3): "the rules of their AndX counterparts"
+
+-- what the counterpart gives, said in the core command's reply block
+unfoldable pub coreGave : Gave → Gave
+coreGave (refusedWith why) = refusedWith why
+coreGave (did t memory said) = did t memory (coreSaid said)
+
+-- "the process from the header; the lock is exclusive": the LOCKING of one range
+unfoldable pub rangeBefore : Caller → Tables → List ℕ → RangeFields → ℕ → ℕ → Gave
+rangeBefore c t memory f unlocks locks = coreGave (lockingBefore c t memory (oneRange f unlocks locks) (smallForm (rangeBy c f)))
+
+-- "A core WRITE of count 0 sets the file's size to the offset (past 4,096 is 3/39)"; "for locks it covers the bytes between the old and the new size."
+unfoldable pub setSizeBefore : Caller → Tables → List ℕ → WriteFields → Gave
+setSizeBefore c t memory f =
+    writingBefore c t (f .fid) (λ o. betweenSizes c (f .fid) (sizeOf t (o .file)) (f .offset)) (ltb 4096 (f .offset))
+    (λ o. did (withSize t (o .file) (f .offset)) (grown t memory (o .file) (f .offset)) (coreWrote 0))
+
+unfoldable pub coreWriteBefore : Caller → Tables → List ℕ → WriteFields → List ℕ → Gave
+coreWriteBefore c t memory f bytes = cond (eqb (f .count) 0) (setSizeBefore c t memory f) (coreGave (writeBefore c t memory f bytes))
 
 -- ---- a message
-
--- the other commands meet no lock: what they give, a refusal by its Status
-unfoldable pub plainly : Given → Gave
-plainly given = onward given (λ end. end)
 
 unfoldable pub performBefore : Caller → Tables → List ℕ → Body → List ℕ → List ℕ → Gave
 performBefore c t memory (LockingBody f) area bytes = lockingBefore c t memory f area
@@ -117,6 +152,10 @@ performBefore c t memory (Close fid) area bytes = plainly (perform c t memory (C
 performBefore c t memory Logoff area bytes = plainly (perform c t memory Logoff area bytes)
 performBefore c t memory TreeDisconnect area bytes = plainly (perform c t memory TreeDisconnect area bytes)
 performBefore c t memory ProcessExit area bytes = plainly (perform c t memory ProcessExit area bytes)
+performBefore c t memory (CoreReadBody f) area bytes = coreGave (readBefore c t memory f)
+performBefore c t memory (CoreWriteBody f) area bytes = coreWriteBefore c t memory f (drop 3 area)
+performBefore c t memory (LockByteRange f) area bytes = rangeBefore c t memory f 0 1
+performBefore c t memory (UnlockByteRange f) area bytes = rangeBefore c t memory f 1 0
 
 -- what a chain leaves: its status, the tables, the file memory, and the reply blocks
 pub record RanBefore : Type 0 where
