@@ -2,7 +2,8 @@
 //! What document 01 does not look at is filled by the caller.
 
 use crate::grammar::{
-    CLOSE, LOCKING_ANDX, LOGOFF_ANDX, PROCESS_EXIT, READ_ANDX, TREE_DISCONNECT, WRITE_ANDX,
+    CLOSE, DATA_BLOCK_HEAD, DATA_MARK, LOCKING_ANDX, LOCK_BYTE_RANGE, LOGOFF_ANDX, PROCESS_EXIT,
+    READ, READ_ANDX, TREE_DISCONNECT, UNLOCK_BYTE_RANGE, WRITE, WRITE_ANDX,
 };
 
 /// The fields of a header that a reply or an answer depends on.
@@ -43,6 +44,30 @@ pub enum Ask {
         /// Bytes of the byte area before and behind the data.
         around: (usize, usize),
     },
+    /// READ.
+    CoreRead {
+        fid: u16,
+        offset: u32,
+        count: u16,
+    },
+    /// WRITE; without data it sets the size.
+    CoreWrite {
+        fid: u16,
+        offset: u32,
+        data: Vec<u8>,
+    },
+    /// LOCK_BYTE_RANGE.
+    LockRange {
+        fid: u16,
+        offset: u32,
+        length: u32,
+    },
+    /// UNLOCK_BYTE_RANGE.
+    UnlockRange {
+        fid: u16,
+        offset: u32,
+        length: u32,
+    },
     Close {
         fid: u16,
     },
@@ -61,12 +86,44 @@ pub fn locking(fid: u16, kind: u8, unlocks: &[Asked], locks: &[Asked]) -> Ask {
     }
 }
 
+pub fn core_read(fid: u16, offset: u32, count: u16) -> Ask {
+    Ask::CoreRead { fid, offset, count }
+}
+
+pub fn core_write(fid: u16, offset: u32, data: &[u8]) -> Ask {
+    Ask::CoreWrite {
+        fid,
+        offset,
+        data: data.to_vec(),
+    }
+}
+
+pub fn lock_range(fid: u16, offset: u32, length: u32) -> Ask {
+    Ask::LockRange {
+        fid,
+        offset,
+        length,
+    }
+}
+
+pub fn unlock_range(fid: u16, offset: u32, length: u32) -> Ask {
+    Ask::UnlockRange {
+        fid,
+        offset,
+        length,
+    }
+}
+
 impl Ask {
     pub fn command(&self) -> u8 {
         match self {
             Ask::Locking { .. } => LOCKING_ANDX,
             Ask::Read { .. } => READ_ANDX,
             Ask::Write { .. } => WRITE_ANDX,
+            Ask::CoreRead { .. } => READ,
+            Ask::CoreWrite { .. } => WRITE,
+            Ask::LockRange { .. } => LOCK_BYTE_RANGE,
+            Ask::UnlockRange { .. } => UNLOCK_BYTE_RANGE,
             Ask::Close { .. } => CLOSE,
             Ask::Logoff => LOGOFF_ANDX,
             Ask::TreeDisconnect => TREE_DISCONNECT,
@@ -80,8 +137,27 @@ impl Ask {
             Ask::Locking { fid, .. }
             | Ask::Read { fid, .. }
             | Ask::Write { fid, .. }
+            | Ask::CoreRead { fid, .. }
+            | Ask::CoreWrite { fid, .. }
+            | Ask::LockRange { fid, .. }
+            | Ask::UnlockRange { fid, .. }
             | Ask::Close { fid } => Some(fid),
             Ask::Logoff | Ask::TreeDisconnect | Ask::ProcessExit => None,
+        }
+    }
+
+    /// The same for another FID, if there is one.
+    pub fn set_fid(&mut self, number: u16) {
+        match self {
+            Ask::Locking { fid, .. }
+            | Ask::Read { fid, .. }
+            | Ask::Write { fid, .. }
+            | Ask::CoreRead { fid, .. }
+            | Ask::CoreWrite { fid, .. }
+            | Ask::LockRange { fid, .. }
+            | Ask::UnlockRange { fid, .. }
+            | Ask::Close { fid } => *fid = number,
+            Ask::Logoff | Ask::TreeDisconnect | Ask::ProcessExit => {}
         }
     }
 
@@ -101,6 +177,22 @@ impl Ask {
                 long,
             } => read_block(*fid, *offset, *max, *long, fill),
             Ask::Write { .. } => self.write_block(offset, fill),
+            Ask::CoreRead { fid, offset, count } => {
+                let mut block = core_words(*fid, *offset, *count, fill);
+                block.extend([0, 0]);
+                block
+            }
+            Ask::CoreWrite { fid, offset, data } => core_write_block(*fid, *offset, data, fill),
+            Ask::LockRange {
+                fid,
+                offset,
+                length,
+            }
+            | Ask::UnlockRange {
+                fid,
+                offset,
+                length,
+            } => core_range_block(*fid, *offset, *length),
             Ask::Close { fid } => close_block(*fid, fill),
             Ask::Logoff => vec![2, 0xFF, fill(), fill(), fill(), 0, 0],
             Ask::TreeDisconnect | Ask::ProcessExit => vec![0, 0, 0],
@@ -187,6 +279,36 @@ fn read_block(
     if long {
         block.extend(((offset >> 32) as u32).to_le_bytes());
     }
+    block.extend([0, 0]);
+    block
+}
+
+/// WordCount and the words of READ and WRITE: FID, count, offset, remaining.
+fn core_words(fid: u16, offset: u32, count: u16, fill: &mut impl FnMut() -> u8) -> Vec<u8> {
+    let mut block = vec![5];
+    block.extend(fid.to_le_bytes());
+    block.extend(count.to_le_bytes());
+    block.extend(offset.to_le_bytes());
+    block.extend([fill(), fill()]);
+    block
+}
+
+fn core_write_block(fid: u16, offset: u32, data: &[u8], fill: &mut impl FnMut() -> u8) -> Vec<u8> {
+    let count = data.len() as u16;
+    let mut block = core_words(fid, offset, count, fill);
+    block.extend((count + DATA_BLOCK_HEAD as u16).to_le_bytes());
+    block.push(DATA_MARK);
+    block.extend(count.to_le_bytes());
+    block.extend(data);
+    block
+}
+
+/// LOCK and UNLOCK: FID, count 4, offset 4, and no bytes.
+fn core_range_block(fid: u16, offset: u32, length: u32) -> Vec<u8> {
+    let mut block = vec![5];
+    block.extend(fid.to_le_bytes());
+    block.extend(length.to_le_bytes());
+    block.extend(offset.to_le_bytes());
     block.extend([0, 0]);
     block
 }

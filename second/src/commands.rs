@@ -1,12 +1,14 @@
 //! What each request does, from "Locks, reads and writes" of document 01,
 //! with the refusals in the order of "Refusals on the wire". A command that
-//! is refused has changed nothing.
+//! is refused has changed nothing. The core commands have "the rules of their
+//! AndX counterparts" (document 02, request 3).
 
 use crate::holder::{unless_held, Holder, Refused};
 use crate::host::file_bytes_mut;
 use crate::refusals::WireRefusal;
 use crate::request::{OwnedRange, Ranges, Request, TYPE_LARGE, TYPE_SHARED};
 use crate::tables::{Lock, Open, Range, Tables, ACCESS_READ, ACCESS_WRITE, FILE_BYTES, LOCKS};
+use std::iter::{empty, once};
 
 /// Who asks: the connection, and the header's numbers.
 #[derive(Clone, Copy, Debug, PartialEq, Eq)]
@@ -21,7 +23,7 @@ pub struct Asker {
 /// What a command that was done has for its reply block.
 #[derive(Clone, Debug, PartialEq, Eq)]
 pub enum Done {
-    /// CLOSE, TREE_DISCONNECT, PROCESS_EXIT: 0 words.
+    /// CLOSE, TREE_DISCONNECT, PROCESS_EXIT, LOCK, UNLOCK: 0 words.
     Plain,
     /// LOCKING and LOGOFF: AndX only.
     Linked,
@@ -52,8 +54,11 @@ pub fn carry_out(
             unlocks,
             locks,
         } => locking(tables, asker, fid, kind, unlocks, locks),
+        Request::Lock { fid, range } => lock(tables, asker, fid, range),
+        Request::Unlock { fid, range } => unlock(tables, asker, fid, range),
         Request::Read { fid, range } => read(tables, asker, fid, range),
         Request::Write { fid, offset, data } => write(tables, memory, asker, fid, offset, data),
+        Request::Resize { fid, size } => resize(tables, memory, asker, fid, size),
     }
 }
 
@@ -124,8 +129,6 @@ impl Released {
     }
 }
 
-/// Judges all ranges of the request against the table as it is, then
-/// alters it.
 fn locking(
     tables: &mut Tables,
     asker: &Asker,
@@ -138,10 +141,6 @@ fn locking(
     if kind & !(TYPE_SHARED | TYPE_LARGE) != 0 {
         return Err(WireRefusal::LockType.into());
     }
-    let released = release(tables, fid, unlocks)?;
-    if locks.iter().any(|asked| asked.range.passes()) {
-        return Err(WireRefusal::RangePasses.into());
-    }
     let shared = kind & TYPE_SHARED != 0;
     let as_lock = |asked: OwnedRange| Lock {
         fid,
@@ -149,21 +148,62 @@ fn locking(
         range: asked.range,
         shared,
     };
-    let asked = locks.iter().map(as_lock);
+    change_locks(tables, &open, unlocks.iter(), locks.iter().map(as_lock))?;
+    Ok(Done::Linked)
+}
+
+/// LOCK_BYTE_RANGE: a LOCKING of this one lock.
+fn lock(tables: &mut Tables, asker: &Asker, fid: u16, range: Range) -> Result<Done, Refused> {
+    let open = find_open(tables, asker, fid)?;
+    let asked = Lock {
+        fid,
+        process: asker.process,
+        range,
+        shared: false,
+    };
+    change_locks(tables, &open, empty(), once(asked))?;
+    Ok(Done::Plain)
+}
+
+/// UNLOCK_BYTE_RANGE: a LOCKING of this one unlock. "UNLOCK of what isn't locked
+/// is 1/158, though 000 and 004 say no error."
+fn unlock(tables: &mut Tables, asker: &Asker, fid: u16, range: Range) -> Result<Done, Refused> {
+    let open = find_open(tables, asker, fid)?;
+    let process = asker.process;
+    let released = OwnedRange { process, range };
+    change_locks(tables, &open, once(released), empty())?;
+    Ok(Done::Plain)
+}
+
+/// Judges all ranges of a request against the table as it is, then alters it.
+fn change_locks(
+    tables: &mut Tables,
+    open: &Open,
+    unlocks: impl Iterator<Item = OwnedRange>,
+    asked: impl Iterator<Item = Lock> + Clone,
+) -> Result<(), Refused> {
+    let released = release(tables, open.fid, unlocks)?;
+    if asked.clone().any(|lock| lock.range.passes()) {
+        return Err(WireRefusal::RangePasses.into());
+    }
     unless_held(first_conflict(tables, open.file, released, asked.clone()))?;
     // "1/8 exactly if over 128 would then be held"
-    if tables.locks.count - released.count() + locks.len() > LOCKS {
+    if tables.locks.count - released.count() + asked.clone().count() > LOCKS {
         return Err(WireRefusal::NoLockRecord.into());
     }
     replace_locks(tables, released, asked);
-    Ok(Done::Linked)
+    Ok(())
 }
 
 /// "Unlocks go first, in order: each removes the earliest listed lock with
 /// equal FID, process, offset and length."
-fn release(tables: &Tables, fid: u16, unlocks: Ranges) -> Result<Released, WireRefusal> {
+fn release(
+    tables: &Tables,
+    fid: u16,
+    unlocks: impl Iterator<Item = OwnedRange>,
+) -> Result<Released, WireRefusal> {
     let mut released = Released::default();
-    for unlock in unlocks.iter() {
+    for unlock in unlocks {
         let matching = |(place, lock): (usize, &Lock)| {
             lock.fid == fid
                 && lock.process == unlock.process
@@ -253,8 +293,18 @@ fn read(tables: &Tables, asker: &Asker, fid: u16, range: Range) -> Result<Done, 
     Ok(Done::Read(file + start..file + end))
 }
 
-/// "A write is refused 1/33 exactly if any lock overlaps it save the writer's
-/// own exclusive ones."
+/// What each write is refused for before its end is looked at, this being the
+/// range that it covers. "A write is refused 1/33 exactly if any lock overlaps it
+/// save the writer's own exclusive ones."
+fn may_write(tables: &Tables, asker: &Asker, open: &Open, range: Range) -> Result<(), Refused> {
+    if open.access == ACCESS_READ {
+        return Err(WireRefusal::Access.into());
+    }
+    unless_held(first_lock_of(tables, open.file, |lock| {
+        (lock.shared || !owns(asker, open.fid, lock)) && lock.range.overlaps(range)
+    }))
+}
+
 fn write(
     tables: &mut Tables,
     memory: &mut [u8],
@@ -264,16 +314,11 @@ fn write(
     data: &[u8],
 ) -> Result<Done, Refused> {
     let open = find_open(tables, asker, fid)?;
-    if open.access == ACCESS_READ {
-        return Err(WireRefusal::Access.into());
-    }
     let range = Range {
         offset,
         length: data.len() as u64,
     };
-    unless_held(first_lock_of(tables, open.file, |lock| {
-        (lock.shared || !owns(asker, fid, lock)) && lock.range.overlaps(range)
-    }))?;
+    may_write(tables, asker, &open, range)?;
     // "Length 0 writes nothing, changes no size and is done at any offset."
     if !data.is_empty() {
         if range.end() > FILE_BYTES as u128 {
@@ -285,18 +330,48 @@ fn write(
     Ok(Done::Written(data.len() as u16))
 }
 
+/// "A core WRITE of count 0 sets the file's size to the offset (past 4,096 is
+/// 3/39) [...]; for locks it covers the bytes between the old and the new size."
+/// These are looked at first, in the order of the refusals.
+fn resize(
+    tables: &mut Tables,
+    memory: &mut [u8],
+    asker: &Asker,
+    fid: u16,
+    size: u64,
+) -> Result<Done, Refused> {
+    let open = find_open(tables, asker, fid)?;
+    let old = tables.files[usize::from(open.file)].size;
+    let between = Range {
+        offset: old.min(size),
+        length: old.abs_diff(size),
+    };
+    may_write(tables, asker, &open, between)?;
+    if size > FILE_BYTES as u64 {
+        return Err(WireRefusal::FileFull.into());
+    }
+    // "with zeros where it grows and no byte changed where it shrinks"
+    zeros_from_size(tables, memory, open.file, size as usize);
+    tables.files[usize::from(open.file)].size = size;
+    Ok(Done::Written(0))
+}
+
 /// "Bytes between the old size and the write become 0, and a size below the
 /// write's end becomes that end."
 fn put_data(tables: &mut Tables, memory: &mut [u8], file: u8, start: usize, data: &[u8]) {
-    let bytes = file_bytes_mut(memory, file);
-    let size = &mut tables.files[usize::from(file)].size;
+    zeros_from_size(tables, memory, file, start);
     let end = start + data.len();
-    let old = *size as usize;
-    if old < start {
-        bytes[old..start].fill(0);
-    }
-    bytes[start..end].copy_from_slice(data);
+    file_bytes_mut(memory, file)[start..end].copy_from_slice(data);
+    let size = &mut tables.files[usize::from(file)].size;
     *size = (*size).max(end as u64);
+}
+
+/// Puts zeros from the file's size to a place behind it.
+fn zeros_from_size(tables: &Tables, memory: &mut [u8], file: u8, to: usize) {
+    let size = tables.files[usize::from(file)].size as usize;
+    if size < to {
+        file_bytes_mut(memory, file)[size..to].fill(0);
+    }
 }
 
 /// "An owner is a FID with a process. Locks: process from the range; reads

@@ -1,10 +1,15 @@
-//! A reader of chains, from "The grammar of a chain" of document 01.
+//! A reader of chains, from "The grammar of a chain" of document 01 and the rows
+//! of document 02, request 3.
 //!
 //! Sentences of that paper are quoted at the test that they became. All sums
 //! are in `usize`, wide enough that none of them can wrap: the largest is a
 //! place in the message plus 2 * 255 words plus a 16-bit byte count.
 
 pub const CLOSE: u8 = 0x04;
+pub const READ: u8 = 0x0A;
+pub const WRITE: u8 = 0x0B;
+pub const LOCK_BYTE_RANGE: u8 = 0x0C;
+pub const UNLOCK_BYTE_RANGE: u8 = 0x0D;
 pub const PROCESS_EXIT: u8 = 0x11;
 pub const LOCKING_ANDX: u8 = 0x24;
 pub const READ_ANDX: u8 = 0x2E;
@@ -12,9 +17,13 @@ pub const WRITE_ANDX: u8 = 0x2F;
 pub const TREE_DISCONNECT: u8 = 0x71;
 pub const LOGOFF_ANDX: u8 = 0x74;
 
-/// "Requests served".
-pub const SERVED: [u8; 7] = [
+/// "Requests served", with the core commands of document 02, request 3.
+pub const SERVED: [u8; 11] = [
     CLOSE,
+    READ,
+    WRITE,
+    LOCK_BYTE_RANGE,
+    UNLOCK_BYTE_RANGE,
     PROCESS_EXIT,
     LOCKING_ANDX,
     READ_ANDX,
@@ -22,6 +31,14 @@ pub const SERVED: [u8; 7] = [
     TREE_DISCONNECT,
     LOGOFF_ANDX,
 ];
+
+/// The core commands, which name no next block.
+pub const CORE: [u8; 4] = [READ, WRITE, LOCK_BYTE_RANGE, UNLOCK_BYTE_RANGE];
+
+/// What a data block begins with: "a data block not marked 0x01 [...] is 2/1".
+pub const DATA_MARK: u8 = 0x01;
+/// Mark and length of a data block, before its data.
+pub const DATA_BLOCK_HEAD: usize = 3;
 
 /// AndXCommand of the last block: "0xFF ends the chain".
 const NO_MORE: u8 = 0xFF;
@@ -60,6 +77,10 @@ pub enum Why {
     DataBefore,
     /// DataOffset + DataLength is past the byte area's end.
     DataPast,
+    /// The data block is not marked 0x01.
+    DataMark,
+    /// The data block's length is not the count.
+    DataLength,
     /// AndXCommand is not in the table's last column.
     Follower,
     /// AndXOffset is before the end of its own block.
@@ -67,7 +88,7 @@ pub enum Why {
 }
 
 impl Why {
-    pub const ALL: [Why; 11] = [
+    pub const ALL: [Why; 13] = [
         Why::NotServed,
         Why::StartOutside,
         Why::WordCount,
@@ -77,6 +98,8 @@ impl Why {
         Why::ByteCount,
         Why::DataBefore,
         Why::DataPast,
+        Why::DataMark,
+        Why::DataLength,
         Why::Follower,
         Why::AndXOffset,
     ];
@@ -188,6 +211,7 @@ fn read_block(
                 return Err(Why::DataPast);
             }
         }
+        WRITE => check_data_block(words, &message[area_start..end])?,
         _ => {
             if byte_count != 0 {
                 return Err(Why::ByteCount);
@@ -223,6 +247,23 @@ fn read_block(
     Ok((block, Some((next_command, next_offset))))
 }
 
+/// "WRITE: count word, the data block's length and ByteCount − 3 are all equal,
+/// else 2/1 [...]; ByteCount under 3 likewise." Words: FID 2, count 2 (at 2),
+/// offset 4, remaining 2.
+fn check_data_block(words: &[u8], area: &[u8]) -> Result<(), Why> {
+    let count = u16_at(words, 2);
+    if area.len() != count + DATA_BLOCK_HEAD {
+        return Err(Why::ByteCount);
+    }
+    if area[0] != DATA_MARK {
+        return Err(Why::DataMark);
+    }
+    if u16_at(area, 1) != count {
+        return Err(Why::DataLength);
+    }
+    Ok(())
+}
+
 /// Column "Words".
 fn word_counts(command: u8) -> &'static [u8] {
     match command {
@@ -230,24 +271,26 @@ fn word_counts(command: u8) -> &'static [u8] {
         READ_ANDX => &[10, 12],
         WRITE_ANDX => &[12, 14],
         CLOSE => &[3],
+        READ | WRITE | LOCK_BYTE_RANGE | UNLOCK_BYTE_RANGE => &[5],
         LOGOFF_ANDX => &[2],
         TREE_DISCONNECT | PROCESS_EXIT => &[0],
         _ => &[],
     }
 }
 
-/// Column "May be followed by".
+/// Column "May be followed by", and "READ and WRITE may end a chain after
+/// LOCKING_ANDX".
 fn followers(command: u8) -> &'static [u8] {
     match command {
-        LOCKING_ANDX => &[READ_ANDX, WRITE_ANDX],
+        LOCKING_ANDX => &[READ_ANDX, WRITE_ANDX, READ, WRITE],
         READ_ANDX => &[CLOSE],
         WRITE_ANDX => &[WRITE_ANDX, READ_ANDX, CLOSE],
         _ => &[],
     }
 }
 
-/// The requests named ANDX.
-fn is_andx(command: u8) -> bool {
+/// The requests named ANDX. Their blocks name the next one, in replies too.
+pub fn is_andx(command: u8) -> bool {
     matches!(command, LOCKING_ANDX | READ_ANDX | WRITE_ANDX | LOGOFF_ANDX)
 }
 

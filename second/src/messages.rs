@@ -3,8 +3,11 @@
 //! its listing, that is kept as `Expected`, so that the reader of
 //! `grammar.rs` is itself checked against something.
 
+mod data_blocks;
+
 use crate::grammar::{
-    CLOSE, LOCKING_ANDX, LOGOFF_ANDX, PROCESS_EXIT, READ_ANDX, TREE_DISCONNECT, WRITE_ANDX,
+    CLOSE, DATA_BLOCK_HEAD, DATA_MARK, LOCKING_ANDX, LOCK_BYTE_RANGE, LOGOFF_ANDX, PROCESS_EXIT,
+    READ, READ_ANDX, TREE_DISCONNECT, UNLOCK_BYTE_RANGE, WRITE, WRITE_ANDX,
 };
 use crate::rng::Rng;
 use std::collections::HashSet;
@@ -62,6 +65,13 @@ enum Form {
         data: usize,
         after: usize,
     },
+    CoreRead,
+    /// The byte area is a data block of so many bytes.
+    CoreWrite {
+        data: usize,
+    },
+    LockRange,
+    UnlockRange,
     Close,
     Logoff,
     TreeDisconnect,
@@ -74,6 +84,10 @@ impl Form {
             Form::Locking { .. } => LOCKING_ANDX,
             Form::Read { .. } => READ_ANDX,
             Form::Write { .. } => WRITE_ANDX,
+            Form::CoreRead => READ,
+            Form::CoreWrite { .. } => WRITE,
+            Form::LockRange => LOCK_BYTE_RANGE,
+            Form::UnlockRange => UNLOCK_BYTE_RANGE,
             Form::Close => CLOSE,
             Form::Logoff => LOGOFF_ANDX,
             Form::TreeDisconnect => TREE_DISCONNECT,
@@ -85,6 +99,7 @@ impl Form {
         match self {
             Form::Locking { .. } => 8,
             Form::Read { words } | Form::Write { words, .. } => words,
+            Form::CoreRead | Form::CoreWrite { .. } | Form::LockRange | Form::UnlockRange => 5,
             Form::Close => 3,
             Form::Logoff => 2,
             Form::TreeDisconnect | Form::ProcessExit => 0,
@@ -104,6 +119,7 @@ impl Form {
                 after,
                 ..
             } => before + data + after,
+            Form::CoreWrite { data } => DATA_BLOCK_HEAD + data,
             _ => 0,
         }
     }
@@ -118,10 +134,13 @@ impl Form {
     }
 }
 
-/// The successions of "May be followed by".
-pub const SUCCESSIONS: [(u8, u8); 6] = [
+/// The successions of "May be followed by", those of document 02, request 3,
+/// last in their row.
+pub const SUCCESSIONS: [(u8, u8); 8] = [
     (LOCKING_ANDX, READ_ANDX),
     (LOCKING_ANDX, WRITE_ANDX),
+    (LOCKING_ANDX, READ),
+    (LOCKING_ANDX, WRITE),
     (READ_ANDX, CLOSE),
     (WRITE_ANDX, WRITE_ANDX),
     (WRITE_ANDX, READ_ANDX),
@@ -136,8 +155,9 @@ const UNLOCKS: usize = 13;
 const LOCKS: usize = 15;
 const DATA_LENGTH: usize = 21;
 const DATA_OFFSET: usize = 23;
+const CORE_COUNT: usize = 3;
 
-/// The ten sorts of block: each command with each word count, and each
+/// The fourteen sorts of block: each command with each word count, and each
 /// length of range.
 #[derive(Clone, Copy, PartialEq, Eq, Debug)]
 enum Sort {
@@ -147,19 +167,27 @@ enum Sort {
     Read12,
     Write12,
     Write14,
+    CoreRead,
+    CoreWrite,
+    LockRange,
+    UnlockRange,
     Close,
     Logoff,
     TreeDisconnect,
     ProcessExit,
 }
 
-const SORTS: [Sort; 10] = [
+const SORTS: [Sort; 14] = [
     Sort::Locking10,
     Sort::Locking20,
     Sort::Read10,
     Sort::Read12,
     Sort::Write12,
     Sort::Write14,
+    Sort::CoreRead,
+    Sort::CoreWrite,
+    Sort::LockRange,
+    Sort::UnlockRange,
     Sort::Close,
     Sort::Logoff,
     Sort::TreeDisconnect,
@@ -170,9 +198,14 @@ impl Sort {
     /// The sorts that the paper's table lets follow.
     fn next(self) -> &'static [Sort] {
         match self {
-            Sort::Locking10 | Sort::Locking20 => {
-                &[Sort::Read10, Sort::Read12, Sort::Write12, Sort::Write14]
-            }
+            Sort::Locking10 | Sort::Locking20 => &[
+                Sort::Read10,
+                Sort::Read12,
+                Sort::Write12,
+                Sort::Write14,
+                Sort::CoreRead,
+                Sort::CoreWrite,
+            ],
             Sort::Read10 | Sort::Read12 => &[Sort::Close],
             Sort::Write12 | Sort::Write14 => &[
                 Sort::Write12,
@@ -206,6 +239,12 @@ impl Sort {
                 data: rng.below(1 + size),
                 after: rng.pick(&[0, 0, 1, 2]),
             },
+            Sort::CoreRead => Form::CoreRead,
+            Sort::CoreWrite => Form::CoreWrite {
+                data: rng.below(1 + size),
+            },
+            Sort::LockRange => Form::LockRange,
+            Sort::UnlockRange => Form::UnlockRange,
             Sort::Close => Form::Close,
             Sort::Logoff => Form::Logoff,
             Sort::TreeDisconnect => Form::TreeDisconnect,
@@ -250,7 +289,13 @@ fn block(rng: &mut Rng, form: Form, offset: usize) -> Vec<u8> {
             put16(&mut bytes, DATA_LENGTH, data);
             put16(&mut bytes, DATA_OFFSET, offset + form.area() + before);
         }
+        Form::CoreWrite { data } => {
+            put16(&mut bytes, CORE_COUNT, data);
+            bytes[form.area()] = DATA_MARK;
+            put16(&mut bytes, form.area() + 1, data);
+        }
         Form::Read { .. } | Form::Logoff => bytes[ANDX_COMMAND] = 0xFF,
+        Form::CoreRead | Form::LockRange | Form::UnlockRange => {}
         Form::Close | Form::TreeDisconnect | Form::ProcessExit => {}
     }
     bytes
@@ -432,11 +477,17 @@ fn paths(most: usize) -> Vec<Vec<Sort>> {
 }
 
 /// The small chains that are altered and cut at every place.
-const BASES: [&[Sort]; 12] = [
+const BASES: [&[Sort]; 18] = [
     &[Sort::TreeDisconnect],
     &[Sort::ProcessExit],
     &[Sort::Logoff],
     &[Sort::Close],
+    &[Sort::CoreRead],
+    &[Sort::CoreWrite],
+    &[Sort::LockRange],
+    &[Sort::UnlockRange],
+    &[Sort::Locking10, Sort::CoreRead],
+    &[Sort::Locking20, Sort::CoreWrite],
     &[Sort::Read10, Sort::Close],
     &[Sort::Read12],
     &[Sort::Locking10, Sort::Read10],
@@ -475,6 +526,7 @@ pub fn all() -> Vec<Made> {
     random_chains(&mut maker);
     long_chains(&mut maker);
     write_data(&mut maker);
+    data_blocks::data_blocks(&mut maker);
     lock_ranges(&mut maker);
     word_counts(&mut maker);
     misfits(&mut maker);
@@ -547,6 +599,10 @@ fn random_chains(maker: &mut Maker) {
                 maker.push_chain("filled", chain);
             }
         }
+        let area = 32 + Form::CoreRead.area() + DATA_BLOCK_HEAD;
+        let form = Form::CoreWrite { data: size - area };
+        let chain = Chain::new(&mut maker.rng, form);
+        maker.push_chain("filled", chain);
     }
     for (kind, ranges) in [
         (0, 814),
@@ -839,11 +895,17 @@ fn lock_ranges(maker: &mut Maker) {
 
 /// Word counts that are not the table's, with room for the words.
 fn word_counts(maker: &mut Maker) {
-    let bases: [&[Sort]; 12] = [
+    let bases: [&[Sort]; 18] = [
         &[Sort::Locking10],
         &[Sort::Locking20],
         &[Sort::Read10],
         &[Sort::Write12],
+        &[Sort::CoreRead],
+        &[Sort::CoreWrite],
+        &[Sort::LockRange],
+        &[Sort::UnlockRange],
+        &[Sort::Locking10, Sort::CoreRead],
+        &[Sort::Locking20, Sort::CoreWrite],
         &[Sort::Close],
         &[Sort::Logoff],
         &[Sort::TreeDisconnect],
@@ -901,6 +963,7 @@ fn misfits(maker: &mut Maker) {
                 if second {
                     let before = match sort {
                         Sort::Read10 | Sort::Read12 => Sort::Locking10,
+                        Sort::CoreRead | Sort::CoreWrite => Sort::Locking20,
                         Sort::Write12 | Sort::Write14 | Sort::Close => Sort::Write12,
                         _ => continue,
                     };
@@ -937,6 +1000,8 @@ fn overlaps(maker: &mut Maker) {
         (Sort::Locking20, Sort::Read12),
         (Sort::Locking10, Sort::Write12),
         (Sort::Locking20, Sort::Write14),
+        (Sort::Locking10, Sort::CoreRead),
+        (Sort::Locking20, Sort::CoreWrite),
         (Sort::Write12, Sort::Write12),
         (Sort::Write14, Sort::Read10),
         (Sort::Write12, Sort::Close),
@@ -992,9 +1057,13 @@ fn overlaps(maker: &mut Maker) {
 
 /// ByteCount other than 0 where it must be 0, the bytes there or not.
 fn byte_counts(maker: &mut Maker) {
-    let bases: [&[Sort]; 9] = [
+    let bases: [&[Sort]; 13] = [
         &[Sort::Read10],
         &[Sort::Read12],
+        &[Sort::CoreRead],
+        &[Sort::LockRange],
+        &[Sort::UnlockRange],
+        &[Sort::Locking20, Sort::CoreRead],
         &[Sort::Close],
         &[Sort::Logoff],
         &[Sort::TreeDisconnect],
@@ -1044,9 +1113,11 @@ fn byte_counts(maker: &mut Maker) {
 
 /// Every AndXOffset from 0 to past the message, and far ones.
 fn andx_offsets(maker: &mut Maker) {
-    let bases: [&[Sort]; 8] = [
+    let bases: [&[Sort]; 10] = [
         &[Sort::Locking10, Sort::Read10],
         &[Sort::Locking20, Sort::Write12],
+        &[Sort::Locking10, Sort::CoreWrite],
+        &[Sort::Locking20, Sort::CoreRead],
         &[Sort::Read10, Sort::Close],
         &[Sort::Read12, Sort::Close],
         &[Sort::Write12, Sort::Close],
@@ -1121,7 +1192,7 @@ fn followers(maker: &mut Maker) {
                 }
             }
             let allowed = match sort {
-                Sort::Locking10 => command == READ_ANDX || command == WRITE_ANDX,
+                Sort::Locking10 => [READ_ANDX, WRITE_ANDX, READ, WRITE].contains(&command),
                 Sort::Write12 => [WRITE_ANDX, READ_ANDX, CLOSE].contains(&command),
                 Sort::Read10 | Sort::Read12 => command == CLOSE,
                 _ => false,
@@ -1134,10 +1205,14 @@ fn followers(maker: &mut Maker) {
             maker.push("followers", chain.bytes, expected);
         }
     }
-    // CLOSE has no AndX: words that look like one are not looked at.
-    for command in [CLOSE, READ_ANDX, WRITE_ANDX, 0x00, 0xFF] {
+    // These have no AndX: words that look like one are not looked at.
+    for command in [CLOSE, READ_ANDX, WRITE_ANDX, READ, WRITE, 0x00, 0xFF] {
         for sorts in [
             &[Sort::Close][..],
+            &[Sort::CoreRead][..],
+            &[Sort::LockRange][..],
+            &[Sort::UnlockRange][..],
+            &[Sort::Locking10, Sort::CoreRead][..],
             &[Sort::Read10, Sort::Close][..],
             &[Sort::Write12, Sort::Close][..],
         ] {

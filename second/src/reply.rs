@@ -1,6 +1,8 @@
-//! The reply, from "Header" and "Reply blocks" of document 01.
+//! The reply, from "Header" and "Reply blocks" of document 01, and the core
+//! commands' from source document 004.
 
 use crate::commands::Done;
+use crate::grammar::{DATA_BLOCK_HEAD, DATA_MARK, READ, WRITE};
 use crate::header::{COMMAND, FLAGS, FLAGS2, HEADER, PID_HIGH, STATUS, TID};
 use crate::refusals::WireRefusal;
 
@@ -36,12 +38,14 @@ impl<'r> Reply<'r> {
     /// Adds the block of a command that was done.
     pub fn done(&mut self, command: u8, done: &Done, memory: &[u8]) {
         self.link(command);
-        match done {
-            Done::Plain => self.block::<0>([], &[]),
-            Done::Linked => self.andx_block([], &[]),
+        match (done, command) {
+            (Done::Plain, _) => self.block::<0>([], &[]),
+            (Done::Linked, _) => self.andx_block([], &[]),
+            (Done::Read(place), READ) => self.data_block(&memory[place.clone()]),
+            (Done::Written(count), WRITE) => self.block([*count], &[]),
             // "AndX, 0xFFFF, 0, 0, length, data offset, ten zero bytes; the
             // bytes are the data"
-            Done::Read(place) => {
+            (Done::Read(place), _) => {
                 let data = &memory[place.clone()];
                 // Behind WordCount, 12 words and ByteCount.
                 let data_offset = (self.length + 1 + 24 + 2) as u16;
@@ -49,7 +53,7 @@ impl<'r> Reply<'r> {
                 self.andx_block([0xFFFF, 0, 0, length, data_offset, 0, 0, 0, 0, 0], data);
             }
             // "AndX, count, 0xFFFF, four zero bytes"
-            Done::Written(count) => self.andx_block([*count, 0xFFFF, 0, 0], &[]),
+            (Done::Written(count), _) => self.andx_block([*count, 0xFFFF, 0, 0], &[]),
         }
     }
 
@@ -88,13 +92,29 @@ impl<'r> Reply<'r> {
         self.put_rest(words, bytes);
     }
 
+    /// "READ 5 words (count, eight zero bytes), bytes 01, length, data, also when
+    /// there is no data (ByteCount 3)".
+    fn data_block(&mut self, data: &[u8]) {
+        let length = data.len() as u16;
+        self.put(&[5]);
+        self.put_words([length, 0, 0, 0, 0]);
+        self.put_words([length + DATA_BLOCK_HEAD as u16]);
+        self.put(&[DATA_MARK]);
+        self.put_words([length]);
+        self.put(data);
+    }
+
     /// The words, ByteCount, the bytes.
     fn put_rest<const N: usize>(&mut self, words: [u16; N], bytes: &[u8]) {
+        self.put_words(words);
+        self.put_words([bytes.len() as u16]);
+        self.put(bytes);
+    }
+
+    fn put_words<const N: usize>(&mut self, words: [u16; N]) {
         for word in words {
             self.put(&word.to_le_bytes());
         }
-        self.put(&(bytes.len() as u16).to_le_bytes());
-        self.put(bytes);
     }
 
     fn put(&mut self, bytes: &[u8]) {

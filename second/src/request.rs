@@ -1,8 +1,11 @@
-//! The requests: what "Words after AndX" of document 01 says stands in a
-//! block that the grammar has accepted.
+//! The requests: what "Words after AndX" of document 01, and for the core
+//! commands source document 004, say stands in a block that the grammar has
+//! accepted. A core command has the request of its AndX counterpart where the
+//! two do the same.
 
 use crate::grammar::{
-    Block, CLOSE, LOCKING_ANDX, LOGOFF_ANDX, PROCESS_EXIT, READ_ANDX, TREE_DISCONNECT, WRITE_ANDX,
+    Block, CLOSE, DATA_BLOCK_HEAD, LOCKING_ANDX, LOCK_BYTE_RANGE, LOGOFF_ANDX, PROCESS_EXIT, READ,
+    READ_ANDX, TREE_DISCONNECT, UNLOCK_BYTE_RANGE, WRITE, WRITE_ANDX,
 };
 use crate::header::{pid_high, whole_process};
 use crate::tables::Range;
@@ -24,14 +27,31 @@ pub enum Request<'m> {
         unlocks: Ranges<'m>,
         locks: Ranges<'m>,
     },
+    /// LOCK_BYTE_RANGE. "The process from the header; the lock is exclusive."
+    Lock {
+        fid: u16,
+        range: Range,
+    },
+    /// UNLOCK_BYTE_RANGE.
+    Unlock {
+        fid: u16,
+        range: Range,
+    },
+    /// READ_ANDX or READ.
     Read {
         fid: u16,
         range: Range,
     },
+    /// WRITE_ANDX, or a WRITE whose count is not 0.
     Write {
         fid: u16,
         offset: u64,
         data: &'m [u8],
+    },
+    /// "A core WRITE of count 0 sets the file's size to the offset".
+    Resize {
+        fid: u16,
+        size: u64,
     },
     TreeDisconnect,
     Logoff,
@@ -113,6 +133,16 @@ impl<'m> Request<'m> {
             LOCKING_ANDX => locking(words, &rest[2..], pid_high(message)),
             READ_ANDX => read(words),
             WRITE_ANDX => write(message, words),
+            READ => core_read(words),
+            WRITE => core_write(words, &rest[2 + DATA_BLOCK_HEAD..]),
+            LOCK_BYTE_RANGE => Request::Lock {
+                fid: u16_at(words, 0),
+                range: core_range(words),
+            },
+            UNLOCK_BYTE_RANGE => Request::Unlock {
+                fid: u16_at(words, 0),
+                range: core_range(words),
+            },
             TREE_DISCONNECT => Request::TreeDisconnect,
             LOGOFF_ANDX => Request::Logoff,
             command => unreachable!("the grammar accepts no command {command:#04X}"),
@@ -158,6 +188,34 @@ fn write<'m>(message: &'m [u8], words: &[u8]) -> Request<'m> {
         fid: u16_at(words, 4),
         offset: high_and_low(high(words, 24), u32_at(words, 6)),
         data: &message[start..start + length],
+    }
+}
+
+/// "READ, WRITE: FID, count 2, offset 4, remaining 2."
+fn core_read(words: &[u8]) -> Request<'static> {
+    Request::Read {
+        fid: u16_at(words, 0),
+        range: Range {
+            offset: u32_at(words, 4).into(),
+            length: u16_at(words, 2).into(),
+        },
+    }
+}
+
+/// The same words. The data are as many as the count.
+fn core_write<'m>(words: &[u8], data: &'m [u8]) -> Request<'m> {
+    let (fid, offset) = (u16_at(words, 0), u32_at(words, 4).into());
+    if data.is_empty() {
+        return Request::Resize { fid, size: offset };
+    }
+    Request::Write { fid, offset, data }
+}
+
+/// "LOCK, UNLOCK: FID, count 4, then offset 4."
+fn core_range(words: &[u8]) -> Range {
+    Range {
+        offset: u32_at(words, 6).into(),
+        length: u32_at(words, 2).into(),
     }
 }
 

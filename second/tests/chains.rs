@@ -3,7 +3,7 @@
 mod common;
 
 use common::{hex, lock, read, status, write, World};
-use second::builder::{locking, Ask, Header};
+use second::builder::{core_read, core_write, lock_range, locking, unlock_range, Ask, Header};
 use second::grammar::{blocks, Block, WRITE_ANDX};
 use second::host;
 use second::rng::Rng;
@@ -152,8 +152,8 @@ fn random_ask(rng: &mut Rng, follows: Option<&Ask>) -> Ask {
     let fid = 1 + rng.below(4) as u16;
     let offset = rng.below(40) as u64;
     let kinds: &[usize] = match follows {
-        None => &[0, 0, 1, 2, 2, 3, 4, 5, 6],
-        Some(Ask::Locking { .. }) => &[1, 2],
+        None => &[0, 0, 0, 0, 1, 2, 2, 3, 4, 5, 6, 7, 8, 9, 10],
+        Some(Ask::Locking { .. }) => &[1, 2, 2, 7, 8],
         Some(Ask::Write { .. }) => &[1, 2, 2, 2, 3],
         _ => &[3],
     };
@@ -173,7 +173,15 @@ fn random_ask(rng: &mut Rng, follows: Option<&Ask>) -> Ask {
         3 => Ask::Close { fid },
         4 => Ask::Logoff,
         5 => Ask::TreeDisconnect,
-        _ => Ask::ProcessExit,
+        6 => Ask::ProcessExit,
+        7 => core_read(fid, offset as u32, rng.below(60) as u16),
+        8 => core_write(
+            fid,
+            rng.pick(&[offset as u32, 4090]),
+            &[rng.byte(); 9][..rng.below(10)],
+        ),
+        9 => lock_range(fid, offset as u32, 4),
+        _ => unlock_range(fid, offset as u32, 4),
     }
 }
 

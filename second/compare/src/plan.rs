@@ -417,7 +417,7 @@ impl Planner {
                 widen(&mut ask);
             }
             if let (true, Some(fid)) = (same, asks[0].fid()) {
-                set_fid(&mut ask, fid);
+                ask.set_fid(fid);
             }
             asks.push(ask);
         }
@@ -743,15 +743,5 @@ fn near(rng: &mut Rng, number: u64) -> u64 {
 fn widen(ask: &mut Ask) {
     if let Ask::Read { offset, max, .. } = ask {
         (*offset, *max) = (0, u16::MAX);
-    }
-}
-
-fn set_fid(ask: &mut Ask, number: u16) {
-    match ask {
-        Ask::Locking { fid, .. }
-        | Ask::Read { fid, .. }
-        | Ask::Write { fid, .. }
-        | Ask::Close { fid } => *fid = number,
-        Ask::Logoff | Ask::TreeDisconnect | Ask::ProcessExit => {}
     }
 }

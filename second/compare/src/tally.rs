@@ -5,7 +5,7 @@ use crate::holders::Holders;
 use crate::processes::Processes;
 use crate::sides::Given;
 use second::call::Call;
-use second::grammar::SERVED;
+use second::grammar::{is_andx, SERVED};
 use second::refusals::WireRefusal;
 use second::words::Words;
 use std::collections::BTreeMap;
@@ -127,9 +127,10 @@ pub fn status(reply: &[u8]) -> (u8, u16) {
 /// The commands that a reply has blocks of, by its links.
 pub fn commands(message: &[u8], reply: &[u8]) -> Vec<u8> {
     let mut commands = vec![message[4]];
-    let mut offset = 32;
-    while reply[offset] >= 2 && reply[offset + 1] != 0xFF {
-        commands.push(reply[offset + 1]);
+    let (mut command, mut offset) = (message[4], 32);
+    while is_andx(command) && reply[offset] >= 2 && reply[offset + 1] != 0xFF {
+        command = reply[offset + 1];
+        commands.push(command);
         offset = usize::from(reply[offset + 3]) + 256 * usize::from(reply[offset + 4]);
     }
     commands

@@ -7,8 +7,8 @@
 #![forbid(unsafe_code)]
 
 use second::grammar::{
-    NotAChain, Why, CLOSE, LOCKING_ANDX, LOGOFF_ANDX, PROCESS_EXIT, READ_ANDX, SERVED,
-    TREE_DISCONNECT, WRITE_ANDX,
+    NotAChain, Why, CLOSE, LOCKING_ANDX, LOCK_BYTE_RANGE, LOGOFF_ANDX, PROCESS_EXIT, READ,
+    READ_ANDX, SERVED, TREE_DISCONNECT, UNLOCK_BYTE_RANGE, WRITE, WRITE_ANDX,
 };
 use second::listing::{answer, listing, text, Answer, Dropped};
 use second::messages::{all, Made, SUCCESSIONS};
@@ -257,6 +257,10 @@ fn check_own(messages: &[Made]) -> bool {
         (READ_ANDX, 12, 0),
         (WRITE_ANDX, 12, 0),
         (WRITE_ANDX, 14, 0),
+        (READ, 5, 0),
+        (WRITE, 5, 0),
+        (LOCK_BYTE_RANGE, 5, 0),
+        (UNLOCK_BYTE_RANGE, 5, 0),
         (CLOSE, 3, 0),
         (LOGOFF_ANDX, 2, 0),
         (TREE_DISCONNECT, 0, 0),
@@ -331,22 +335,35 @@ fn possible_reasons() -> BTreeSet<NotAChain> {
             // Counted together, under command 0.
             Why::NotServed => &[0],
             // The first block starts inside, so only those that may follow.
-            Why::StartOutside => &[READ_ANDX, WRITE_ANDX, CLOSE],
+            Why::StartOutside => &[READ_ANDX, WRITE_ANDX, CLOSE, READ, WRITE],
             Why::WordCount | Why::BytesOutside => &SERVED,
             // 35 bytes hold all of a block without words and bytes.
-            Why::WordsOutside | Why::ByteCountOutside => {
-                &[LOCKING_ANDX, READ_ANDX, WRITE_ANDX, CLOSE, LOGOFF_ANDX]
-            }
-            // Any ByteCount may do for a write.
+            Why::WordsOutside | Why::ByteCountOutside => &[
+                LOCKING_ANDX,
+                READ_ANDX,
+                WRITE_ANDX,
+                CLOSE,
+                READ,
+                WRITE,
+                LOCK_BYTE_RANGE,
+                UNLOCK_BYTE_RANGE,
+                LOGOFF_ANDX,
+            ],
+            // Any ByteCount may do for a WRITE_ANDX.
             Why::ByteCount => &[
                 LOCKING_ANDX,
                 READ_ANDX,
                 CLOSE,
+                READ,
+                WRITE,
+                LOCK_BYTE_RANGE,
+                UNLOCK_BYTE_RANGE,
                 LOGOFF_ANDX,
                 TREE_DISCONNECT,
                 PROCESS_EXIT,
             ],
             Why::DataBefore | Why::DataPast => &[WRITE_ANDX],
+            Why::DataMark | Why::DataLength => &[WRITE],
             Why::Follower => &[LOCKING_ANDX, READ_ANDX, WRITE_ANDX, LOGOFF_ANDX],
             Why::AndXOffset => &[LOCKING_ANDX, READ_ANDX, WRITE_ANDX],
         };

@@ -17,6 +17,8 @@
 
 #[path = "make_history/calls.rs"]
 mod calls;
+#[path = "make_history/core_commands.rs"]
+mod core_commands;
 #[path = "make_history/day.rs"]
 mod day;
 #[path = "make_history/holders.rs"]
@@ -77,6 +79,7 @@ fn made() -> Maker {
     plan::after_the_day(&mut maker);
     holders::holders(&mut maker);
     processes::processes(&mut maker);
+    core_commands::core_commands(&mut maker);
     maker
 }
 

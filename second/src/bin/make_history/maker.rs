@@ -51,6 +51,10 @@ impl Maker {
         unpack(&self.state.words).expect("sound tables")
     }
 
+    pub fn memory(&self) -> &[u8] {
+        &self.state.memory
+    }
+
     /// Makes a call and keeps it with its line.
     pub fn call(&mut self, call: Call) -> Answer {
         let before = (self.tables(), self.state.memory.clone());

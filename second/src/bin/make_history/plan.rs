@@ -5,7 +5,7 @@ use crate::day::CONNECTIONS;
 use crate::maker::{lengthened, open_call, read, write, Maker, User};
 use second::builder::{locking, Ask, Asked};
 use second::call::Call;
-use second::grammar::{CLOSE, LOCKING_ANDX, PROCESS_EXIT, READ_ANDX, WRITE_ANDX};
+use second::grammar::{CLOSE, CORE, LOCKING_ANDX, PROCESS_EXIT, READ_ANDX, WRITE_ANDX};
 use second::messages::{worked, SUCCESSIONS};
 use second::refusals::WireRefusal::{self, *};
 use second::tables::{LOCKS, OPENS, SESSIONS, TREES};
@@ -261,7 +261,8 @@ fn bars(maker: &mut Maker) {
     drop_pair(maker);
 }
 
-/// Every chain of LOCKING, READ, WRITE and CLOSE of up to so many blocks.
+/// Every chain of LOCKING, READ, WRITE and CLOSE of up to so many blocks. Those
+/// of core commands are in `core_commands.rs`.
 fn commands(most: usize) -> Vec<Vec<u8>> {
     let mut all: Vec<Vec<u8>> = [LOCKING_ANDX, READ_ANDX, WRITE_ANDX]
         .map(|c| vec![c])
@@ -271,7 +272,7 @@ fn commands(most: usize) -> Vec<Vec<u8>> {
         let chain = all[place].clone();
         let followers = SUCCESSIONS
             .iter()
-            .filter(|(one, _)| chain.last() == Some(one));
+            .filter(|(one, next)| chain.last() == Some(one) && !CORE.contains(next));
         for &(_, next) in followers.filter(|_| chain.len() < most) {
             all.push([chain.as_slice(), &[next]].concat());
         }

@@ -1,10 +1,12 @@
 //! Counts what a history reaches, and tells what it must reach.
 
+mod core_tally;
+
 use crate::calls::Answer;
 use second::call::Call;
 use second::grammar::{
-    blocks, Block, Why, CLOSE, LOCKING_ANDX, LOGOFF_ANDX, PROCESS_EXIT, READ_ANDX, SERVED,
-    TREE_DISCONNECT, WRITE_ANDX,
+    blocks, is_andx, Block, Why, CLOSE, LOCKING_ANDX, LOCK_BYTE_RANGE, LOGOFF_ANDX, PROCESS_EXIT,
+    READ, READ_ANDX, SERVED, TREE_DISCONNECT, UNLOCK_BYTE_RANGE, WRITE, WRITE_ANDX,
 };
 use second::header::header_numbers;
 use second::listing::{self, Dropped};
@@ -68,7 +70,14 @@ const SINGLE: [(&str, usize); 44] = [
 /// The two forms of ranges.
 const FORMS: [&str; 2] = ["range of 10 bytes", "range of 20 bytes"];
 /// The commands that a lock can bar.
-const BARRED: [u8; 3] = [LOCKING_ANDX, READ_ANDX, WRITE_ANDX];
+const BARRED: [u8; 6] = [
+    LOCKING_ANDX,
+    READ_ANDX,
+    WRITE_ANDX,
+    READ,
+    WRITE,
+    LOCK_BYTE_RANGE,
+];
 
 #[derive(Default)]
 pub struct Tally {
@@ -160,6 +169,7 @@ impl Tally {
                 self.note_first(message, &blocks[0], &answer.reply, before);
                 self.note_hanging(before, after);
                 self.note_process(message, &blocks[0], answer, before, after);
+                self.note_core(message, &blocks, &answer.reply, before);
             }
         }
     }
@@ -218,7 +228,10 @@ impl Tally {
                 let barred = asked.find(|asked| asked.range.overlaps(lock.range));
                 barred.map(|asked| (fid, asked.process))
             }
-            Request::Read { fid, .. } | Request::Write { fid, .. } => {
+            Request::Read { fid, .. }
+            | Request::Write { fid, .. }
+            | Request::Resize { fid, .. }
+            | Request::Lock { fid, .. } => {
                 let process = header_numbers(message).2;
                 let twin = lock.fid == fid && twins(lock.process, process);
                 let what = format!("{command}: holder a twin's lock of the same FID");
@@ -301,11 +314,16 @@ impl Tally {
                 );
             }
             Request::Read { range, .. } => {
-                let length = u16_at(reply, 11);
-                self.count_if(length == 0, "read of 0 bytes");
+                let (form, place) = match block.command {
+                    READ => ("core read", 1),
+                    _ => ("read", 11),
+                };
+                let length = u16_at(reply, place);
+                self.count_if(length == 0, &format!("{form} of 0 bytes"));
                 let fewer = u64::from(length) < range.length;
-                self.count_if(fewer, "read of fewer bytes than asked");
-                self.count_if(length == FILE_BYTES as u16, "read of 4096 bytes");
+                self.count_if(fewer, &format!("{form} of fewer bytes than asked"));
+                let whole = length == FILE_BYTES as u16;
+                self.count_if(whole, &format!("{form} of 4096 bytes"));
             }
             Request::Write { offset, data, .. } => {
                 self.count_if(data.is_empty(), "write of 0 bytes");
@@ -327,7 +345,9 @@ impl Tally {
             return;
         };
         let past = offset > before.files[usize::from(open.file)].size;
-        let gap = reply[32] == 6 && past && !data.is_empty();
+        // WordCount of a write that was done.
+        let done = reply[32] == if block.command == WRITE { 1 } else { 6 };
+        let gap = done && past && !data.is_empty();
         self.count_if(gap, "write over a gap");
     }
 
@@ -437,6 +457,7 @@ pub fn required() -> Vec<(String, usize)> {
     all.extend(refusals_by_command());
     all.extend(holders());
     all.extend(processes());
+    all.extend(core_tally::required());
     all
 }
 
@@ -452,9 +473,13 @@ fn holders() -> Vec<(String, usize)> {
             (format!("{refused}: {holder}"), 5)
         })
         .into();
-    for command in BARRED.map(name) {
-        all.push((format!("holder for {command} alone"), 5));
-        all.push((format!("holder for {command} in a chain"), 2));
+    for command in BARRED {
+        let name = name(command);
+        all.push((format!("holder for {name} alone"), 5));
+        // LOCK stands alone.
+        if command != LOCK_BYTE_RANGE {
+            all.push((format!("holder for {name} in a chain"), 2));
+        }
     }
     all
 }
@@ -476,19 +501,20 @@ fn processes() -> Vec<(String, usize)> {
 fn refusals_by_command() -> Vec<(String, usize)> {
     use WireRefusal::*;
     let (locking, read, write) = (LOCKING_ANDX, READ_ANDX, WRITE_ANDX);
-    let with_open = [locking, read, write, CLOSE];
-    let with_tree = [locking, read, write, CLOSE, TREE_DISCONNECT];
-    let commands: [(WireRefusal, &[u8]); 10] = [
+    let (lock, unlock) = (LOCK_BYTE_RANGE, UNLOCK_BYTE_RANGE);
+    let with_open = [locking, read, write, READ, WRITE, lock, unlock, CLOSE];
+    let commands: [(WireRefusal, &[u8]); 11] = [
         (NoSession, &SERVED),
-        (NoTree, &with_tree),
+        (NoTree, &with_open),
+        (NoTree, &[TREE_DISCONNECT]),
         (NoOpen, &with_open),
-        (Access, &[read, write]),
+        (Access, &[read, write, READ, WRITE]),
         (LockType, &[locking]),
-        (NotLocked, &[locking]),
+        (NotLocked, &[locking, unlock]),
         (RangePasses, &[locking]),
-        (Conflict, &[locking, read, write]),
-        (NoLockRecord, &[locking]),
-        (FileFull, &[write]),
+        (Conflict, &BARRED),
+        (NoLockRecord, &[locking, lock]),
+        (FileFull, &[write, WRITE]),
     ];
     let thing = |refusal: WireRefusal, command: u8| {
         let refusal = refusal_name(refusal.class_and_code());
@@ -511,6 +537,10 @@ pub fn name(command: u8) -> &'static str {
         LOCKING_ANDX => "LOCKING",
         READ_ANDX => "READ",
         WRITE_ANDX => "WRITE",
+        READ => "core READ",
+        WRITE => "core WRITE",
+        LOCK_BYTE_RANGE => "LOCK",
+        UNLOCK_BYTE_RANGE => "UNLOCK",
         TREE_DISCONNECT => "TREE_DISCONNECT",
         LOGOFF_ANDX => "LOGOFF",
         _ => "not served",
@@ -534,8 +564,9 @@ pub fn status(reply: &[u8]) -> (u8, u16) {
 /// The places of a reply's blocks.
 fn reply_blocks(reply: &[u8]) -> Vec<usize> {
     let mut places = vec![32];
-    let mut place = 32;
-    while reply[place] > 0 && reply[place + 1] != 0xFF {
+    let (mut command, mut place) = (reply[4], 32);
+    while is_andx(command) && reply[place] > 0 && reply[place + 1] != 0xFF {
+        command = reply[place + 1];
         place = usize::from(u16_at(reply, place + 3));
         places.push(place);
     }

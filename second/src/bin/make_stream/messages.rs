@@ -3,7 +3,7 @@
 
 use crate::day::chain;
 use crate::maker::{lengthened, read, write, Maker, User};
-use second::builder::{locking, Ask, Asked};
+use second::builder::{core_read, core_write, lock_range, locking, unlock_range, Ask, Asked};
 use second::listing::{self, Answer};
 use second::messages::{all, worked};
 use second::refusals::WireRefusal::*;
@@ -47,6 +47,7 @@ pub fn messages(maker: &mut Maker) -> Vec<Vec<u8>> {
     sent.malformed();
     sent.sizes();
     sent.locks_full();
+    sent.core_commands();
     sent.leaving();
     sent.messages
 }
@@ -193,6 +194,48 @@ impl Sent<'_> {
         self.with(OTHER, &[one.clone(), read(BEHIND, 0, 9)], wanted);
         self.done(TERMINAL, &[locking(FID, 0, &ranges, &[])]);
         self.done(OTHER, &[one]);
+    }
+
+    /// The core commands (document 02, request 3), alone and behind LOCKING, done
+    /// and refused.
+    fn core_commands(&mut self) {
+        let held: Asked = (7, 100, 10);
+        for ask in [
+            lock_range(FID, 100, 10),
+            core_write(FID, 100, b"core bytes"),
+            core_read(FID, 90, 30),
+            core_write(FID, 105, b""),
+            core_read(FID, 90, 30),
+            core_write(FID, 110, b""),
+            core_read(FID, 90, 30),
+        ] {
+            self.done(TERMINAL, &[ask]);
+        }
+        self.done(TERMINAL, &[locking(FID, 0, &[], &[]), core_read(FID, 0, 9)]);
+        let refused = [
+            (core_read(BEHIND, 109, 1), Conflict),
+            (core_write(BEHIND, 109, b"x"), Conflict),
+            (core_write(BEHIND, 105, b""), Conflict),
+            (core_write(BEHIND, 4096, b"x"), FileFull),
+            (core_write(BEHIND, 4097, b""), FileFull),
+            (core_read(9, 0, 9), NoOpen),
+        ];
+        for (ask, refusal) in refused {
+            let wanted = refusal.class_and_code();
+            self.with(OTHER, std::slice::from_ref(&ask), wanted);
+            self.with(OTHER, &[locking(BEHIND, 0, &[], &[]), ask], wanted);
+        }
+        for (ask, refusal) in [
+            (lock_range(BEHIND, 109, 1), Conflict),
+            (unlock_range(BEHIND, 100, 10), NotLocked),
+            (core_write(READ_ONLY, 0, b""), Access),
+        ] {
+            self.with(OTHER, &[ask], refusal.class_and_code());
+        }
+        let asks = [locking(FID, 0, &[held], &[]), core_write(FID, 50, b"w")];
+        self.done(TERMINAL, &asks);
+        self.done(OTHER, &[lock_range(BEHIND, 109, 1)]);
+        self.done(OTHER, &[unlock_range(BEHIND, 109, 1)]);
     }
 
     /// The opens, the tree and the session go, and what is asked of them then.
