@@ -2,9 +2,10 @@
 //! and with 1/33 who held it. The list as it then stood is written out here, and
 //! what the words say must be in it at that place.
 
+use crate::core_commands::between;
 use crate::sides::Given;
 use crate::tally::{commands, enough, status};
-use second::grammar::{blocks, LOCKING_ANDX, READ_ANDX, WRITE_ANDX};
+use second::grammar::{blocks, LOCKING_ANDX, LOCK_BYTE_RANGE, READ, READ_ANDX, WRITE};
 use second::header::header_numbers;
 use second::processes::{above_65_535, twins};
 use second::refusals::WireRefusal;
@@ -19,15 +20,40 @@ const LEAST: usize = 50;
 /// Where the command that a lock barred stood.
 const PLACES: [&str; 4] = ["alone", "before others", "second", "third or later"];
 
-/// What is to be met of holders, besides each command at each place.
-const MET: [&str; 19] = [
-    "READ: a lock held through another FID",
-    "READ: a lock held through the same FID by another process",
-    "READ: a lock held through the same FID by a twin",
-    "WRITE: the writer's own shared lock",
-    "WRITE: another's shared lock",
-    "WRITE: another's exclusive lock",
-    "WRITE: an exclusive lock held through the same FID by a twin",
+/// The commands that a lock can bar, each with where it can stand.
+const BARRED: [(&str, &[&str]); 7] = [
+    ("LOCKING", &["alone", "before others"]),
+    ("READ", &PLACES),
+    ("WRITE", &PLACES),
+    ("core READ", &["alone", "second"]),
+    ("core WRITE", &["alone", "second"]),
+    ("count 0", &["alone", "second"]),
+    ("LOCK", &["alone"]),
+];
+const READS: [&str; 2] = ["READ", "core READ"];
+const WRITES: [&str; 3] = ["WRITE", "core WRITE", "count 0"];
+
+/// What is to be met of the holders of reads.
+const MET_BY_READS: [&str; 3] = [
+    "a lock held through another FID",
+    "a lock held through the same FID by another process",
+    "a lock held through the same FID by a twin",
+];
+/// Of writes and sizes.
+const MET_BY_WRITES: [&str; 4] = [
+    "the writer's own shared lock",
+    "another's shared lock",
+    "another's exclusive lock",
+    "an exclusive lock held through the same FID by a twin",
+];
+/// Of core commands behind a LOCKING.
+const GRANTED: &str = "a lock granted by the LOCKING before it";
+/// Of locks, and of a chain.
+const MET: [&str; 16] = [
+    "LOCK: the asker's own exclusive lock",
+    "LOCK: the asker's own shared lock",
+    "LOCK: another's exclusive lock",
+    "LOCK: another's shared lock",
     "LOCKING: the asker's own lock",
     "LOCKING: for a shared lock",
     "LOCKING: moved by unlocks of the same request",
@@ -139,24 +165,33 @@ fn answers() -> Vec<String> {
 
 fn holders() -> Vec<String> {
     let mut all = Vec::new();
-    for command in [LOCKING_ANDX, READ_ANDX, WRITE_ANDX].map(name) {
-        for place in PLACES {
-            // LOCKING follows nothing.
-            if command != "LOCKING" || ["alone", "before others"].contains(&place) {
-                all.push(format!("{command} {place}"));
-            }
-        }
+    for (command, places) in BARRED {
+        all.extend(places.iter().map(|place| format!("{command} {place}")));
         all.extend(MET_BY_EACH.map(|what| format!("{command}: {what}")));
         all.push(format!("{command}: {ABOVE}"));
+    }
+    for command in READS {
+        all.extend(MET_BY_READS.map(|what| format!("{command}: {what}")));
+    }
+    for command in WRITES {
+        all.extend(MET_BY_WRITES.map(|what| format!("{command}: {what}")));
+    }
+    for command in ["core READ", "core WRITE", "count 0"] {
+        all.push(format!("{command}: {GRANTED}"));
     }
     all.extend(MET.map(str::to_string));
     all
 }
 
-fn name(command: u8) -> &'static str {
-    match command {
-        LOCKING_ANDX => "LOCKING",
-        READ_ANDX => "READ",
+/// The name of a command that a lock can bar.
+fn name(command: u8, request: &Request) -> &'static str {
+    match (command, request) {
+        (LOCKING_ANDX, _) => "LOCKING",
+        (LOCK_BYTE_RANGE, _) => "LOCK",
+        (READ_ANDX, _) => "READ",
+        (READ, _) => "core READ",
+        (WRITE, Request::Resize { .. }) => "count 0",
+        (WRITE, _) => "core WRITE",
         _ => "WRITE",
     }
 }
@@ -166,6 +201,8 @@ struct Conflict<'m> {
     requests: Vec<Request<'m>>,
     /// The place in the chain of the one refused.
     refused: usize,
+    /// Its name.
+    command: &'static str,
     /// The header's process.
     process: u32,
     /// As the call left them, so as the refused command found them.
@@ -185,8 +222,9 @@ impl<'m> Conflict<'m> {
         holder: HolderWords,
         words: &Words,
     ) -> Result<Conflict<'m>, String> {
-        let read = blocks(message).flatten();
-        let requests: Vec<_> = read.map(|block| Request::read(message, &block)).collect();
+        let read: Vec<_> = blocks(message).flatten().collect();
+        let requests = read.iter().map(|block| Request::read(message, block));
+        let requests: Vec<_> = requests.collect();
         let tables = unpack(words).ok_or("a holder in tables that are not sound")?;
         let list = list(&tables, &requests[begun - 1]);
         let place = holder[3] as usize;
@@ -205,6 +243,7 @@ impl<'m> Conflict<'m> {
             return Err(format!("holder {holder:?}, at its place {named:?}"));
         }
         Ok(Conflict {
+            command: name(read[begun - 1].command, &requests[begun - 1]),
             requests,
             refused: begun - 1,
             process: header_numbers(message).2,
@@ -228,11 +267,7 @@ impl<'m> Conflict<'m> {
     }
 
     fn count(&self, holders: &mut Holders) {
-        let command = match self.request() {
-            Request::Locking { .. } => name(LOCKING_ANDX),
-            Request::Read { .. } => name(READ_ANDX),
-            _ => name(WRITE_ANDX),
-        };
+        let command = self.command;
         let place = match (self.refused, self.requests.len()) {
             (0, 1) => PLACES[0],
             (0, _) => PLACES[1],
@@ -248,17 +283,21 @@ impl<'m> Conflict<'m> {
             Request::Locking { fid, kind, .. } => {
                 self.count_locking(holders, fid, kind & TYPE_SHARED != 0)
             }
+            Request::Lock { fid, range } => {
+                self.count_around(holders, fid, range, |_| true);
+                self.count_lock(holders, fid);
+            }
             Request::Read { fid, range } => {
-                let own = |lock: &Lock| lock.fid == fid && lock.process == self.process;
-                self.count_around(holders, command, fid, range, |l| !l.shared && !own(l));
+                let own = |lock: &Lock| self.owns(fid, lock);
+                self.count_around(holders, fid, range, |l| !l.shared && !own(l));
                 self.count_read(holders, fid);
             }
             Request::Write { fid, offset, data } => {
                 let length = data.len() as u64;
-                let own = |lock: &Lock| lock.fid == fid && lock.process == self.process;
-                let range = Range { offset, length };
-                self.count_around(holders, command, fid, range, |l| l.shared || !own(l));
-                self.count_write(holders, fid, own(self.holder()));
+                self.count_write(holders, fid, Range { offset, length });
+            }
+            Request::Resize { fid, size } => {
+                self.count_write(holders, fid, between(&self.tables, fid, size));
             }
             _ => holders
                 .wrong
@@ -271,15 +310,36 @@ impl<'m> Conflict<'m> {
         let earlier = self.place >= self.tables.locks.count - granted;
         let what = "a lock granted by an earlier command of the chain";
         holders.met_if(self.refused > 0 && earlier, what);
+        let what = format!("{command}: {GRANTED}");
+        holders.met_if(self.refused == 1 && earlier, &what);
+    }
+
+    /// Whether the sender holds the lock through the FID.
+    fn owns(&self, fid: u16, lock: &Lock) -> bool {
+        (lock.fid, lock.process) == (fid, self.process)
+    }
+
+    fn count_lock(&self, holders: &mut Holders, fid: u16) {
+        let whose = match self.owns(fid, self.holder()) {
+            true => "the asker's own",
+            false => "another's",
+        };
+        let kind = match self.holder().shared {
+            true => "shared",
+            false => "exclusive",
+        };
+        holders.met(format!("LOCK: {whose} {kind} lock"));
     }
 
     fn count_read(&self, holders: &mut Holders, fid: u16) {
-        holders.met(match self.holder().fid == fid {
-            false => "READ: a lock held through another FID",
-            true => "READ: a lock held through the same FID by another process",
-        });
-        let what = "READ: a lock held through the same FID by a twin";
-        holders.met_if(self.is_twins(fid), what);
+        let [elsewhere, same, twin] = MET_BY_READS;
+        let what = if self.holder().fid == fid {
+            same
+        } else {
+            elsewhere
+        };
+        holders.met(format!("{}: {what}", self.command));
+        holders.met_if(self.is_twins(fid), &format!("{}: {twin}", self.command));
     }
 
     /// Whether the holder's process differs in the upper half only.
@@ -287,14 +347,19 @@ impl<'m> Conflict<'m> {
         self.holder().fid == fid && twins(self.holder().process, self.process)
     }
 
-    fn count_write(&self, holders: &mut Holders, fid: u16, own: bool) {
-        holders.met(match (own, self.holder().shared) {
-            (true, _) => "WRITE: the writer's own shared lock",
-            (false, true) => "WRITE: another's shared lock",
-            (false, false) => "WRITE: another's exclusive lock",
-        });
-        let what = "WRITE: an exclusive lock held through the same FID by a twin";
-        holders.met_if(self.is_twins(fid) && !self.holder().shared, what);
+    /// A write, or a size set, that covers the range.
+    fn count_write(&self, holders: &mut Holders, fid: u16, range: Range) {
+        let own = |lock: &Lock| self.owns(fid, lock);
+        self.count_around(holders, fid, range, |l| l.shared || !own(l));
+        let [own_shared, shared, exclusive, twin] = MET_BY_WRITES;
+        let what = match (own(self.holder()), self.holder().shared) {
+            (true, _) => own_shared,
+            (false, true) => shared,
+            (false, false) => exclusive,
+        };
+        holders.met(format!("{}: {what}", self.command));
+        let twins = self.is_twins(fid) && !self.holder().shared;
+        holders.met_if(twins, &format!("{}: {twin}", self.command));
     }
 
     /// Counts the others in the way, and those that are not, around the holder.
@@ -302,7 +367,6 @@ impl<'m> Conflict<'m> {
     fn count_around(
         &self,
         holders: &mut Holders,
-        command: &str,
         fid: u16,
         range: Range,
         in_the_way: impl Fn(&Lock) -> bool,
@@ -321,7 +385,7 @@ impl<'m> Conflict<'m> {
             }),
         ];
         for (what, found) in MET_BY_EACH.into_iter().zip(found) {
-            holders.met_if(found, &format!("{command}: {what}"));
+            holders.met_if(found, &format!("{}: {what}", self.command));
         }
     }
 
@@ -342,7 +406,7 @@ impl<'m> Conflict<'m> {
         };
         let at = from + at;
         let range = asked[at].range;
-        self.count_around(holders, "LOCKING", fid, range, |l| !(l.shared && shared));
+        self.count_around(holders, fid, range, |l| !(l.shared && shared));
         holders.met_if(shared, "LOCKING: for a shared lock");
         match (own, self.list[self.place].0) {
             (None, Some(in_table)) => {

@@ -7,6 +7,7 @@
 //! call to print before it is made.
 
 mod call;
+mod core_commands;
 mod crash;
 mod damage;
 mod holders;
@@ -58,7 +59,7 @@ impl Run {
 
     /// Empties the tables, from whatever they hold.
     fn begin_history(&mut self) -> Result<(), String> {
-        self.tally.histories += 1;
+        self.tally.begin_history();
         let words = &mut self.sides.words;
         words.fill_with(|| self.planner.rng.number());
         self.make(&Trial::Empty)?;

@@ -1,8 +1,11 @@
 //! Plans the calls: mostly plausible ones for the tables as they are, so
 //! that every answer is met often, with errors and damage mixed in.
 
+mod core_asks;
+
 use crate::call::Trial;
 use crate::sides::LARGEST;
+use core_asks::set_across;
 use second::builder::{locking, message, Ask, Asked, Header};
 use second::call::Call;
 use second::grammar::blocks;
@@ -10,6 +13,7 @@ use second::header::whole_process;
 use second::listing::dropped;
 use second::message::ROOM_BYTES;
 use second::messages::{all, Made};
+use second::processes::twins;
 use second::rng::Rng;
 use second::tables::{Lock, Tables};
 
@@ -35,6 +39,10 @@ const EDGES: [u64; 14] = [
     4096,
 ];
 
+/// The kinds of command, in the order of [`Mood::asks`].
+const KINDS: usize = 11;
+const FIRST_CORE: usize = 7;
+
 /// What the calls tend to for a while.
 #[derive(Clone, Copy, Debug, PartialEq, Eq)]
 enum Mood {
@@ -57,14 +65,14 @@ impl Mood {
         }
     }
 
-    /// Weights: LOCKING, READ, WRITE, CLOSE, LOGOFF, TREE_DISCONNECT,
-    /// PROCESS_EXIT.
-    fn asks(self) -> [usize; 7] {
+    /// Weights: LOCKING, READ_ANDX, WRITE_ANDX, CLOSE, LOGOFF, TREE_DISCONNECT,
+    /// PROCESS_EXIT, then READ, WRITE, LOCK, UNLOCK.
+    fn asks(self) -> [usize; KINDS] {
         match self {
-            Mood::Grow | Mood::Fill => [300, 200, 200, 4, 1, 1, 2],
-            Mood::Work => [300, 250, 300, 20, 3, 4, 12],
-            Mood::Locks => [700, 60, 90, 5, 1, 1, 5],
-            Mood::Shrink => [100, 80, 80, 60, 12, 16, 20],
+            Mood::Grow | Mood::Fill => [300, 200, 200, 4, 1, 1, 2, 50, 80, 60, 40],
+            Mood::Work => [300, 250, 300, 20, 3, 4, 12, 70, 130, 60, 60],
+            Mood::Locks => [700, 60, 90, 5, 1, 1, 5, 30, 60, 100, 40],
+            Mood::Shrink => [100, 80, 80, 60, 12, 16, 20, 20, 40, 20, 20],
         }
     }
 }
@@ -295,15 +303,11 @@ impl Planner {
     }
 
     fn take_message(&mut self, tables: &Tables) -> Trial {
-        let scene = self.scene(tables);
-        let mut message = if self.once_in(25) {
-            self.listed_message(&scene)
-        } else {
-            let asks = self.asks(tables, &scene);
-            self.written(scene.header, &asks)
-        };
+        let (scene, mut message) = self.message(tables);
         if message.len() >= 35 && self.once_in(14) {
             self.damage(&mut message);
+        } else if self.once_in(5) && dropped(&message).is_none() {
+            self.damage_data_block(&mut message);
         }
         Trial::Call {
             call: Call::TakeMessage {
@@ -313,6 +317,26 @@ impl Planner {
             memory: self.memory_length(),
             room: self.room_length(),
         }
+    }
+
+    /// A message, with who sends it.
+    fn message(&mut self, tables: &Tables) -> (Scene, Vec<u8>) {
+        if self.once_in(10) {
+            if let Some(lock) = self.held_to_ask_for(tables) {
+                let scene = self.owners_scene(tables, lock);
+                let asks = self.core_at_lock(tables, &scene, lock);
+                let message = self.written(scene.header, &asks);
+                return (scene, message);
+            }
+        }
+        let scene = self.scene(tables);
+        let message = if self.once_in(25) {
+            self.listed_message(&scene)
+        } else {
+            let asks = self.asks(tables, &scene);
+            self.written(scene.header, &asks)
+        };
+        (scene, message)
     }
 
     /// A message of the asks, with free bytes here and there.
@@ -330,7 +354,7 @@ impl Planner {
 
     fn scene(&mut self, tables: &Tables) -> Scene {
         if self.once_in(6) {
-            if let Some(lock) = self.held(tables) {
+            if let Some(lock) = self.held_to_ask_for(tables) {
                 return self.owners_scene(tables, lock);
             }
         }
@@ -404,20 +428,26 @@ impl Planner {
         let often = self.rng.pick(&[1, 2, 2, 6]);
         while asks.len() < 12 && !self.once_in(often) {
             let followers: &[usize] = match &asks[asks.len() - 1] {
-                Ask::Locking { .. } => &[1, 2],
+                Ask::Locking { .. } => &[1, 1, 2, 2, FIRST_CORE, FIRST_CORE + 1],
                 Ask::Read { .. } => &[3],
                 Ask::Write { .. } => &[2, 2, 2, 1, 1, 3],
                 _ => break,
             };
-            let any = self.rng.below(7);
+            let any = self.rng.below(KINDS);
+            let core = FIRST_CORE + self.rng.below(KINDS - FIRST_CORE);
             let next = self.rng.pick(followers);
-            let next = self.seldom(next, &[next, next, next, next, any]);
+            let next = self.seldom(next, &[next, next, next, next, any, core]);
             let mut ask = self.ask(next, tables, scene);
             if asks.len() > 1 && self.once_in(2) {
                 widen(&mut ask);
             }
-            if let (true, Some(fid)) = (same, asks[0].fid()) {
-                ask.set_fid(fid);
+            match asks[0].fid() {
+                _ if next >= FIRST_CORE && self.once_in(12) => ask.set_fid(self.any_number()),
+                Some(fid) if same => ask.set_fid(fid),
+                _ => {}
+            }
+            if self.once_in(3) {
+                set_across(&mut ask, &asks[0]);
             }
             asks.push(ask);
         }
@@ -451,25 +481,46 @@ impl Planner {
         match kind {
             0 => self.locking(fid, tables, scene),
             1 => {
-                let some = self.rng.below(100) as u16;
-                Ask::Read {
+                let mut ask = Ask::Read {
+                    max: self.max(),
                     fid,
                     offset: self.place(tables, scene, fid),
-                    max: self
-                        .rng
-                        .pick(&[some, some, 0, 1, 2, 10, 4096, 4097, 65_535]),
                     long: self.once_in(2),
+                };
+                if self.once_in(8) {
+                    widen(&mut ask);
                 }
+                ask
             }
             2 => self.write(fid, tables, scene),
             3 => Ask::Close { fid },
             4 => Ask::Logoff,
             5 => Ask::TreeDisconnect,
-            _ => Ask::ProcessExit,
+            6 => Ask::ProcessExit,
+            _ => self.core_ask(kind - FIRST_CORE, fid, tables, scene),
         }
     }
 
+    /// How many bytes to read.
+    fn max(&mut self) -> u16 {
+        let some = self.rng.below(100) as u16;
+        self.rng
+            .pick(&[some, some, 0, 1, 2, 10, 4096, 4097, 65_535])
+    }
+
     fn write(&mut self, fid: u16, tables: &Tables, scene: &Scene) -> Ask {
+        let (offset, length) = self.span_to_write(fid, tables, scene);
+        Ask::Write {
+            fid,
+            offset,
+            data: self.rng.bytes(length),
+            long: self.once_in(2),
+            around: self.rng.pick(&[(0, 0), (0, 0), (1, 0), (0, 1), (3, 2)]),
+        }
+    }
+
+    /// Offset and length of a write.
+    fn span_to_write(&mut self, fid: u16, tables: &Tables, scene: &Scene) -> (u64, usize) {
         let (few, some) = (self.rng.below(30), self.rng.below(300));
         let length = self.rng.pick(&[few, few, few, few, some, 0, 1, 2]);
         let length = self.seldom(length, &[2000, 4095, 4096, 4097, 6000]);
@@ -478,13 +529,7 @@ impl Planner {
             0 => to_the_end.saturating_sub(1),
             _ => self.place(tables, scene, fid),
         };
-        Ask::Write {
-            fid,
-            offset,
-            data: self.rng.bytes(length),
-            long: self.once_in(2),
-            around: self.rng.pick(&[(0, 0), (0, 0), (1, 0), (0, 1), (3, 2)]),
-        }
+        (offset, length)
     }
 
     /// An offset for a read or a write.
@@ -529,8 +574,22 @@ impl Planner {
         self.held_that(tables, |_| true)
     }
 
+    /// Any lock, or one behind a twin's alike: these are few.
+    fn held_to_ask_for(&mut self, tables: &Tables) -> Option<Lock> {
+        let locks = tables.locks.in_use();
+        let behind_twin = |lock: &Lock| {
+            let alike = |other: &&Lock| (other.fid, other.range) == (lock.fid, lock.range);
+            let first = locks.iter().find(alike);
+            first.is_some_and(|first| twins(first.process, lock.process))
+        };
+        match self.once_in(4) {
+            true => self.held_that(tables, behind_twin),
+            false => self.held(tables),
+        }
+    }
+
     fn locking(&mut self, fid: u16, tables: &Tables, scene: &Scene) -> Ask {
-        if self.once_in(6) {
+        if self.once_in(5) {
             if let Some(lock) = self.held_that(tables, |lock| lock.fid == fid && lock.shared) {
                 return self.shared_again(lock);
             }
@@ -686,18 +745,24 @@ impl Planner {
         bytes[28..30].copy_from_slice(&scene.header.uid.to_le_bytes());
         let read: Vec<_> = blocks(&bytes).flatten().collect();
         for block in read {
-            let place = match block.command {
-                0x04 => block.offset + 1,
-                0x24 | 0x2E | 0x2F => block.offset + 5,
+            // The places of the FID and of an offset.
+            let (fid_at, offset_at) = match block.command {
+                0x04 => (1, None),
+                0x0A | 0x0B => (1, Some(5)),
+                0x0C | 0x0D => (1, Some(7)),
+                0x24 => (5, None),
+                0x2E | 0x2F => (5, Some(7)),
                 _ => continue,
             };
             if !scene.fids.is_empty() {
                 let fid = self.rng.pick(&scene.fids).to_le_bytes();
+                let place = block.offset + fid_at;
                 bytes[place..place + 2].copy_from_slice(&fid);
             }
             // A low offset, so that not every write is past the end.
-            if block.command != 0x04 && self.once_in(2) {
-                bytes[place + 3..place + 6].fill(0);
+            if let (Some(offset_at), true) = (offset_at, self.once_in(2)) {
+                let place = block.offset + offset_at;
+                bytes[place + 1..place + 4].fill(0);
             }
         }
         bytes

@@ -2,13 +2,14 @@
 //! differ in the upper half only (document 02, request 4). Their locks as
 //! holders are counted with the holders.
 
+use crate::core_commands::between;
 use crate::sides::Given;
 use crate::tally::{commands, enough, status};
 use second::call::Call;
-use second::grammar::blocks;
+use second::grammar::{blocks, READ, WRITE};
 use second::header::header_numbers;
 use second::processes::{above_65_535, twins};
-use second::request::{Ranges, Request, TYPE_LARGE};
+use second::request::{OwnedRange, Request, TYPE_LARGE};
 use second::tables::{Lock, Open, Range, Tables};
 use second::words::{unpack, Words};
 use std::collections::BTreeMap;
@@ -17,7 +18,7 @@ use std::collections::BTreeMap;
 const LEAST: usize = 50;
 
 /// What is to be met.
-const MET: [&str; 8] = [
+const MET: [&str; 12] = [
     "open added for a process above 65,535",
     "open added beside a twin's of the same UID",
     "PROCESS_EXIT takes opens, a twin's stays",
@@ -26,10 +27,16 @@ const MET: [&str; 8] = [
     "PROCESS_EXIT of a process above 65,535 takes opens",
     "READ done over an own exclusive lock of a process above 65,535",
     "WRITE done over an own exclusive lock of a process above 65,535",
+    "core READ done over an own exclusive lock of a process above 65,535",
+    "core WRITE done over an own exclusive lock of a process above 65,535",
+    "size set over an own exclusive lock of a process above 65,535",
+    "LOCK: lock taken with PIDHigh not 0",
 ];
+/// Of UNLOCK as of each form of ranges.
+const RELEASES: [&str; 3] = ["10 bytes", "20 bytes", "UNLOCK"];
 /// Of ranges of 10 bytes and of 20.
-const MET_BY_FORM: [&str; 4] = [
-    "lock taken with PIDHigh not 0",
+const TAKEN: &str = "lock taken with PIDHigh not 0";
+const MET_BY_RELEASE: [&str; 3] = [
     "unlock done with PIDHigh not 0",
     "unlock done, a twin's lock alike standing before it",
     "unlock refused 1/158, a twin holding such a lock",
@@ -101,27 +108,47 @@ impl Processes {
                     _ => "20 bytes",
                 };
                 let taken = done && !locks.is_empty() && above_65_535(process);
-                self.met_if(taken, &format!("{form}: lock taken with PIDHigh not 0"));
-                self.count_unlocks(fid, unlocks, form, held, done);
+                self.met_if(taken, &format!("{form}: {TAKEN}"));
+                self.count_unlocks(fid, unlocks.iter(), form, held, done);
+            }
+            Request::Lock { .. } if done => {
+                self.met_if(above_65_535(process), &format!("LOCK: {TAKEN}"));
+            }
+            Request::Unlock { fid, range } if done || status(reply) == (1, 158) => {
+                let unlock = OwnedRange { process, range };
+                self.count_unlocks(fid, std::iter::once(unlock), "UNLOCK", held, done);
             }
             Request::Read { fid, range } if done => {
-                let what = "READ done over an own exclusive lock of a process above 65,535";
-                self.met_if(
-                    above_65_535(process) && owned(held, fid, process, range),
-                    what,
-                );
+                let what = match block.command {
+                    READ => "core READ done",
+                    _ => "READ done",
+                };
+                self.count_over(held, (fid, process), range, what);
             }
             Request::Write { fid, offset, data } if done => {
                 let length = data.len() as u64;
-                let range = Range { offset, length };
-                let what = "WRITE done over an own exclusive lock of a process above 65,535";
-                self.met_if(
-                    above_65_535(process) && owned(held, fid, process, range),
-                    what,
-                );
+                let what = match block.command {
+                    WRITE => "core WRITE done",
+                    _ => "WRITE done",
+                };
+                self.count_over(held, (fid, process), Range { offset, length }, what);
+            }
+            Request::Resize { fid, size } if done => {
+                let range = between(before, fid, size);
+                self.count_over(held, (fid, process), range, "size set");
             }
             _ => {}
         }
+    }
+
+    /// A read or a write of an owner that was done.
+    fn count_over(&mut self, held: &[Lock], owner: (u16, u32), range: Range, what: &str) {
+        let what = format!("{what} over an own exclusive lock of a process above 65,535");
+        let own = |lock: &Lock| (lock.fid, lock.process) == owner && !lock.shared;
+        let over = held
+            .iter()
+            .any(|lock| own(lock) && lock.range.overlaps(range));
+        self.met_if(over && above_65_535(owner.1), &what);
     }
 
     /// So many opens there were before.
@@ -149,9 +176,16 @@ impl Processes {
     }
 
     /// The unlocks in turn, up to the first that finds no lock.
-    fn count_unlocks(&mut self, fid: u16, unlocks: Ranges, form: &str, held: &[Lock], done: bool) {
+    fn count_unlocks(
+        &mut self,
+        fid: u16,
+        unlocks: impl Iterator<Item = OwnedRange>,
+        form: &str,
+        held: &[Lock],
+        done: bool,
+    ) {
         let mut list = held.to_vec();
-        for unlock in unlocks.iter() {
+        for unlock in unlocks {
             let alike = |lock: &Lock| lock.fid == fid && lock.range == unlock.range;
             let equal = |lock: &Lock| alike(lock) && lock.process == unlock.process;
             let is_twins = |lock: &Lock| alike(lock) && twins(lock.process, unlock.process);
@@ -173,8 +207,9 @@ impl Processes {
         let mut good = true;
         println!("processes above 65,535, and twins, which differ in the upper half only:");
         let mut all: Vec<String> = MET.map(str::to_string).into();
-        for form in ["10 bytes", "20 bytes"] {
-            all.extend(MET_BY_FORM.map(|what| format!("{form}: {what}")));
+        all.extend(["10 bytes", "20 bytes"].map(|form| format!("{form}: {TAKEN}")));
+        for form in RELEASES {
+            all.extend(MET_BY_RELEASE.map(|what| format!("{form}: {what}")));
         }
         for what in all {
             let count = self.met.get(&what).copied().unwrap_or(0);
@@ -183,11 +218,4 @@ impl Processes {
         }
         good
     }
-}
-
-/// Whether an exclusive lock of the owner overlaps the range.
-fn owned(held: &[Lock], fid: u16, process: u32, range: Range) -> bool {
-    held.iter().any(|lock| {
-        lock.fid == fid && lock.process == process && !lock.shared && lock.range.overlaps(range)
-    })
 }

@@ -173,7 +173,8 @@ fn explained(message: &[u8]) -> String {
             let (uid, tid, process) = header_numbers(message);
             let mut text = format!("  TID {tid}, process {process}, UID {uid}\n");
             for block in blocks {
-                text += &format!("  {}\n", request(&Request::read(message, &block)));
+                let request = request(&Request::read(message, &block));
+                text += &format!("  {:02X}: {request}\n", block.command);
             }
             text
         }

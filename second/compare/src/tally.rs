@@ -1,6 +1,7 @@
 //! Counts what was met, and says what was not met often enough.
 
 use crate::call::Trial;
+use crate::core_commands::CoreCommands;
 use crate::holders::Holders;
 use crate::processes::Processes;
 use crate::sides::Given;
@@ -18,7 +19,7 @@ const LEAST_OF_COMMAND: usize = 20;
 #[derive(Default)]
 pub struct Tally {
     pub calls: usize,
-    pub histories: usize,
+    histories: usize,
     pub damaged: usize,
     pub damaged_but_sound: usize,
     numbers: BTreeMap<(&'static str, u8), usize>,
@@ -35,6 +36,7 @@ pub struct Tally {
     most: [u64; 4],
     holders: Holders,
     processes: Processes,
+    core: CoreCommands,
 }
 
 /// Every call's numbers, from "What a call returns".
@@ -90,15 +92,14 @@ fn possible(refusal: WireRefusal, command: u8) -> bool {
     let commands: &[u8] = match refusal {
         WireRefusal::NotServed => &[],
         WireRefusal::NotASentence | WireRefusal::NoSession => &SERVED,
-        WireRefusal::NoTree => &[0x04, 0x24, 0x2E, 0x2F, 0x71],
-        WireRefusal::NoOpen => &[0x04, 0x24, 0x2E, 0x2F],
-        WireRefusal::Access => &[0x2E, 0x2F],
-        WireRefusal::Conflict => &[0x24, 0x2E, 0x2F],
-        WireRefusal::LockType
-        | WireRefusal::NotLocked
-        | WireRefusal::RangePasses
-        | WireRefusal::NoLockRecord => &[0x24],
-        WireRefusal::FileFull => &[0x2F],
+        WireRefusal::NoTree => &[0x04, 0x0A, 0x0B, 0x0C, 0x0D, 0x24, 0x2E, 0x2F, 0x71],
+        WireRefusal::NoOpen => &[0x04, 0x0A, 0x0B, 0x0C, 0x0D, 0x24, 0x2E, 0x2F],
+        WireRefusal::Access => &[0x0A, 0x0B, 0x2E, 0x2F],
+        WireRefusal::Conflict => &[0x0A, 0x0B, 0x0C, 0x24, 0x2E, 0x2F],
+        WireRefusal::LockType | WireRefusal::RangePasses => &[0x24],
+        WireRefusal::NotLocked => &[0x0D, 0x24],
+        WireRefusal::NoLockRecord => &[0x0C, 0x24],
+        WireRefusal::FileFull => &[0x0B, 0x2F],
     };
     commands.contains(&command)
 }
@@ -137,6 +138,11 @@ pub fn commands(message: &[u8], reply: &[u8]) -> Vec<u8> {
 }
 
 impl Tally {
+    pub fn begin_history(&mut self) {
+        self.histories += 1;
+        self.core.begin_history();
+    }
+
     /// Counts a call, these being the reply room after it, and the words before
     /// and after it.
     pub fn count(
@@ -163,6 +169,7 @@ impl Tally {
         };
         if let Some(call) = trial.call() {
             self.processes.count(call, given, reply, before, after);
+            self.core.count(call, given, reply, before);
         }
         if let Some(Call::TakeMessage { message, .. }) = trial.call() {
             self.holders.count(message, given, reply, after);
@@ -236,6 +243,7 @@ impl Tally {
             self.print_chains(),
             self.holders.print(),
             self.processes.print(),
+            self.core.print(),
         ];
         parts.into_iter().all(|good| good)
     }
@@ -324,6 +332,8 @@ impl Tally {
         for (first, next) in [
             (0x24, 0x2E),
             (0x24, 0x2F),
+            (0x24, 0x0A),
+            (0x24, 0x0B),
             (0x2E, 0x04),
             (0x2F, 0x2F),
             (0x2F, 0x2E),
