@@ -53,10 +53,9 @@ fn message_table(scenes: &[Scene], rounds: usize) {
             message_line(scene, &requests::all(scene)[which], rounds);
         }
     }
-    // Where the request can be refused so.
-    for refused in [requests::barred_lock, requests::barred_read] {
+    for sometimes in requests::SOMETIMES {
         for scene in scenes {
-            if let Some(request) = refused(scene) {
+            if let Some(request) = sometimes(scene) {
                 message_line(scene, &request, rounds);
             }
         }

@@ -1,7 +1,10 @@
 //! The requests that are measured.
 
 use crate::scene::{Scene, PROCESS};
-use second::builder::{message, Ask, Asked, Header};
+use second::builder::{
+    core_read, core_write, lock_range, message, unlock_range, Ask, Asked, Header,
+};
+use second::tables::FILE_BYTES;
 
 const LARGEST: usize = 8192;
 
@@ -55,6 +58,12 @@ fn read(scene: &Scene) -> Ask {
         max: 64,
         long: false,
     }
+}
+
+/// The counterparts of [`read`] and [`write`] (document 02, request 3).
+fn core(scene: &Scene) -> (Ask, Ask) {
+    let fid = scene.asker.fid;
+    (core_read(fid, 0, 64), core_write(fid, 0, &[b'w'; 64]))
 }
 
 fn write(scene: &Scene, length: usize) -> Ask {
@@ -114,7 +123,7 @@ fn last_byte(scene: &Scene) -> Option<u64> {
 }
 
 /// A lock that the last one held is in the way of, the asker's own.
-pub fn barred_lock(scene: &Scene) -> Option<Request> {
+fn barred_lock(scene: &Scene) -> Option<Request> {
     let ask = Ask::Locking {
         fid: scene.asker.fid,
         kind: 0,
@@ -128,7 +137,7 @@ pub fn barred_lock(scene: &Scene) -> Option<Request> {
 }
 
 /// A read by another process of the same bytes; shared locks bar none.
-pub fn barred_read(scene: &Scene) -> Option<Request> {
+fn barred_read(scene: &Scene) -> Option<Request> {
     let header = Header {
         pid: scene.asker.header.pid + 1,
         ..scene.asker.header
@@ -145,18 +154,71 @@ pub fn barred_read(scene: &Scene) -> Option<Request> {
     })
 }
 
+/// A request, where the scene is one in which it is answered so.
+pub type Sometimes = fn(&Scene) -> Option<Request>;
+
+/// What only some scenes let be done, and what only some refuse.
+pub const SOMETIMES: [Sometimes; 6] = [
+    whole_read,
+    whole_core_read,
+    core_lock,
+    core_unlock,
+    barred_lock,
+    barred_read,
+];
+
+/// Where no exclusive lock is held, so that none bars a read of the whole file.
+fn whole(scene: &Scene, name: &str, ask: Ask) -> Option<Request> {
+    let tables = scene.tables();
+    let unbarred = tables.locks.in_use().iter().all(|lock| lock.shared);
+    unbarred.then(|| Request::new(name, scene, &[ask]))
+}
+
+fn whole_read(scene: &Scene) -> Option<Request> {
+    let ask = Ask::Read {
+        fid: scene.asker.fid,
+        offset: 0,
+        max: FILE_BYTES as u16,
+        long: false,
+    };
+    whole(scene, "READ, 4,096 bytes", ask)
+}
+
+fn whole_core_read(scene: &Scene) -> Option<Request> {
+    let ask = core_read(scene.asker.fid, 0, FILE_BYTES as u16);
+    whole(scene, "core READ, 4,096 bytes", ask)
+}
+
+/// Where a lock record is free.
+fn core_lock(scene: &Scene) -> Option<Request> {
+    let ask = lock_range(scene.asker.fid, 10, 10);
+    let free = scene.to_release.is_none();
+    free.then(|| Request::new("LOCK", scene, &[ask]))
+}
+
+/// Where a lock is held.
+fn core_unlock(scene: &Scene) -> Option<Request> {
+    let (_, offset, length) = scene.to_release?;
+    let ask = unlock_range(scene.asker.fid, offset as u32, length as u32);
+    Some(Request::new("UNLOCK", scene, &[ask]))
+}
+
 pub fn all(scene: &Scene) -> Vec<Request> {
     let (lock, read, write) = (lock(scene), read(scene), write(scene, 64));
+    let (core_read, core_write) = core(scene);
     let made = |name: &str, asks: &[Ask]| Request::new(name, scene, asks);
     vec![
         made("LOCKING", std::slice::from_ref(&lock)),
         made("READ, 64 bytes", std::slice::from_ref(&read)),
+        made("core READ, 64 bytes", std::slice::from_ref(&core_read)),
         made("WRITE, 64 bytes", &[write]),
+        made("core WRITE, 64 bytes", &[core_write]),
         made("CLOSE", &[close(scene)]),
         made("LOGOFF", &[Ask::Logoff]),
         made("TREE_DISCONNECT", &[Ask::TreeDisconnect]),
         made("PROCESS_EXIT", &[Ask::ProcessExit]),
-        made("LOCKING + READ", &[lock, read]),
+        made("LOCKING + READ", &[lock.clone(), read]),
+        made("LOCKING + core READ", &[lock, core_read]),
         longest(scene),
         spoilt(scene),
         most_ranges(scene),
