@@ -46,6 +46,10 @@ const READ10: &str = "0A FF000000 0100 00000000 0A00 0000 00000000 0000 0000";
 const READ12: &str = "0C FF000000 0100 00000000 0A00 0000 00000000 0000 00000000 0000";
 /// 9 bytes.
 const CLOSE: &str = "03 0100 00000000 0000";
+/// READ, LOCK or UNLOCK: 13 bytes. FID 1, then eight bytes of numbers.
+const CORE: &str = "05 0100 0A00 0000 0000 0000 0000";
+/// WRITE of two bytes: 18 bytes.
+const CORE_WRITE: &str = "05 0100 0200 00000000 0000 0500 01 0200 AABB";
 
 #[test]
 fn worked_listing_and_case_1() {
@@ -80,10 +84,30 @@ fn one_block_of_each() {
     lists(&message(0x04, CLOSE), "1 04 32 9\nend\n");
     lists(&message(0x2E, READ10), "1 2E 32 23\nend\n");
     lists(&message(0x2E, READ12), "1 2E 32 27\nend\n");
+    lists(&message(0x0A, CORE), "1 0A 32 13\nend\n");
+    lists(&message(0x0B, CORE_WRITE), "1 0B 32 18\nend\n");
+    lists(&message(0x0C, CORE), "1 0C 32 13\nend\n");
+    lists(&message(0x0D, CORE), "1 0D 32 13\nend\n");
     // Bytes after the last block are free.
     lists(&message(0x71, "00 0000 FFFFFF"), "1 71 32 3\nend\n");
     // CLOSE is not named ANDX: its words name no next block.
     lists(&message(0x04, "03 2E00 29000000 0000"), "1 04 32 9\nend\n");
+}
+
+/// The LOCKING of the worked message, with a core command at 61.
+#[test]
+fn core_commands_after_locking() {
+    let chain = |command: u8, block: &str| {
+        let mut bytes = worked()[..61].to_vec();
+        bytes[33] = command;
+        bytes.extend(hex(block));
+        bytes
+    };
+    lists(&chain(0x0A, CORE), "1 24 32 29\n2 0A 61 13\nend\n");
+    lists(&chain(0x0B, CORE_WRITE), "1 24 32 29\n2 0B 61 18\nend\n");
+    for command in [0x0C, 0x0D] {
+        refused(&chain(command, CORE), Why::Follower, 0x24);
+    }
 }
 
 #[test]

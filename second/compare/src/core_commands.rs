@@ -221,45 +221,46 @@ impl CoreCommands {
 
     /// The locks of the same file at and between the two sizes.
     fn count_locks_between(&mut self, told: &Told, fid: u16, size: u64, change: &str) {
-        let range = between(told.before, fid, size);
-        let Some(file) = file_of(told.before, fid) else {
+        let Some(file) = told.file else {
             return;
         };
+        let held: Vec<Lock> = told
+            .before
+            .locks_of(file as u8)
+            .map(|(_, lock)| *lock)
+            .collect();
+        let range = between(told.before, fid, size);
         let own = |lock: &Lock| (lock.fid, lock.process) == (fid, told.process);
-        let bars = |lock: &Lock| lock.shared || !own(lock);
-        let held = told.before.locks_of(file as u8).map(|(_, lock)| lock);
-        let over = |lock: &&Lock| lock.range.overlaps(range);
-        let exclusive = held.clone().filter(over).any(|lock| !bars(lock));
+        let over = |lock: &Lock| own(lock) && lock.range.overlaps(range);
+        let exclusive = held.iter().any(|lock| over(lock) && !lock.shared);
+        let shared = held.iter().any(|lock| over(lock) && lock.shared);
         let what = format!("size {change} over an own exclusive lock");
-        self.met_if(told.done && exclusive && range.length > 0, &what);
-        let mut barring = held.clone().filter(over);
-        let shared = barring.any(|lock| own(lock) && lock.shared);
-        self.met_if(
-            shared && told.status == Conflict.class_and_code(),
-            "size refused for an own shared lock",
-        );
-        let byte = |offset: u64| Range { offset, length: 1 };
-        let barred_at = |offset: u64| {
-            let mut held = held.clone();
-            held.any(|lock| bars(lock) && lock.range.overlaps(byte(offset)))
+        self.met_if(told.done && exclusive, &what);
+        let barred = told.status == Conflict.class_and_code();
+        self.met_if(barred && shared, "size refused for an own shared lock");
+        if told.done {
+            let bars = |lock: &Lock| lock.shared || !own(lock);
+            let barring = held.iter().filter(|lock| bars(lock)).map(|l| l.range);
+            self.count_beside(barring, size, change);
+            let empty = held.iter().any(|lock| strictly_inside(lock.range, range));
+            self.met_if(empty, "size changed over a lock of length 0");
+        }
+    }
+
+    /// A size that was set right at one of these ranges, which would bar it.
+    fn count_beside(&mut self, mut barring: impl Iterator<Item = Range>, size: u64, change: &str) {
+        let (byte, what) = match change {
+            "kept" => (Some(size), "size kept inside a lock that would bar it"),
+            "raised" => (Some(size), "size raised up to a lock that would bar it"),
+            _ => {
+                let what = "size lowered down to a lock that would bar it";
+                (size.checked_sub(1), what)
+            }
         };
-        let at = match change {
-            "kept" | "raised" => barred_at(size),
-            "lowered" => size > 0 && barred_at(size - 1),
-            _ => false,
-        };
-        let what = match change {
-            "kept" => "size kept inside a lock that would bar it",
-            "raised" => "size raised up to a lock that would bar it",
-            _ => "size lowered down to a lock that would bar it",
-        };
-        self.met_if(told.done && at, what);
-        let inside = |lock: &Lock| {
-            let (start, end) = (lock.range.start(), lock.range.end());
-            range.start() < start && start == end && end < range.end()
-        };
-        let what = "size changed over a lock of length 0";
-        self.met_if(told.done && held.clone().any(inside), what);
+        let length = 1;
+        let at = byte.map(|offset| Range { offset, length });
+        let beside = at.is_some_and(|byte| barring.any(|range| range.overlaps(byte)));
+        self.met_if(beside, what);
     }
 
     /// Follows what lowerings leave past the sizes.
@@ -331,6 +332,11 @@ impl CoreCommands {
         }
         good
     }
+}
+
+/// Whether a range without bytes lies inside another.
+fn strictly_inside(empty: Range, range: Range) -> bool {
+    empty.length == 0 && range.start() < empty.start() && empty.start() < range.end()
 }
 
 /// What is wrong with the data block of a WRITE at a place.

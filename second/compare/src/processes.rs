@@ -93,7 +93,12 @@ impl Processes {
         let (uid, _, process) = header_numbers(message);
         let done = status(reply) == (0, 0) || commands(message, reply).len() > 1;
         let held = before.locks.in_use();
-        match Request::read(message, &block) {
+        let request = Request::read(message, &block);
+        let covered = covered(block.command, &request, before);
+        if let Some((what, fid, range)) = covered.filter(|_| done) {
+            self.count_over(held, (fid, process), range, what);
+        }
+        match request {
             Request::ProcessExit if done => {
                 self.count_exit(uid, process, before.opens.count, after);
             }
@@ -117,25 +122,6 @@ impl Processes {
             Request::Unlock { fid, range } if done || status(reply) == (1, 158) => {
                 let unlock = OwnedRange { process, range };
                 self.count_unlocks(fid, std::iter::once(unlock), "UNLOCK", held, done);
-            }
-            Request::Read { fid, range } if done => {
-                let what = match block.command {
-                    READ => "core READ done",
-                    _ => "READ done",
-                };
-                self.count_over(held, (fid, process), range, what);
-            }
-            Request::Write { fid, offset, data } if done => {
-                let length = data.len() as u64;
-                let what = match block.command {
-                    WRITE => "core WRITE done",
-                    _ => "WRITE done",
-                };
-                self.count_over(held, (fid, process), Range { offset, length }, what);
-            }
-            Request::Resize { fid, size } if done => {
-                let range = between(before, fid, size);
-                self.count_over(held, (fid, process), range, "size set");
             }
             _ => {}
         }
@@ -217,5 +203,23 @@ impl Processes {
             good &= enough(count, LEAST, &what);
         }
         good
+    }
+}
+
+/// What a read or a write is called here, its FID, and the bytes that it covers.
+fn covered<'n>(command: u8, request: &Request, before: &Tables) -> Option<(&'n str, u16, Range)> {
+    match *request {
+        Request::Read { fid, range } if command == READ => Some(("core READ done", fid, range)),
+        Request::Read { fid, range } => Some(("READ done", fid, range)),
+        Request::Write { fid, offset, data } => {
+            let length = data.len() as u64;
+            let what = match command {
+                WRITE => "core WRITE done",
+                _ => "WRITE done",
+            };
+            Some((what, fid, Range { offset, length }))
+        }
+        Request::Resize { fid, size } => Some(("size set", fid, between(before, fid, size))),
+        _ => None,
     }
 }

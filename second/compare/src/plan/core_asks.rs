@@ -1,7 +1,7 @@
 //! Plans core commands (document 02, request 3), and damages the data block of a
 //! WRITE.
 
-use super::{near, Planner, Scene, EDGES, LOWS};
+use super::{near, Planner, Scene, EDGES};
 use second::builder::{core_read, core_write, lock_range, locking, unlock_range, Ask};
 use second::grammar::{blocks, DATA_BLOCK_HEAD, WRITE};
 use second::tables::{Lock, Tables, FILE_BYTES};
@@ -42,32 +42,27 @@ impl Planner {
     }
 
     /// A core command at a lock, through its FID: at its bytes, or from the file's
-    /// start far past them. READ and WRITE are now and then behind a LOCKING that
-    /// locks the same bytes, or others that they then meet.
+    /// start on. READ and WRITE are now and then behind a LOCKING, and at the bytes
+    /// that it asks for.
     pub(super) fn core_at_lock(&mut self, tables: &Tables, scene: &Scene, lock: Lock) -> Vec<Ask> {
         let fid = lock.fid;
         let mut place = (lock.range.offset as u32, lock.range.length.min(60) as u32);
-        let behind = self.once_in(4);
-        let first = behind.then(|| {
-            let (low, other) = (scene.header.pid as u16, self.rng.pick(&LOWS));
+        let mut asks = Vec::new();
+        let mut kinds: &[usize] = &[0, 1, 1, 2, 2, 2, 3, 4];
+        if self.once_in(4) {
+            kinds = &[0, 1, 2];
             let fresh = self.once_in(2);
-            let (_, offset, length) = self.asked(tables, scene, fresh);
-            let (process, kind) = (self.rng.pick(&[low, other]), self.rng.pick(&[0, 1]));
+            let (process, offset, length) = self.asked(tables, scene, fresh);
             place = (offset as u32, length.min(60) as u32);
             let asked = (process, place.0.into(), place.1.into());
-            locking(fid, kind, &[], &[asked])
-        });
+            asks.push(locking(fid, self.rng.pick(&[0, 1]), &[], &[asked]));
+        }
         if self.once_in(4) {
             place = (0, 60 + self.rng.below(60) as u32);
         }
-        let kinds: &[usize] = if behind {
-            &[0, 1, 2]
-        } else {
-            &[0, 1, 1, 2, 2, 2, 3, 4]
-        };
         let kind = self.rng.pick(kinds);
-        let ask = self.core_over(kind, fid, tables, place);
-        first.into_iter().chain([ask]).collect()
+        asks.push(self.core_over(kind, fid, tables, place));
+        asks
     }
 
     /// READ, WRITE, a size, LOCK or UNLOCK of the bytes from a place on.
@@ -152,38 +147,36 @@ impl Planner {
         let Some(at) = last.filter(|b| b.command == WRITE).map(|b| b.offset) else {
             return;
         };
-        // Count, ByteCount, mark and length.
-        let (count_at, bytes_at, mark_at, length_at) = (at + 3, at + 11, at + 13, at + 14);
-        let count = u16::from_le_bytes([message[count_at], message[count_at + 1]]);
-        let other = near(&mut self.rng, count.into()) as u16;
-        let mut put = |place: usize, number: u16| {
-            message[place..place + 2].copy_from_slice(&number.to_le_bytes());
-        };
+        if self.once_in(5) {
+            message[at + 13] = self.rng.pick(&[0, 2, 3, 4, 5, 0x81, 0xFF]);
+            return;
+        }
+        let count = u16::from_le_bytes([message[at + 3], message[at + 4]]);
+        let lengths = self.other_lengths(count);
+        for (place, number) in [3, 14, 11].into_iter().zip(lengths) {
+            message[at + place..at + place + 2].copy_from_slice(&number.to_le_bytes());
+        }
+    }
+
+    /// The count, the data block's length and ByteCount of a WRITE, not all as
+    /// they should be.
+    fn other_lengths(&mut self, count: u16) -> [u16; 3] {
         let head = DATA_BLOCK_HEAD as u16;
-        match self.rng.below(10) {
-            0 | 1 => message[mark_at] = self.rng.pick(&[0, 2, 3, 4, 5, 0x81, 0xFF]),
-            2 => put(count_at, other),
-            3 => put(length_at, other),
-            4 => put(bytes_at, other.wrapping_add(head)),
-            5 => {
-                put(count_at, other);
-                put(length_at, count.wrapping_add(5));
-            }
-            6 => {
-                put(count_at, other);
-                put(length_at, other);
-            }
-            7 => {
-                put(bytes_at, other.wrapping_add(head));
-                put(length_at, other);
-            }
-            8 => put(bytes_at, self.rng.below(DATA_BLOCK_HEAD) as u16),
-            _ => {
-                let few = self.rng.below(DATA_BLOCK_HEAD) as u16;
-                put(bytes_at, few);
-                put(count_at, few.wrapping_sub(head));
-                put(length_at, few.wrapping_sub(head));
-            }
+        let bytes = count + head;
+        let other = near(&mut self.rng, count.into()) as u16;
+        let other_bytes = other.wrapping_add(head);
+        let few = self.rng.below(DATA_BLOCK_HEAD) as u16;
+        // ByteCount less 3, in 16 bits.
+        let wrapped = few.wrapping_sub(head);
+        match self.rng.below(8) {
+            0 => [other, count, bytes],
+            1 => [count, other, bytes],
+            2 => [count, count, other_bytes],
+            3 => [other, count.wrapping_add(5), bytes],
+            4 => [other, other, bytes],
+            5 => [count, other, other_bytes],
+            6 => [count, count, few],
+            _ => [wrapped, wrapped, few],
         }
     }
 }
