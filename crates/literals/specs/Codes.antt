@@ -55,9 +55,9 @@ pub holders : (h : Holder)
 unfolding holderOf
 holders h = refl
 
--- "Requests served: CLOSE 0x04, PROCESS_EXIT 0x11, LOCKING_ANDX 0x24, READ_ANDX 0x2E, WRITE_ANDX 0x2F, TREE_DISCONNECT 0x71, LOGOFF_ANDX 0x74": of all
--- 256 header commands just these are not 2/22
-pub commands-served : keep served (countFrom 0 256) ≡ 0x04 ∷ 0x11 ∷ 0x24 ∷ 0x2E ∷ 0x2F ∷ 0x71 ∷ 0x74 ∷ []
+-- "Requests served: CLOSE 0x04, PROCESS_EXIT 0x11, LOCKING_ANDX 0x24, READ_ANDX 0x2E, WRITE_ANDX 0x2F, TREE_DISCONNECT 0x71, LOGOFF_ANDX 0x74"; document
+-- 02, CR 3: "READ 0x0A, WRITE 0x0B, LOCK_BYTE_RANGE 0x0C and UNLOCK_BYTE_RANGE 0x0D". Of all 256 header commands just these are not 2/22.
+pub commands-served : keep served (countFrom 0 256) ≡ 0x04 ∷ 0x0A ∷ 0x0B ∷ 0x0C ∷ 0x0D ∷ 0x11 ∷ 0x24 ∷ 0x2E ∷ 0x2F ∷ 0x71 ∷ 0x74 ∷ []
 unfolding keep countFrom served
 commands-served = refl
 

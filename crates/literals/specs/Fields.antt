@@ -13,7 +13,7 @@ use Rattle.locks.specs.Request.{ofHeader, rangesOf}
 use Rattle.locks.specs.declared.types.LockRange.{LockRange}
 use Rattle.locks.specs.declared.types.Request.{Request}
 use Rattle.chain.specs.Judged.{isWhole}
-use Rattle.chain.specs.Parse.{shaped, bare, isLarge, lockingFits, readFits, dataInside, writeFits, mayFollow, linkFits, linkAt, answer, wideOffset, parseLocking, parseRead, parseWrite, parseClose, parseLogoff, parseEmpty, parse}
+use Rattle.chain.specs.Parse.{shaped, bare, isLarge, lockingFits, readFits, dataInside, writeFits, mayFollow, linkFits, linkAt, answer, wideOffset, parseLocking, parseRead, parseWrite, parseLogoff, parseBare, parse}
 use Rattle.chain.specs.declared.block.Block.{Block}
 use Rattle.chain.specs.declared.block.Body.{Body}
 use Rattle.chain.specs.declared.block.Body.the-variants.{Locking, Read, Write, Close, Logoff, TreeDisconnect, ProcessExit}
@@ -161,7 +161,7 @@ write-data = (refl, refl)
 
 -- "CLOSE: FID 2, time 4": 3 words, no AndX, no byte
 pub close-3 : parse (behindHeader (0x03 ∷ 0x21 ∷ 0x22 ∷ 0x23 ∷ 0x24 ∷ 0x25 ∷ 0x26 ∷ 0x00 ∷ 0x00 ∷ [])) 0x04 32 ≡ whole 0x04 9 (Close 0x2221) End
-unfolding whole behindHeader parse parseClose answer bare shaped le16At
+unfolding whole behindHeader parse parseBare answer bare shaped le16At
 close-3 = refl
 
 -- LOGOFF: 2 words, AndX alone. "0xFF ends the chain and the offset is ignored."
@@ -172,7 +172,7 @@ logoff-2 = refl
 -- TREE_DISCONNECT and PROCESS_EXIT: 0 words and 0 bytes
 pub empty-0 : (parse (behindHeader (0x00 ∷ 0x00 ∷ 0x00 ∷ [])) 0x71 32 ≡ whole 0x71 3 TreeDisconnect End)
     × (parse (behindHeader (0x00 ∷ 0x00 ∷ 0x00 ∷ [])) 0x11 32 ≡ whole 0x11 3 ProcessExit End)
-unfolding whole behindHeader parse parseEmpty answer bare shaped le16At
+unfolding whole behindHeader parse parseBare answer bare shaped le16At
 empty-0 = (refl, refl)
 
 -- ---- no other number of words
@@ -197,5 +197,5 @@ pub words-column : (wordCounts 0x24 (zeros 0xFF) ≡ 8 ∷ [])
     × (wordCounts 0x74 (zeros 0xFF) ≡ 2 ∷ [])
     × (wordCounts 0x71 (zeros 0) ≡ 0 ∷ [])
     × (wordCounts 0x11 (zeros 0) ≡ 0 ∷ [])
-unfolding wordCounts keep countFrom zeros noData isWhole behindHeader parse parseLocking parseRead parseWrite parseClose parseLogoff parseEmpty answer lockingFits readFits writeFits dataInside linkFits linkAt mayFollow isLarge rangeSize bare shaped wideOffset le16At le32At
+unfolding wordCounts keep countFrom zeros noData isWhole behindHeader parse parseLocking parseRead parseWrite parseLogoff parseBare answer lockingFits readFits writeFits dataInside linkFits linkAt mayFollow isLarge rangeSize bare shaped wideOffset le16At le32At
 words-column = (refl, refl, refl, refl, refl, refl, refl)

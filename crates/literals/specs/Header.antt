@@ -8,7 +8,7 @@ use lib.ListN.{length, replicate}
 use Rattle.wire.specs.LittleEndian.{le16At}
 use Rattle.lists.specs.Walk.{keep}
 use Rattle.chain.specs.Header.{startsSmb, isReply, dropped}
-use Rattle.chain.specs.Parse.{shaped, bare, answer, parseClose, parse}
+use Rattle.chain.specs.Parse.{shaped, bare, answer, parseBare, parse}
 use Rattle.chain.specs.Chain.{afterBlock, afterParse, blocksWithin, blocksFrom, blocks}
 use Rattle.chain.specs.declared.block.Body.the-variants.{Close}
 use Rattle.chain.specs.declared.block.Next.the-variants.{End}
@@ -30,7 +30,7 @@ caller-places = refl
 
 -- "The first is at 32 and belongs to the header's command."
 pub first-block : blocks ownPlaces ≡ some (record { command = 0x04; at = 32; length = 9; body = Close 0x2221; next = End } ∷ [])
-unfolding ownPlaces blocks blocksFrom blocksWithin afterParse afterBlock parse parseClose answer bare shaped le16At
+unfolding ownPlaces blocks blocksFrom blocksWithin afterParse afterBlock parse parseBare answer bare shaped le16At
 first-block = refl
 
 -- a message of those four first bytes and that Flags, with so many bytes behind it: 10 more in all

@@ -22,7 +22,7 @@ use Rattle.soundness.specs.Lookup.{isTree}
 use Rattle.soundness.specs.Sound.{withinRoom, fileOk, treeOk, permits, holdsOpen, openOk, soundRecords, lockOk, agree, agreeAll, soundLocks, sound}
 use Rattle.removal.specs.Removal.{sessionNamed, treeNamed, openNamed, sessionStays, treeStays, openStays, lockStays, sweepSessions, sweepTrees, sweepOpens, sweepLocks, remove}
 use Rattle.chain.specs.Header.{startsSmb, isReply, dropped}
-use Rattle.chain.specs.Parse.{shaped, bare, isLarge, lockingFits, readFits, dataInside, writeFits, mayFollow, linkFits, linkAt, answer, wideOffset, parseLocking, parseRead, parseWrite, parseClose, parseLogoff, parseEmpty, parse}
+use Rattle.chain.specs.Parse.{shaped, bare, isLarge, lockingFits, readFits, dataInside, writeFits, mayFollow, linkFits, linkAt, answer, wideOffset, parseLocking, parseRead, parseWrite, parseLogoff, parseBare, parse}
 use Rattle.chain.specs.Chain.{before, afterBlock, afterParse, blocksWithin, blocksFrom, blocks}
 use Rattle.message.specs.Caller.{callerOf}
 use Rattle.message.specs.Refusal.{status, statusOf, holderOf}
@@ -355,7 +355,7 @@ table =
 
 -- what the definitions give is what the document says, in every row
 pub replies : map (λ r. given (r .tables) (r .request)) table ≡ map (λ r. r .said) table
-unfolding table lockingReply readReply writeReply closeReply logoffReply disconnectReply exitReply noFlags otherFlags justFlags lockReadReply writeCloseReply lockRefusedReply unserved malformed noSession noTree noOpen noRead noWrite lockType noSuchLock passesTop noRecord lastRecord noSpace lastBytes holderOf message fewRecords tablesWith session tree open-of sizes memory given taken take-message dropped startsSmb isReply answered served replied replyOf replyHeader put runChain onlyStatus blocks blocksFrom blocksWithin afterParse afterBlock before parse answer linkFits linkAt mayFollow shaped bare le16At le32At callerOf run afterGiven after linkTo perform areaOf dataOf status statusOf replyBlock refusedBlock replySize linkWords two withSession isSession withTree withOpen isOpen openAt found foundFrom sound withinRoom fileOk treeOk permits holdsOpen openOk soundRecords lockOk agree agreeAll soundLocks fileOf isTree contains numberOk numbered any all allTails overlaps passesEnd reply success closeBlock lock100 lockBlock range100 parseLocking lockingFits isLarge rangeSize doLocking servedType requestOf locking request releaseAll afterFind removeAt named afterReleases grantAll afterWalk afterGrants settle rangesOf ofHeader rangesAt rangeAt rangeFrom numberAt rangePasses askOf lockOf answers answersFor inWay bars owns lockingAfter lockingEnd withLockList stored readBlock parseRead readFits wideOffset doRead unlessBarred barring askBy readBytes contents sizeOf writeBlock parseWrite writeFits dataInside doWrite endsPast resized written withFiles parseClose parseLogoff parseEmpty remove sweepSessions sweepTrees sweepOpens sweepLocks sessionNamed treeNamed openNamed sessionStays treeStays openStays lockStays keep withSessions withTrees withOpens withLocks refusal opened lock
+unfolding table lockingReply readReply writeReply closeReply logoffReply disconnectReply exitReply noFlags otherFlags justFlags lockReadReply writeCloseReply lockRefusedReply unserved malformed noSession noTree noOpen noRead noWrite lockType noSuchLock passesTop noRecord lastRecord noSpace lastBytes holderOf message fewRecords tablesWith session tree open-of sizes memory given taken take-message dropped startsSmb isReply answered served replied replyOf replyHeader put runChain onlyStatus blocks blocksFrom blocksWithin afterParse afterBlock before parse answer linkFits linkAt mayFollow shaped bare le16At le32At callerOf run afterGiven after linkTo perform areaOf dataOf status statusOf replyBlock refusedBlock replySize linkWords two withSession isSession withTree withOpen isOpen openAt found foundFrom sound withinRoom fileOk treeOk permits holdsOpen openOk soundRecords lockOk agree agreeAll soundLocks fileOf isTree contains numberOk numbered any all allTails overlaps passesEnd reply success closeBlock lock100 lockBlock range100 parseLocking lockingFits isLarge rangeSize doLocking servedType requestOf locking request releaseAll afterFind removeAt named afterReleases grantAll afterWalk afterGrants settle rangesOf ofHeader rangesAt rangeAt rangeFrom numberAt rangePasses askOf lockOf answers answersFor inWay bars owns lockingAfter lockingEnd withLockList stored readBlock parseRead readFits wideOffset doRead unlessBarred barring askBy readBytes contents sizeOf writeBlock parseWrite writeFits dataInside doWrite endsPast resized written withFiles parseLogoff parseBare remove sweepSessions sweepTrees sweepOpens sweepLocks sessionNamed treeNamed openNamed sessionStays treeStays openStays lockStays keep withSessions withTrees withOpens withLocks refusal opened lock
 replies = refl
 
 -- ---- "1/33 lock conflict", and the holder

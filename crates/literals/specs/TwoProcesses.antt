@@ -20,7 +20,7 @@ use Rattle.soundness.specs.Lookup.{isTree}
 use Rattle.soundness.specs.Sound.{withinRoom, fileOk, treeOk, permits, holdsOpen, openOk, soundRecords, lockOk, agree, agreeAll, soundLocks, sound}
 use Rattle.removal.specs.Removal.{sessionNamed, treeNamed, openNamed, sessionStays, treeStays, openStays, lockStays, sweepSessions, sweepTrees, sweepOpens, sweepLocks, remove}
 use Rattle.chain.specs.Header.{startsSmb, isReply, dropped}
-use Rattle.chain.specs.Parse.{shaped, bare, isLarge, lockingFits, readFits, dataInside, writeFits, mayFollow, linkFits, linkAt, answer, wideOffset, parseLocking, parseRead, parseWrite, parseEmpty, parse}
+use Rattle.chain.specs.Parse.{shaped, bare, isLarge, lockingFits, readFits, dataInside, writeFits, mayFollow, linkFits, linkAt, answer, wideOffset, parseLocking, parseRead, parseWrite, parseBare, parse}
 use Rattle.chain.specs.Chain.{before, afterBlock, afterParse, blocksWithin, blocksFrom, blocks}
 use Rattle.message.specs.Caller.{callerOf}
 use Rattle.message.specs.Refusal.{statusOf, holderOf}
@@ -104,5 +104,5 @@ pub exit-of-one : (taken bothProcesses (sentBy 0 1 exit) .tables .opens ≡ open
     × (taken bothProcesses (sentBy 0 1 exit) .tables .locks ≡ lockOn6 65537 0 ∷ lockOn6 1 4 ∷ noLock ∷ [])
     × (taken bothProcesses (sentBy 1 1 exit) .tables .opens ≡ open-of 4 3 2 1 1 2 ∷ noOpen ∷ [])
     × (taken bothProcesses (sentBy 1 1 exit) .tables .locks ≡ lock 1 0 1 ∷ noLock ∷ noLock ∷ [])
-unfolding sentBy bothProcesses lockOn6 exit lock message tablesWith session tree open-of sizes memory taken take-message dropped startsSmb isReply answered served replied put runChain blocks blocksFrom blocksWithin afterParse afterBlock before parse answer shaped bare le16At callerOf run afterGiven after perform withSession isSession sound withinRoom fileOk treeOk permits holdsOpen openOk soundRecords lockOk agree agreeAll soundLocks fileOf contains numberOk numbered any all allTails overlaps passesEnd stored parseEmpty remove sweepSessions sweepTrees sweepOpens sweepLocks sessionNamed treeNamed openNamed sessionStays treeStays openStays lockStays keep withSessions withTrees withOpens withLocks
+unfolding sentBy bothProcesses lockOn6 exit lock message tablesWith session tree open-of sizes memory taken take-message dropped startsSmb isReply answered served replied put runChain blocks blocksFrom blocksWithin afterParse afterBlock before parse answer shaped bare le16At callerOf run afterGiven after perform withSession isSession sound withinRoom fileOk treeOk permits holdsOpen openOk soundRecords lockOk agree agreeAll soundLocks fileOf contains numberOk numbered any all allTails overlaps passesEnd stored parseBare remove sweepSessions sweepTrees sweepOpens sweepLocks sessionNamed treeNamed openNamed sessionStays treeStays openStays lockStays keep withSessions withTrees withOpens withLocks
 exit-of-one = (refl, refl, refl, refl)
