@@ -1,4 +1,4 @@
--- Document 01's places of the fields ("The grammar of a chain"), a second time, as numbers, and the whole processes of ranges (document 02, CR 4). Each message below has at each place the place itself,
+-- Document 01's places of the fields ("The grammar of a chain"), and of the core commands' (document 02, CR 3), a second time, as numbers, and the whole processes of ranges (CR 4). Each message below has at each place the place itself,
 -- in hex, but where the grammar asks another byte. So a field that is read at another place, or from other bytes, is another number.
 -- Assumes nothing.
 use mathlib.Core.Path.{_≡_, refl}
@@ -8,21 +8,22 @@ use mathlib.Core.List.{List, [], _∷_, _++_}
 use lib.ListN.{replicate}
 use Rattle.lists.specs.Walk.{keep}
 use Rattle.wire.specs.LittleEndian.{le16At, le32At}
-use Rattle.locks.specs.Wire.{rangeSize, numberAt, rangeFrom, rangeAt, rangesAt}
+use Rattle.locks.specs.Wire.{rangeSize, numberAt, rangeFrom, rangeAt, rangesAt, smallForm}
 use Rattle.locks.specs.Request.{ofHeader, rangesOf}
 use Rattle.locks.specs.declared.types.LockRange.{LockRange}
 use Rattle.locks.specs.declared.types.Request.{Request}
 use Rattle.chain.specs.Judged.{isWhole}
-use Rattle.chain.specs.Parse.{shaped, bare, isLarge, lockingFits, readFits, dataInside, writeFits, mayFollow, linkFits, linkAt, answer, wideOffset, parseLocking, parseRead, parseWrite, parseLogoff, parseBare, parse}
+use Rattle.chain.specs.Parse.{shaped, bare, isLarge, lockingFits, readFits, dataInside, writeFits, coreWriteFits, mayFollow, linkFits, linkAt, answer, wideOffset, parseLocking, parseRead, parseWrite, parseLogoff, parseBare, parseCoreWrite, parse}
 use Rattle.chain.specs.declared.block.Block.{Block}
+use Rattle.chain.specs.declared.block.RangeFields.{RangeFields}
 use Rattle.chain.specs.declared.block.Body.{Body}
-use Rattle.chain.specs.declared.block.Body.the-variants.{Locking, Read, Write, Close, Logoff, TreeDisconnect, ProcessExit}
+use Rattle.chain.specs.declared.block.Body.the-variants.{Locking, Read, Write, Close, Logoff, TreeDisconnect, ProcessExit, CoreRead, CoreWrite, LockByteRange, UnlockByteRange}
 use Rattle.chain.specs.declared.block.Next.{Next}
 use Rattle.chain.specs.declared.block.Next.the-variants.{End, Follow}
 use Rattle.chain.specs.declared.block.Parsed.{Parsed}
 use Rattle.chain.specs.declared.block.Parsed.the-variants.{Whole, Malformed}
 use Rattle.message.specs.Caller.{callerOf}
-use Rattle.message.specs.Command.{requestOf}
+use Rattle.message.specs.Command.{requestOf, rangeBy, oneRange}
 use Rattle.message.specs.Message.{areaOf, dataOf}
 use Rattle.literals.specs.Counting.{countFrom}
 
@@ -175,6 +176,69 @@ pub empty-0 : (parse (behindHeader (0x00 ∷ 0x00 ∷ 0x00 ∷ [])) 0x71 32 ≡ 
 unfolding whole behindHeader parse parseBare answer bare shaped le16At
 empty-0 = (refl, refl)
 
+-- ---- the core commands (document 02, CR 3; the words are source document 000's)
+
+-- READ: "file handle; count of bytes; offset low; offset high; count left": 5 words, no AndX, no byte
+pub core-read-5 : parse (behindHeader (0x05 ∷ 0x21 ∷ 0x22 ∷ 0x23 ∷ 0x24 ∷ 0x25 ∷ 0x26 ∷ 0x27 ∷ 0x28 ∷ 0x29 ∷ 0x2A ∷ 0x00 ∷ 0x00 ∷ [])) 0x0A 32
+    ≡ whole 0x0A 13 (CoreRead (record { fid = 0x2221; offset = 0x28272625; max = 0x2423 })) End
+unfolding whole behindHeader parse parseBare answer bare shaped le16At le32At
+core-read-5 = refl
+
+-- WRITE: the same words, and "length of data + 3" bytes: "Data Block -- 01; length of data; data". Its byte area starts at 0x2D, its 3 bytes of data at 0x30.
+unfoldable pub coreWrite5 : List ℕ
+coreWrite5 =
+    behindHeader
+    ((0x05 ∷ 0x21 ∷ 0x22 ∷ 0x03 ∷ 0x00 ∷ 0x25 ∷ 0x26 ∷ 0x27 ∷ 0x28 ∷ 0x29 ∷ 0x2A ∷ 0x06 ∷ 0x00 ∷ [])
+    ++ (0x01 ∷ 0x03 ∷ 0x00 ∷ 0x30 ∷ 0x31 ∷ 0x32 ∷ 0x33 ∷ []))
+
+pub core-write-5 : (parse coreWrite5 0x0B 32 ≡ whole 0x0B 19 (CoreWrite (record { fid = 0x2221; offset = 0x28272625; count = 3; from = 0x30 })) End)
+    × (areaOf coreWrite5 at32 ≡ 0x01 ∷ 0x03 ∷ 0x00 ∷ 0x30 ∷ 0x31 ∷ 0x32 ∷ [])
+unfolding whole at32 coreWrite5 behindHeader areaOf parse parseCoreWrite answer coreWriteFits shaped le16At le32At
+core-write-5 = (refl, refl)
+
+-- LOCK_BYTE_RANGE and UNLOCK_BYTE_RANGE: "file handle; count low; count high; offset low; offset high": the count first
+unfoldable pub range5 : List ℕ
+range5 = behindHeader (0x05 ∷ 0x21 ∷ 0x22 ∷ 0x23 ∷ 0x24 ∷ 0x25 ∷ 0x26 ∷ 0x27 ∷ 0x28 ∷ 0x29 ∷ 0x2A ∷ 0x00 ∷ 0x00 ∷ [])
+
+unfoldable pub itsRange : RangeFields
+itsRange = record { fid = 0x2221; offset = 0x2A292827; length = 0x26252423 }
+
+pub range-5 : (parse range5 0x0C 32 ≡ whole 0x0C 13 (LockByteRange itsRange) End) × (parse range5 0x0D 32 ≡ whole 0x0D 13 (UnlockByteRange itsRange) End)
+unfolding whole itsRange range5 behindHeader parse parseBare answer bare shaped le16At le32At
+range-5 = (refl, refl)
+
+-- the LOCKING that it is, with that many unlocks and locks
+unfoldable pub asLocking : ℕ → ℕ → Request
+asLocking unlocks locks = requestOf (callerOf 5 range5) (oneRange itsRange unlocks locks)
+
+-- "the process from the header; the lock is exclusive": an exclusive request for the one range, whole numbers all
+pub range-asked : (asLocking 0 1 ≡ record { fid = 0x2221; high = 0x0D0C; shared = false; large = false; unlocks = 0; locks = 1 })
+    × (asLocking 1 0 ≡ record { fid = 0x2221; high = 0x0D0C; shared = false; large = false; unlocks = 1; locks = 0 })
+    × (rangesOf (asLocking 0 1) (smallForm (rangeBy (callerOf 5 range5) itsRange)) 0 1 ≡ record { process = 0x0D0C1B1A; offset = 0x2A292827; length = 0x26252423 } ∷ [])
+unfolding asLocking itsRange oneRange requestOf callerOf rangeBy smallForm range5 behindHeader rangesOf ofHeader rangesAt rangeAt rangeFrom rangeSize numberAt le16At le32At
+range-asked = (refl, refl, refl)
+
+-- a core WRITE with that count word, ByteCount, mark and length of its data block, and 600 bytes behind them
+unfoldable pub dataBlock : List ℕ → List ℕ → ℕ → List ℕ → List ℕ
+dataBlock count bytes mark size =
+    behindHeader
+    ((0x05 ∷ 0x21 ∷ 0x22 ∷ []) ++ (count ++ ((0x25 ∷ 0x26 ∷ 0x27 ∷ 0x28 ∷ 0x29 ∷ 0x2A ∷ []) ++ (bytes ++ (mark ∷ (size ++ replicate 600 0x01))))))
+
+-- the bytes from 0 to 255 with which it is one
+unfoldable pub fitting : (ℕ → List ℕ) → List ℕ
+fitting block = keep (λ x. isWhole (parse (block x) 0x0B 32)) (countFrom 0 256)
+
+-- "a data block not marked 0x01 or whose lengths disagree is 2/1": of each byte just one value fits the others, here of a count of 3 and of one of 258
+pub data-block : (fitting (λ x. dataBlock (3 ∷ 0 ∷ []) (6 ∷ 0 ∷ []) x (3 ∷ 0 ∷ [])) ≡ 1 ∷ [])
+    × (fitting (λ x. dataBlock (x ∷ 0 ∷ []) (6 ∷ 0 ∷ []) 1 (3 ∷ 0 ∷ [])) ≡ 3 ∷ [])
+    × (fitting (λ x. dataBlock (3 ∷ 0 ∷ []) (x ∷ 0 ∷ []) 1 (3 ∷ 0 ∷ [])) ≡ 6 ∷ [])
+    × (fitting (λ x. dataBlock (3 ∷ 0 ∷ []) (6 ∷ 0 ∷ []) 1 (x ∷ 0 ∷ [])) ≡ 3 ∷ [])
+    × (fitting (λ x. dataBlock (2 ∷ x ∷ []) (5 ∷ 1 ∷ []) 1 (2 ∷ 1 ∷ [])) ≡ 1 ∷ [])
+    × (fitting (λ x. dataBlock (2 ∷ 1 ∷ []) (5 ∷ x ∷ []) 1 (2 ∷ 1 ∷ [])) ≡ 1 ∷ [])
+    × (fitting (λ x. dataBlock (2 ∷ 1 ∷ []) (5 ∷ 1 ∷ []) 1 (2 ∷ x ∷ [])) ≡ 1 ∷ [])
+unfolding fitting keep countFrom dataBlock isWhole behindHeader parse parseCoreWrite answer coreWriteFits shaped le16At le32At
+data-block = (refl, refl, refl, refl, refl, refl, refl)
+
 -- ---- no other number of words
 
 -- a block of that many words with no byte, all 0 but for its first word's first byte; and one of a WRITE with no data, its DataOffset where its
@@ -184,6 +248,10 @@ zeros first words = behindHeader (words ∷ first ∷ replicate 511 0)
 
 unfoldable pub noData : ℕ → List ℕ
 noData words = behindHeader ((words ∷ 0xFF ∷ replicate 21 0) ++ ((35 + 2 * words) % 256 ∷ (35 + 2 * words) / 256 ∷ replicate 600 0))
+
+-- one of a core WRITE of count 0, its data block empty
+unfoldable pub emptyData : ℕ → List ℕ
+emptyData words = behindHeader ((words ∷ replicate (2 * words) 0) ++ (3 ∷ 0 ∷ 1 ∷ 0 ∷ 0 ∷ []))
 
 -- the word counts from 0 to 255 with which such a block is one of that command
 unfoldable pub wordCounts : ℕ → (ℕ → List ℕ) → List ℕ
@@ -197,5 +265,9 @@ pub words-column : (wordCounts 0x24 (zeros 0xFF) ≡ 8 ∷ [])
     × (wordCounts 0x74 (zeros 0xFF) ≡ 2 ∷ [])
     × (wordCounts 0x71 (zeros 0) ≡ 0 ∷ [])
     × (wordCounts 0x11 (zeros 0) ≡ 0 ∷ [])
-unfolding wordCounts keep countFrom zeros noData isWhole behindHeader parse parseLocking parseRead parseWrite parseLogoff parseBare answer lockingFits readFits writeFits dataInside linkFits linkAt mayFollow isLarge rangeSize bare shaped wideOffset le16At le32At
-words-column = (refl, refl, refl, refl, refl, refl, refl)
+    × (wordCounts 0x0A (zeros 0) ≡ 5 ∷ [])
+    × (wordCounts 0x0B emptyData ≡ 5 ∷ [])
+    × (wordCounts 0x0C (zeros 0) ≡ 5 ∷ [])
+    × (wordCounts 0x0D (zeros 0) ≡ 5 ∷ [])
+unfolding wordCounts keep countFrom zeros noData emptyData isWhole behindHeader parse parseLocking parseRead parseWrite parseLogoff parseBare parseCoreWrite answer lockingFits readFits writeFits coreWriteFits dataInside linkFits linkAt mayFollow isLarge rangeSize bare shaped wideOffset le16At le32At
+words-column = (refl, refl, refl, refl, refl, refl, refl, refl, refl, refl, refl)
