@@ -7,5 +7,6 @@ pub mod Codes
 pub mod Words
 pub mod Inside
 pub mod Replies
+pub mod CoreCommands
 pub mod Stream
 pub mod TwoProcesses
