@@ -108,8 +108,15 @@ pub data-block-none : (Sentence (sent 0x0B wrongMark) → ⊥)
     × (Sentence (sent 0x0B noBlock) → ⊥)
     × (Sentence (sent 0x0B halfBlock) → ⊥)
 unfolding wrongMark wrongCount wrongLength byteLess byteMore noBlock halfBlock sent coreWrite message blocks blocksFrom blocksWithin afterParse afterBlock parse parseCoreWrite answer coreWriteFits shaped le16At le32At
-data-block-none =
-    (no-sentence _ .0 refl, no-sentence _ .0 refl, no-sentence _ .0 refl, no-sentence _ .0 refl, no-sentence _ .0 refl, no-sentence _ .0 refl, no-sentence _ .0 refl)
+data-block-none = (
+  no-sentence (sent 0x0B wrongMark) .0 refl,
+  no-sentence (sent 0x0B wrongCount) .0 refl,
+  no-sentence (sent 0x0B wrongLength) .0 refl,
+  no-sentence (sent 0x0B byteLess) .0 refl,
+  no-sentence (sent 0x0B byteMore) .0 refl,
+  no-sentence (sent 0x0B noBlock) .0 refl,
+  no-sentence (sent 0x0B halfBlock) .0 refl,
+)
 
 -- the message with that block, and what is to come of it
 unfoldable pub row : Tables → ℕ → List ℕ → Given → Row
@@ -120,6 +127,10 @@ unfoldable pub malformed : List Row
 malformed =
     map (λ block. row fewRecords 0x0B block (refusal 0x0B 2 0x01 0x00))
     (wrongMark ∷ wrongCount ∷ wrongLength ∷ byteLess ∷ byteMore ∷ noBlock ∷ halfBlock ∷ [])
+
+pub malformed-replies : map (λ r. given (r .tables) (r .request)) malformed ≡ map (λ r. r .said) malformed
+unfolding malformed wrongMark wrongCount wrongLength byteLess byteMore noBlock halfBlock row sent coreWrite message fewRecords tablesWith session tree open-of sizes memory given taken take-message dropped startsSmb isReply answered served replied replyOf replyHeader put runChain onlyStatus blocks blocksFrom blocksWithin afterParse afterBlock parse parseCoreWrite answer coreWriteFits shaped le16At le32At statusOf status refusedBlock refusal reply two sound withinRoom fileOk treeOk permits holdsOpen openOk soundRecords lockOk agree agreeAll soundLocks fileOf isTree contains numberOk numbered any all allTails overlaps passesEnd
+malformed-replies = refl
 
 -- ---- replies
 
@@ -244,11 +255,11 @@ chains =
 -- ---- the table
 
 unfoldable pub table : List Row
-table = malformed ++ (readReplies ++ (writeReplies ++ (sizeReplies ++ (rangeReplies ++ (whoMayAsk ++ (conflicts ++ (sizeConflicts ++ chains)))))))
+table = readReplies ++ (writeReplies ++ (sizeReplies ++ (rangeReplies ++ (whoMayAsk ++ (conflicts ++ (sizeConflicts ++ chains))))))
 
 -- what the definitions give is what the documents say, in every row
 pub core-replies : map (λ r. given (r .tables) (r .request)) table ≡ map (λ r. r .said) table
-unfolding table malformed wrongMark wrongCount wrongLength byteLess byteMore noBlock halfBlock emptyReply readReplies writeReplies resizedReply sizeReplies rangeReplies whoMayAsk ownShared conflicts sizeConflicts chains row sent coreRead coreWrite writeTo sizeTo byteRange holderOf message fewRecords tablesWith session tree open-of sizes memory given taken take-message dropped startsSmb isReply answered served replied replyOf replyHeader put runChain onlyStatus blocks blocksFrom blocksWithin afterParse afterBlock before parse answer linkFits linkAt mayFollow shaped bare le16At le32At callerOf run afterGiven after linkTo perform areaOf dataOf status statusOf replyBlock refusedBlock replySize linkWords two withSession isSession withTree withOpen isOpen openAt found foundFrom sound withinRoom fileOk treeOk permits holdsOpen openOk soundRecords lockOk agree agreeAll soundLocks fileOf isTree contains numberOk numbered any all allTails overlaps passesEnd reply success lock100 lockBlock range100 parseLocking lockingFits isLarge rangeSize doLocking servedType requestOf locking request releaseAll afterFind removeAt named afterReleases grantAll afterWalk afterGrants settle rangesOf ofHeader rangesAt rangeAt rangeFrom numberAt rangePasses askOf lockOf answers answersFor inWay bars owns lockingAfter lockingEnd withLockList stored wideOffset doRead unlessBarred barring askBy readBytes contents sizeOf writeBlock parseWrite writeFits dataInside doWrite endsPast resized written withFiles parseBare withLocks refusal opened lock heldAt contested rangeOf holderAt parseCoreWrite coreWriteFits coreSaid asCore rangeBy oneRange doRange smallForm betweenSizes doSetSize doCoreWrite
+unfolding table emptyReply readReplies writeReplies resizedReply sizeReplies rangeReplies whoMayAsk ownShared conflicts sizeConflicts chains row sent coreRead coreWrite writeTo sizeTo byteRange holderOf message fewRecords tablesWith session tree open-of sizes memory given taken take-message dropped startsSmb isReply answered served replied replyOf replyHeader put runChain onlyStatus blocks blocksFrom blocksWithin afterParse afterBlock before parse answer linkFits linkAt mayFollow shaped bare le16At le32At callerOf run afterGiven after linkTo perform areaOf dataOf status statusOf replyBlock refusedBlock replySize linkWords two withSession isSession withTree withOpen isOpen openAt found foundFrom sound withinRoom fileOk treeOk permits holdsOpen openOk soundRecords lockOk agree agreeAll soundLocks fileOf isTree contains numberOk numbered any all allTails overlaps passesEnd reply success lock100 lockBlock range100 parseLocking lockingFits isLarge rangeSize doLocking servedType requestOf locking request releaseAll afterFind removeAt named afterReleases grantAll afterWalk afterGrants settle rangesOf ofHeader rangesAt rangeAt rangeFrom numberAt rangePasses askOf lockOf answers answersFor inWay bars owns lockingAfter lockingEnd withLockList stored wideOffset doRead unlessBarred barring askBy readBytes contents sizeOf writeBlock parseWrite writeFits dataInside doWrite endsPast resized written withFiles parseBare withLocks refusal opened lock heldAt contested rangeOf holderAt parseCoreWrite coreWriteFits coreSaid asCore rangeBy oneRange doRange smallForm betweenSizes doSetSize doCoreWrite
 core-replies = refl
 
 -- ---- what else the call leaves
