@@ -53,6 +53,13 @@ coreWrite count low high bytes mark size data′ =
 unfoldable pub writeTo : ℕ → ℕ → List ℕ
 writeTo low high = coreWrite 2 low high 5 1 2 (0xBB ∷ 0xCC ∷ [])
 
+-- of 258 bytes DD (0x0102) to 0, and a READ of as many
+unfoldable pub longWrite : List ℕ
+longWrite = (5 ∷ 4 ∷ 0 ∷ 2 ∷ 1 ∷ 0 ∷ 0 ∷ 0 ∷ 0 ∷ 0x29 ∷ 0x2A ∷ 5 ∷ 1 ∷ 1 ∷ 2 ∷ 1 ∷ []) ++ replicate 258 0xDD
+
+unfoldable pub longRead : List ℕ
+longRead = 5 ∷ 4 ∷ 0 ∷ 2 ∷ 1 ∷ 0 ∷ 0 ∷ 0 ∷ 0 ∷ 0x29 ∷ 0x2A ∷ 0 ∷ 0 ∷ []
+
 -- of count 0
 unfoldable pub sizeTo : ℕ → ℕ → List ℕ
 sizeTo low high = coreWrite 0 low high 3 1 0 []
@@ -60,6 +67,10 @@ sizeTo low high = coreWrite 0 low high 3 1 0 []
 -- LOCK_BYTE_RANGE or UNLOCK_BYTE_RANGE of that FID: that many bytes from that offset on
 unfoldable pub byteRange : ℕ → ℕ → ℕ → List ℕ
 byteRange fid count offset = 5 ∷ fid ∷ 0 ∷ count ∷ 0 ∷ 0 ∷ 0 ∷ offset ∷ 0 ∷ 0 ∷ 0 ∷ 0 ∷ 0 ∷ []
+
+-- of the largest count and offset, which are both 4,294,967,295
+unfoldable pub topRange : List ℕ
+topRange = 5 ∷ 4 ∷ 0 ∷ 0xFF ∷ 0xFF ∷ 0xFF ∷ 0xFF ∷ 0xFF ∷ 0xFF ∷ 0xFF ∷ 0xFF ∷ 0 ∷ 0 ∷ []
 
 -- each in a message of Flags 0x7F and Flags2 0xFFFF
 unfoldable pub sent : ℕ → List ℕ → List ℕ
@@ -140,7 +151,7 @@ emptyReply = success 48 0x0A ((0x05 ∷ 0x00 ∷ 0x00 ∷ 0x00 ∷ 0x00 ∷ 0x00
 
 -- READ (source document 000): 5 words: "count; reserved (MBZ)", which is eight zero bytes; "length of data + 3" bytes: "Data Block -- 01; length of data; data". File 1
 -- has 6 bytes: 3 of them from 2 on; 9 from 4 on, of which there are 2; "A read completely beyond the end of file will result in a response of length zero", whose bytes
--- are the mark and the length alone; none asked
+-- are the mark and the length alone; none asked; and 258 where that is the size
 unfoldable pub readReplies : List Row
 readReplies =
     row fewRecords 0x0A (coreRead 4 3 2)
@@ -149,13 +160,16 @@ readReplies =
     (success 50 0x0A ((0x05 ∷ 0x02 ∷ 0x00 ∷ 0x00 ∷ 0x00 ∷ 0x00 ∷ 0x00 ∷ 0x00 ∷ 0x00 ∷ 0x00 ∷ 0x00 ∷ []) ++ (0x05 ∷ 0x00 ∷ 0x01 ∷ 0x02 ∷ 0x00 ∷ 0xA4 ∷ 0xA5 ∷ [])))
     ∷ row fewRecords 0x0A (coreRead 4 3 6) emptyReply
     ∷ row fewRecords 0x0A (coreRead 4 0 2) emptyReply
+    ∷ row (taken fewRecords (sent 0x0B longWrite) .tables) 0x0A longRead
+    (success 306 0x0A ((0x05 ∷ 0x02 ∷ 0x01 ∷ 0x00 ∷ 0x00 ∷ 0x00 ∷ 0x00 ∷ 0x00 ∷ 0x00 ∷ 0x00 ∷ 0x00 ∷ []) ++ ((0x05 ∷ 0x01 ∷ 0x01 ∷ 0x02 ∷ 0x01 ∷ 0xA0 ∷ 0xA1 ∷ 0xA2 ∷ 0xA3 ∷ 0xA4 ∷ 0xA5 ∷ []) ++ replicate 252 0x00)))
     ∷ []
 
--- WRITE: 1 word, the count; no byte. 2 bytes at 2, and at 4,094, which is 0x0FFE
+-- WRITE: 1 word, the count; no byte. 2 bytes at 2, and at 4,094, which is 0x0FFE; 258 bytes
 unfoldable pub writeReplies : List Row
 writeReplies =
     row fewRecords 0x0B (writeTo 2 0) (success 37 0x0B (0x01 ∷ 0x02 ∷ 0x00 ∷ 0x00 ∷ 0x00 ∷ []))
     ∷ row fewRecords 0x0B (writeTo 0xFE 0x0F) (success 37 0x0B (0x01 ∷ 0x02 ∷ 0x00 ∷ 0x00 ∷ 0x00 ∷ []))
+    ∷ row fewRecords 0x0B longWrite (success 37 0x0B (0x01 ∷ 0x02 ∷ 0x01 ∷ 0x00 ∷ 0x00 ∷ []))
     ∷ []
 
 -- where a WRITE of count 0 is done
@@ -175,7 +189,7 @@ sizeReplies =
     ∷ []
 
 -- LOCK_BYTE_RANGE and UNLOCK_BYTE_RANGE: no word, no byte. 10 bytes from 100 on, locked; unlocked where they are, 1/158 where not: nothing is, another length, or a process
--- with another upper half. With 128 locks held, 1/8.
+-- with another upper half. With 128 locks held, 1/8. 1/87 cannot arise: the top range does not pass 2^64.
 unfoldable pub rangeReplies : List Row
 rangeReplies =
     row fewRecords 0x0C (byteRange 4 10 100) (success 35 0x0C (0x00 ∷ 0x00 ∷ 0x00 ∷ []))
@@ -184,10 +198,11 @@ rangeReplies =
     ∷ row (opened 2 (lock 0x0D0C1B1A 100 9 ∷ [])) 0x0D (byteRange 4 10 100) (refusal 0x0D 1 0x9E 0x00)
     ∷ row (opened 2 (lock 0x1B1A 100 10 ∷ [])) 0x0D (byteRange 4 10 100) (refusal 0x0D 1 0x9E 0x00)
     ∷ row (opened 2 (replicate 128 (lock 7 0 0))) 0x0C (byteRange 4 10 100) (refusal 0x0C 1 0x08 0x00)
+    ∷ row fewRecords 0x0C topRange (success 35 0x0C (0x00 ∷ 0x00 ∷ 0x00 ∷ []))
     ∷ []
 
--- "Refusals: as for the counterparts": 2/91, of UID 3 on another connection; 2/5, of no tree; 1/6, of FID 5; 1/5, of a read on access 1 and a write on access 0, count 0 too.
--- "locks need no access".
+-- "Refusals: as for the counterparts": 2/91, of UID 3 on another connection; 2/5, of no tree; 1/6, of FID 5; 1/5, of a read on access 1 and a write on access 0, count 0 too, before
+-- 1/33 and 3/39. "locks need no access".
 unfoldable pub whoMayAsk : List Row
 whoMayAsk =
     row (tablesWith (session 3 6 ∷ []) [] [] []) 0x0A (coreRead 4 3 2) (refusal 0x0A 2 0x5B 0x00)
@@ -198,7 +213,7 @@ whoMayAsk =
     ∷ row fewRecords 0x0D (byteRange 5 10 100) (refusal 0x0D 1 0x06 0x00)
     ∷ row (opened 1 []) 0x0A (coreRead 4 3 2) (refusal 0x0A 1 0x05 0x00)
     ∷ row (opened 0 []) 0x0B (writeTo 2 0) (refusal 0x0B 1 0x05 0x00)
-    ∷ row (opened 0 []) 0x0B (sizeTo 9 0) (refusal 0x0B 1 0x05 0x00)
+    ∷ row (opened 0 (lock 7 8 1 ∷ [])) 0x0B (sizeTo 0x01 0x10) (refusal 0x0B 1 0x05 0x00)
     ∷ row (opened 0 []) 0x0C (byteRange 4 10 100) (success 35 0x0C (0x00 ∷ 0x00 ∷ 0x00 ∷ []))
     ∷ []
 
@@ -259,7 +274,7 @@ table = readReplies ++ (writeReplies ++ (sizeReplies ++ (rangeReplies ++ (whoMay
 
 -- what the definitions give is what the documents say, in every row
 pub core-replies : map (λ r. given (r .tables) (r .request)) table ≡ map (λ r. r .said) table
-unfolding table emptyReply readReplies writeReplies resizedReply sizeReplies rangeReplies whoMayAsk ownShared conflicts sizeConflicts chains row sent coreRead coreWrite writeTo sizeTo byteRange holderOf message fewRecords tablesWith session tree open-of sizes memory given taken take-message dropped startsSmb isReply answered served replied replyOf replyHeader put runChain onlyStatus blocks blocksFrom blocksWithin afterParse afterBlock before parse answer linkFits linkAt mayFollow shaped bare le16At le32At callerOf run afterGiven after linkTo perform areaOf dataOf status statusOf replyBlock refusedBlock replySize linkWords two withSession isSession withTree withOpen isOpen openAt found foundFrom sound withinRoom fileOk treeOk permits holdsOpen openOk soundRecords lockOk agree agreeAll soundLocks fileOf isTree contains numberOk numbered any all allTails overlaps passesEnd reply success lock100 lockBlock range100 parseLocking lockingFits isLarge rangeSize doLocking servedType requestOf locking request releaseAll afterFind removeAt named afterReleases grantAll afterWalk afterGrants settle rangesOf ofHeader rangesAt rangeAt rangeFrom numberAt rangePasses askOf lockOf answers answersFor inWay bars owns lockingAfter lockingEnd withLockList stored wideOffset doRead unlessBarred barring askBy readBytes contents sizeOf writeBlock parseWrite writeFits dataInside doWrite endsPast resized written withFiles parseBare withLocks refusal opened lock heldAt contested rangeOf holderAt parseCoreWrite coreWriteFits coreSaid asCore rangeBy oneRange doRange smallForm betweenSizes doSetSize doCoreWrite
+unfolding table longWrite longRead topRange emptyReply readReplies writeReplies resizedReply sizeReplies rangeReplies whoMayAsk ownShared conflicts sizeConflicts chains row sent coreRead coreWrite writeTo sizeTo byteRange holderOf message fewRecords tablesWith session tree open-of sizes memory given taken take-message dropped startsSmb isReply answered served replied replyOf replyHeader put runChain onlyStatus blocks blocksFrom blocksWithin afterParse afterBlock before parse answer linkFits linkAt mayFollow shaped bare le16At le32At callerOf run afterGiven after linkTo perform areaOf dataOf status statusOf replyBlock refusedBlock replySize linkWords two withSession isSession withTree withOpen isOpen openAt found foundFrom sound withinRoom fileOk treeOk permits holdsOpen openOk soundRecords lockOk agree agreeAll soundLocks fileOf isTree contains numberOk numbered any all allTails overlaps passesEnd reply success lock100 lockBlock range100 parseLocking lockingFits isLarge rangeSize doLocking servedType requestOf locking request releaseAll afterFind removeAt named afterReleases grantAll afterWalk afterGrants settle rangesOf ofHeader rangesAt rangeAt rangeFrom numberAt rangePasses askOf lockOf answers answersFor inWay bars owns lockingAfter lockingEnd withLockList stored wideOffset doRead unlessBarred barring askBy readBytes contents sizeOf writeBlock parseWrite writeFits dataInside doWrite endsPast resized written withFiles parseBare withLocks refusal opened lock heldAt contested rangeOf holderAt parseCoreWrite coreWriteFits coreSaid asCore rangeBy oneRange doRange smallForm betweenSizes doSetSize doCoreWrite
 core-replies = refl
 
 -- ---- what else the call leaves
@@ -308,10 +323,11 @@ three = opened 2 (lock 0x0D0C1B1A 50 1 ∷ lock 0x0D0C1B1A 100 10 ∷ lock 0x0D0
 -- "the process from the header; the lock is exclusive"; an unlock removes that lock; in a chain the LOCKING before a WRITE stands, done or refused
 pub locks-left : (taken fewRecords (sent 0x0C (byteRange 4 10 100)) .tables .locks ≡ record { fid = 4; process = 0x0D0C1B1A; offset = 100; length = 10; shared = false } ∷ [])
     × (taken fewRecords (sent 0x0C (byteRange 4 10 100)) .tables .nlocks ≡ 1)
+    × (taken fewRecords (sent 0x0C topRange) .tables .locks ≡ lock 0x0D0C1B1A 4294967295 4294967295 ∷ [])
     × (taken three (sent 0x0D (byteRange 4 10 100)) .tables .nlocks ≡ 2)
     × (take 2 (taken three (sent 0x0D (byteRange 4 10 100)) .tables .locks) ≡ lock 0x0D0C1B1A 50 1 ∷ lock 0x0D0C1B1A 200 1 ∷ [])
     × (taken fewRecords (sent 0x24 (lock100 0x0B ++ writeTo 2 0)) .tables .locks ≡ lock 0x0D0C1B1A 100 10 ∷ [])
     × (taken fewRecords (sent 0x24 (lock100 0x0B ++ writeTo 2 0)) .memory ≡ file1 (0xA0 ∷ 0xA1 ∷ 0xBB ∷ 0xCC ∷ 0xA4 ∷ 0xA5 ∷ []) 61434)
     × (taken fewRecords (sent 0x24 (lock100 0x0B ++ sizeTo 0x01 0x10)) .tables .locks ≡ lock 0x0D0C1B1A 100 10 ∷ [])
-unfolding three file1 sent coreRead coreWrite writeTo sizeTo byteRange holderOf message fewRecords tablesWith session tree open-of sizes memory taken take-message dropped startsSmb isReply answered served replied replyOf replyHeader put runChain onlyStatus blocks blocksFrom blocksWithin afterParse afterBlock before parse answer linkFits linkAt mayFollow shaped bare le16At le32At callerOf run afterGiven after linkTo perform areaOf dataOf status statusOf replyBlock refusedBlock replySize linkWords two withSession isSession withTree withOpen isOpen openAt found foundFrom sound withinRoom fileOk treeOk permits holdsOpen openOk soundRecords lockOk agree agreeAll soundLocks fileOf isTree contains numberOk numbered any all allTails overlaps passesEnd lock100 lockBlock range100 parseLocking lockingFits isLarge rangeSize doLocking servedType requestOf locking request releaseAll afterFind removeAt named afterReleases grantAll afterWalk afterGrants settle rangesOf ofHeader rangesAt rangeAt rangeFrom numberAt rangePasses askOf lockOf answers answersFor inWay bars owns lockingAfter lockingEnd withLockList stored doRead unlessBarred barring askBy readBytes contents sizeOf doWrite endsPast resized written withFiles parseBare withLocks opened lock parseCoreWrite coreWriteFits coreSaid asCore rangeBy oneRange doRange smallForm betweenSizes doSetSize doCoreWrite
-locks-left = (refl, refl, refl, refl, refl, refl, refl)
+unfolding three topRange file1 sent coreRead coreWrite writeTo sizeTo byteRange holderOf message fewRecords tablesWith session tree open-of sizes memory taken take-message dropped startsSmb isReply answered served replied replyOf replyHeader put runChain onlyStatus blocks blocksFrom blocksWithin afterParse afterBlock before parse answer linkFits linkAt mayFollow shaped bare le16At le32At callerOf run afterGiven after linkTo perform areaOf dataOf status statusOf replyBlock refusedBlock replySize linkWords two withSession isSession withTree withOpen isOpen openAt found foundFrom sound withinRoom fileOk treeOk permits holdsOpen openOk soundRecords lockOk agree agreeAll soundLocks fileOf isTree contains numberOk numbered any all allTails overlaps passesEnd lock100 lockBlock range100 parseLocking lockingFits isLarge rangeSize doLocking servedType requestOf locking request releaseAll afterFind removeAt named afterReleases grantAll afterWalk afterGrants settle rangesOf ofHeader rangesAt rangeAt rangeFrom numberAt rangePasses askOf lockOf answers answersFor inWay bars owns lockingAfter lockingEnd withLockList stored doRead unlessBarred barring askBy readBytes contents sizeOf doWrite endsPast resized written withFiles parseBare withLocks opened lock parseCoreWrite coreWriteFits coreSaid asCore rangeBy oneRange doRange smallForm betweenSizes doSetSize doCoreWrite
+locks-left = (refl, refl, refl, refl, refl, refl, refl, refl)
