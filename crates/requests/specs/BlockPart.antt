@@ -6,20 +6,23 @@ use native.Mathlib.Omega.{arith}
 use mathlib.Core.Bool.{Bool, true, false, _&&_, _||_}
 use mathlib.Core.List.{List}
 use lib.ListN.{length, take, drop}
+use lib.Seq.{drop-drop}
 use lib.Dec.{leb, eqb}
 use borrow.Author.Tests.{leb-true}
 use Rattle.lists.specs.Truth.{both-hold, chosen}
-use Rattle.chain.specs.Layout.{CLOSE, PROCESS_EXIT, LOCKING, READ, WRITE, TREE_DISCONNECT, LOGOFF, wordCount, byteArea, byteCount, blockEnd, unlockCount, lockCount, lockType, dataLength, dataOffset}
-use Rattle.chain.specs.Parse.{shaped, isLarge, lockingFits, dataInside, writeFits, linkFits, linkAt, answer, parseLocking, parseRead, parseWrite, parseClose, parseLogoff, parseEmpty, parse}
+use Rattle.chain.specs.Layout.{CLOSE, PROCESS_EXIT, LOCKING, READ, WRITE, TREE_DISCONNECT, LOGOFF, CORE-READ, CORE-WRITE, LOCK_BYTE_RANGE, UNLOCK_BYTE_RANGE, wordCount, byteArea, byteCount, blockEnd, unlockCount, lockCount, lockType, dataLength, dataOffset, coreCount, markedData}
+use Rattle.chain.specs.Parse.{shaped, isLarge, lockingFits, dataInside, writeFits, coreWriteFits, linkFits, linkAt, answer, parseLocking, parseRead, parseWrite, parseLogoff, parseBare, parseCoreWrite, parse}
 use Rattle.chain.specs.ParseLaws.{shaped-words, locking-inside, write-inside}
 use Rattle.locks.specs.Wire.{rangeSize}
 use Rattle.chain.specs.declared.block.Body.{Body}
-use Rattle.chain.specs.declared.block.Body.the-variants.{Locking, Read, Write, Close, Logoff, TreeDisconnect, ProcessExit}
+use Rattle.chain.specs.declared.block.Body.the-variants.{Locking, Read, Write, Close, Logoff, TreeDisconnect, ProcessExit, CoreRead, CoreWrite, LockByteRange, UnlockByteRange}
 use Rattle.chain.specs.declared.block.Next.{Next}
 use Rattle.chain.specs.declared.block.Block.{Block}
 use Rattle.chain.specs.declared.block.LockingFields.{LockingFields}
 use Rattle.chain.specs.declared.block.WriteFields.{WriteFields}
 use Rattle.chain.specs.declared.block.Parsed.the-variants.{Whole, Malformed}
+use Rattle.invariants.specs.BlockTests.{core-write-exact}
+use Rattle.requests.specs.ReadPart.{drop-take}
 
 -- a LOCKING block of that place and length
 pub record LockingPart (s : List ℕ) (at size : ℕ) : Type 0 where
@@ -33,6 +36,12 @@ pub record WritePart (s : List ℕ) (at : ℕ) (f : WriteFields) : Type 0 where
   pub count : f .count ≡ dataLength s at
   pub inside : dataOffset s at + dataLength s at ≤ length s
 
+-- a core WRITE block with those fields: its data stand behind the mark and the length of its data block
+pub record CoreWritePart (s : List ℕ) (at : ℕ) (f : WriteFields) : Type 0 where
+  pub from : f .from ≡ markedData s at
+  pub count : byteCount s at ≡ 3 + f .count
+  pub inside : blockEnd s at ≤ length s
+
 unfoldable pub Part : List ℕ → ℕ → ℕ → Body → Type 0
 Part s at size (Locking f) = LockingPart s at size
 Part s at size (Read f) = _≡_ {A = ℕ} 0 0
@@ -41,6 +50,10 @@ Part s at size (Close fid) = _≡_ {A = ℕ} 0 0
 Part s at size Logoff = _≡_ {A = ℕ} 0 0
 Part s at size TreeDisconnect = _≡_ {A = ℕ} 0 0
 Part s at size ProcessExit = _≡_ {A = ℕ} 0 0
+Part s at size (CoreRead f) = _≡_ {A = ℕ} 0 0
+Part s at size (CoreWrite f) = CoreWritePart s at f
+Part s at size (LockByteRange f) = _≡_ {A = ℕ} 0 0
+Part s at size (UnlockByteRange f) = _≡_ {A = ℕ} 0 0
 
 -- a block is yielded only where it fits
 module _ (s : List ℕ) (command at : ℕ) where
@@ -71,9 +84,15 @@ module _ (s : List ℕ) (at : ℕ) where
       let whole : blockEnd s at ≤ length s = write-inside s at e in
       record { from = from; count = count; inside = omega arith }
 
+  core-write-part : coreWriteFits s at ≡ true → (f : WriteFields) → f .from ≡ markedData s at → f .count ≡ coreCount s at → CoreWritePart s at f
+  core-write-part e f from count =
+      let m = core-write-exact s at .0 e in
+      let filled = m .filled in
+      record { from = from; count = omega arith; inside = m .shape .inside }
+
   -- whatever its command
   pub block-part : (command : ℕ) (b : Block) → parse s command at ≡ Whole b → Part s at (b .length) (b .body)
-  unfolding parse parseLocking parseRead parseWrite parseClose parseLogoff parseEmpty Part
+  unfolding parse parseLocking parseRead parseWrite parseLogoff parseBare parseCoreWrite Part
   block-part command b e =
       chosen (eqb command LOCKING) _ _ (Whole b)
       (yielded s LOCKING at (lockingFits s at && linkFits s LOCKING at) _ (linkAt s at) b (λ h. locking-part (both-hold (lockingFits s at) (linkFits s LOCKING at) h .0)))
@@ -83,8 +102,12 @@ module _ (s : List ℕ) (at : ℕ) where
       (chosen (eqb command CLOSE) _ _ (Whole b) (yielded s CLOSE at _ _ _ b (λ h. refl))
       (chosen (eqb command LOGOFF) _ _ (Whole b) (yielded s LOGOFF at _ Logoff (linkAt s at) b (λ h. refl))
       (chosen (eqb command TREE_DISCONNECT) _ _ (Whole b) (yielded s TREE_DISCONNECT at _ TreeDisconnect _ b (λ h. refl))
-      (chosen (eqb command PROCESS_EXIT) _ Malformed (Whole b) (yielded s PROCESS_EXIT at _ ProcessExit _ b (λ h. refl))
-      (λ z. let never : _≡_ {A = ℕ} 0 1 = cc in absurd (omega arith))))))))
+      (chosen (eqb command PROCESS_EXIT) _ _ (Whole b) (yielded s PROCESS_EXIT at _ ProcessExit _ b (λ h. refl))
+      (chosen (eqb command CORE-READ) _ _ (Whole b) (yielded s CORE-READ at _ _ _ b (λ h. refl))
+      (chosen (eqb command CORE-WRITE) _ _ (Whole b) (yielded s CORE-WRITE at (coreWriteFits s at) _ _ b (λ h. core-write-part h _ refl refl))
+      (chosen (eqb command LOCK_BYTE_RANGE) _ _ (Whole b) (yielded s LOCK_BYTE_RANGE at _ _ _ b (λ h. refl))
+      (chosen (eqb command UNLOCK_BYTE_RANGE) _ Malformed (Whole b) (yielded s UNLOCK_BYTE_RANGE at _ _ _ b (λ h. refl))
+      (λ z. let never : _≡_ {A = ℕ} 0 1 = cc in absurd (omega arith))))))))))))
       e
 
 -- a LOCKING block's byte area, as a part of the message
@@ -96,7 +119,16 @@ area-part s at size p =
     let count : byteCount s at ≡ at + size - (at + 19) = omega arith in
     ap (λ (n : ℕ). take n (drop (byteArea s at) s)) count ∙ ap (λ (n : ℕ). take (at + size - (at + 19)) (drop n s)) area
 
--- what the reader says of a LOCKING block, and of a WRITE block
+-- a core WRITE's data, as a part of the message
+pub data-part : (s : List ℕ) (at : ℕ) (f : WriteFields) → CoreWritePart s at f
+    → drop 3 (take (byteCount s at) (drop (byteArea s at) s)) ≡ take (f .count) (drop (f .from) s)
+data-part s at f p =
+    let count = p .count in
+    let left : byteCount s at - 3 ≡ f .count = omega arith in
+    drop-take 3 (byteCount s at) (drop (byteArea s at) s)
+    ∙ rw (drop-drop 3 (byteArea s at) s, left, p .from)
+
+-- what the reader says of a LOCKING block, of a WRITE block, and of a core WRITE block
 pub locking-told : (s : List ℕ) (b : Block) (f : LockingFields) → parse s (b .command) (b .at) ≡ Whole b → b .body ≡ Locking f → LockingPart s (b .at) (b .length)
 unfolding Part
 locking-told s b f e q = let p : Part s (b .at) (b .length) (Locking f) = rw q at (block-part s (b .at) (b .command) b e) in p
@@ -104,3 +136,7 @@ locking-told s b f e q = let p : Part s (b .at) (b .length) (Locking f) = rw q a
 pub write-told : (s : List ℕ) (b : Block) (f : WriteFields) → parse s (b .command) (b .at) ≡ Whole b → b .body ≡ Write f → WritePart s (b .at) f
 unfolding Part
 write-told s b f e q = let p : Part s (b .at) (b .length) (Write f) = rw q at (block-part s (b .at) (b .command) b e) in p
+
+pub core-write-told : (s : List ℕ) (b : Block) (f : WriteFields) → parse s (b .command) (b .at) ≡ Whole b → b .body ≡ CoreWrite f → CoreWritePart s (b .at) f
+unfolding Part
+core-write-told s b f e q = let p : Part s (b .at) (b .length) (CoreWrite f) = rw q at (block-part s (b .at) (b .command) b e) in p

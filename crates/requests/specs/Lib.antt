@@ -1,5 +1,6 @@
 pub mod Told
 pub mod Leaves
+pub mod CorePart
 pub mod LockPart
 pub mod BarPart
 pub mod Reach

@@ -24,7 +24,7 @@ readPart t file offset most =
     cond (leb (sizeOf t file) offset) (Read 0 0) (Read (file * 4096 + offset) (min most (sizeOf t file - offset)))
 
 -- a part of the first elements
-drop-take : (o n : ℕ) (l : List ℕ) → drop o (take n l) ≡ take (n - o) (drop o l)
+pub drop-take : (o n : ℕ) (l : List ℕ) → drop o (take n l) ≡ take (n - o) (drop o l)
 drop-take zero n l = let e : n ≡ n - 0 = omega arith in ap (λ (k : ℕ). take k l) e
 drop-take (suc o) zero l = let e : 0 - suc o ≡ 0 = omega arith in rw e
 drop-take (suc o) (suc n) [] = sym (take-nil (suc n - suc o))

@@ -1,10 +1,10 @@
--- What LOCKING, READ and WRITE do once it is known who asks: the parts of message/specs/Command.antt's definitions, and that these
+-- What LOCKING, READ, WRITE and a core WRITE of count 0 do once it is known who asks: the parts of message/specs/Command.antt's definitions, and that these
 -- are those. Assumes nothing.
 use mathlib.Core.Path.{_≡_, refl}
 use Prim.Native.Nat.{ℕ}
 use mathlib.Core.Bool.{cond}
 use mathlib.Core.List.{List}
-use lib.Dec.{eqb}
+use lib.Dec.{ltb, eqb}
 use Rattle.records.specs.declared.Open.{Open}
 use Rattle.records.specs.declared.Tables.{Tables}
 use Rattle.records.specs.Held.{opensOf}
@@ -15,9 +15,9 @@ use Rattle.chain.specs.declared.block.LockingFields.{LockingFields}
 use Rattle.chain.specs.declared.block.ReadFields.{ReadFields}
 use Rattle.chain.specs.declared.block.WriteFields.{WriteFields}
 use Rattle.message.specs.declared.caller.Caller.{Caller}
-use Rattle.message.specs.Contents.{readBytes, written, resized}
+use Rattle.message.specs.Contents.{sizeOf, readBytes, grown, written, withSize, resized}
 use Rattle.message.specs.declared.refusal.Refusal.the-variants.{NoAccess, LockType, NoSpace}
-use Rattle.message.specs.Command.{Given, refused, done, read, wrote, withOpen, servedType, requestOf, lockingAfter, doLocking, askBy, unlessBarred, barring, doRead, endsPast, doWrite}
+use Rattle.message.specs.Command.{Given, refused, done, read, wrote, coreWrote, withOpen, servedType, requestOf, lockingAfter, doLocking, askBy, unlessBarred, barring, doRead, endsPast, doWrite, betweenSizes, doSetSize}
 
 -- ---- LOCKING
 
@@ -60,3 +60,18 @@ pub write-steps : (c : Caller) (t : Tables) (memory : List ℕ) (f : WriteFields
     → doWrite c t memory f bytes ≡ withOpen c t (f .fid) (writeOpen c t memory f bytes)
 unfolding doWrite writeOpen writeFree
 write-steps c t memory f bytes = refl
+
+-- ---- a core WRITE of count 0
+
+unfoldable pub sizeFree : Tables → List ℕ → WriteFields → ℕ → Given
+sizeFree t memory f file =
+    cond (ltb 4096 (f .offset)) (refused NoSpace) (done (withSize t file (f .offset)) (grown t memory file (f .offset)) (coreWrote 0))
+
+unfoldable pub sizeOpen : Caller → Tables → List ℕ → WriteFields → Open → Given
+sizeOpen c t memory f o =
+    cond (eqb (o .access) 0) (refused NoAccess)
+    (unlessBarred t (barring t (betweenSizes c (f .fid) (sizeOf t (o .file)) (f .offset))) (sizeFree t memory f (o .file)))
+
+pub size-steps : (c : Caller) (t : Tables) (memory : List ℕ) (f : WriteFields) → doSetSize c t memory f ≡ withOpen c t (f .fid) (sizeOpen c t memory f)
+unfolding doSetSize sizeOpen sizeFree
+size-steps c t memory f = refl

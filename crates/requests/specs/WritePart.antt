@@ -12,7 +12,7 @@ use Rattle.lists.specs.Put.{put}
 use Rattle.lists.specs.Truth.{same-truth}
 use Rattle.records.specs.declared.Tables.{Tables}
 use Rattle.chain.specs.declared.block.WriteFields.{WriteFields}
-use Rattle.message.specs.Contents.{sizeOf, written, resized}
+use Rattle.message.specs.Contents.{sizeOf, grown, written, resized}
 use Rattle.message.specs.Command.{done, wrote, endsPast}
 use Rattle.requests.specs.Steps.{writeFree}
 
@@ -47,13 +47,18 @@ put-zeros d x from to h k e =
     let zeros : length (replicate {A = ℕ} (to - from) 0) ≡ to - from = length-replicate (to - from) 0 in
     rw (e, long, drop-drop (to - from) from d, zeros)
 
+-- zeros from the file's size up to a place
+pub put-grown : (t : Tables) (m g : List ℕ) (file end size : ℕ) → size ≡ sizeOf t file
+    → g ≡ put m (file * 4096 + size) (replicate (file * 4096 + end - (file * 4096 + size)) 0) → g ≡ grown t m file end
+put-grown t m g file end size q e =
+    let gap : file * 4096 + end - (file * 4096 + size) ≡ end - size = omega arith in
+    rw (e, gap, q)
+
 -- "Bytes between the old size and the write become 0", then the bytes written
-pub put-written : (t : Tables) (m g s : List ℕ) (file offset size : ℕ) → size ≡ sizeOf t file → 0 < length s
-    → g ≡ put m (file * 4096 + size) (replicate (file * 4096 + offset - (file * 4096 + size)) 0) → put g (file * 4096 + offset) s ≡ written t m file offset s
+pub put-written : (t : Tables) (m g s : List ℕ) (file offset : ℕ) → 0 < length s → g ≡ grown t m file offset
+    → put g (file * 4096 + offset) s ≡ written t m file offset s
 unfolding written
-put-written t m g s file offset size q h e =
-    let gap : file * 4096 + offset - (file * 4096 + size) ≡ offset - size = omega arith in
-    rw (ne-eqb (length s) 0 (λ z. omega arith), e, gap, q)
+put-written t m g s file offset h e = rw (ne-eqb (length s) 0 (λ z. omega arith), e)
 
 -- "Length 0 writes nothing, changes no size"
 pub nothing-written : (t : Tables) (m : List ℕ) (f : WriteFields) (file : ℕ) (s : List ℕ) → endsPast (f .offset) (f .count) ≡ false → f .count ≡ 0

@@ -24,14 +24,14 @@ ghost use Rattle.message.specs.declared.refusal.Refusal.the-variants.{Conflict}
 ghost use Rattle.invariants.specs.Sound.{Good};
 
 // "Locks: process from the range; reads and writes: from the header."
-pub(crate) fn ask_of(c: Caller, fid: u16, offset: u64, count: u16, purpose: Purpose) -> Ask
-    ensures { λ r. ⌜ r ≡ askBy c fid offset count purpose ⌝ }
+pub(crate) fn ask_of(c: Caller, fid: u16, offset: u64, length: u64, purpose: Purpose) -> Ask
+    ensures { λ r. ⌜ r ≡ askBy c fid offset length purpose ⌝ }
 {
     Ask {
         fid,
         process: c.process,
         offset,
-        length: count as u64,
+        length,
         purpose,
     }
 }

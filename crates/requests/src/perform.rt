@@ -1,5 +1,8 @@
 // One block of a chain carried out.
 
+use crate::core::do_core_read;
+use crate::core::do_core_write;
+use crate::core::do_range;
 use crate::leaving::do_close;
 use crate::leaving::do_disconnect;
 use crate::leaving::do_exit;
@@ -21,7 +24,7 @@ ghost use Rattle.tables.specs.Words.{tablesOf, inUseFit};
 ghost use Rattle.chain.specs.Layout.{byteArea, byteCount};
 ghost use Rattle.chain.specs.Parse.{parse};
 ghost use Rattle.chain.specs.declared.block.Parsed.the-variants.{Whole};
-ghost use Rattle.message.specs.Command.{doLocking, doWrite, perform};
+ghost use Rattle.message.specs.Command.{doLocking, doWrite, doCoreWrite, perform};
 ghost use Rattle.message.specs.Given.{Gives};
 ghost use Rattle.message.specs.Message.{areaOf, dataOf};
 ghost use Rattle.invariants.specs.Sound.{Good};
@@ -71,6 +74,26 @@ fn writing_block(
     do_write(c, words, f, &s[from..to], memory)
 }
 
+// A core WRITE block: its data stand in its data block.
+fn core_writing_block(
+    c: Caller,
+    words: &mut [u64],
+    f: WriteFields,
+    s: &[u8],
+    memory: &mut [u8],
+) -> Answer
+    requires { ⌜ length (now words) ≡ 1172 ⌝ }
+    requires { ⌜ Good (tablesOf (now words)) ⌝ }
+    requires { ⌜ length (now memory) ≡ 65536 ⌝ }
+    requires { ⌜ f .from + f .count ≤ length (now s) ⌝ }
+    ensures { λ r. ⌜ Gives (doCoreWrite c (tablesOf (now (words .entry))) (now (memory .entry)) f (take (f .count) (drop (f .from) (now (s .entry))))) (tablesOf (now (words .entry))) (now (memory .entry)) (performed r (tablesOf (now (words .exit)))) (now (memory .exit)) ⌝ }
+    ensures { λ _. ⌜ (inUseFit (now (words .entry)) ≡ true → inUseFit (now (words .exit)) ≡ true) ⌝ }
+{
+    let from = f.from;
+    let to = from + f.count as usize;
+    do_core_write(c, words, f, &s[from..to], memory)
+}
+
 // The block `b` of the message `s`.
 pub fn perform_block(c: Caller, words: &mut [u64], s: &[u8], b: Block, memory: &mut [u8]) -> Answer
     requires { ⌜ length (now words) ≡ 1172 ⌝ }
@@ -89,5 +112,9 @@ pub fn perform_block(c: Caller, words: &mut [u64], s: &[u8], b: Block, memory: &
         Body::Logoff => do_logoff(c, words),
         Body::TreeDisconnect => do_disconnect(c, words),
         Body::ProcessExit => do_exit(c, words),
+        Body::CoreRead(f) => do_core_read(c, words, f),
+        Body::CoreWrite(f) => core_writing_block(c, words, f, s, memory),
+        Body::LockByteRange(f) => do_range(c, words, f, 0, 1),
+        Body::UnlockByteRange(f) => do_range(c, words, f, 1, 0),
     }
 }

@@ -52,7 +52,7 @@ fn read_open(c: Caller, words: &[u64], f: ReadFields, o: Open) -> Answer
     if o.access == 1 {
         return Answer::Refused(Refusal::NoAccess);
     }
-    let q = ask_of(c, f.fid, f.offset, f.max, Purpose::Read);
+    let q = ask_of(c, f.fid, f.offset, f.max as u64, Purpose::Read);
     let bar = first_bar(words, q);
     match bar {
         Found::At(place) => refuse_for(words, place),

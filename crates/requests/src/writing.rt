@@ -24,7 +24,7 @@ ghost use Rattle.lists.specs.Put.{put};
 ghost use Rattle.records.specs.Held.{withFiles};
 ghost use Rattle.tables.specs.Words.{fileOf, tablesOf, inUseFit};
 ghost use Rattle.message.specs.Command.{endsPast, doWrite};
-ghost use Rattle.message.specs.Contents.{sizeOf, written};
+ghost use Rattle.message.specs.Contents.{sizeOf, grown, written, withSize};
 ghost use Rattle.message.specs.Given.{Gives};
 ghost use Rattle.invariants.specs.Sound.{Good};
 ghost use Rattle.requests.specs.Leaves.{performed};
@@ -54,6 +54,21 @@ fn clear_gap(room: &mut [u8], from: usize, to: usize)
     clear(&mut room[from..to]);
 }
 
+// Zeros from the file's size up to a place in it, where that lies further on.
+pub(crate) fn grow(words: &[u64], file: u8, end: usize, memory: &mut [u8])
+    requires { ⌜ length (now words) ≡ 1172 ⌝ }
+    requires { ⌜ Good (tablesOf (now words)) ⌝ }
+    requires { ⌜ file ≤ 15 ⌝ }
+    requires { ⌜ length (now memory) ≡ 65536 ⌝ }
+    requires { ⌜ end ≤ 4096 ⌝ }
+    ensures { λ _. ⌜ now (memory .exit) ≡ grown (tablesOf (now (words .entry))) (now (memory .entry)) file end ⌝ }
+{
+    let start = file as usize * 4096;
+    let from = start + file_size(words, file);
+    let to = start + end;
+    clear_gap(memory, from, to);
+}
+
 // "Bytes between the old size and the write become 0", then the bytes written.
 fn write_bytes(words: &[u64], file: u8, offset: usize, source: &[u8], memory: &mut [u8])
     requires { ⌜ length (now words) ≡ 1172 ⌝ }
@@ -64,10 +79,8 @@ fn write_bytes(words: &[u64], file: u8, offset: usize, source: &[u8], memory: &m
     requires { ⌜ 0 < length (now source) ⌝ }
     ensures { λ _. ⌜ now (memory .exit) ≡ written (tablesOf (now (words .entry))) (now (memory .entry)) file offset (now (source .entry)) ⌝ }
 {
-    let start = file as usize * 4096;
-    let from = start + file_size(words, file);
-    let at = start + offset;
-    clear_gap(memory, from, at);
+    grow(words, file, offset, memory);
+    let at = file as usize * 4096 + offset;
     lay(source, &mut memory[at..]);
 }
 
@@ -78,6 +91,17 @@ fn larger(a: usize, b: usize) -> usize
     if a < b { b } else { a }
 }
 
+// A file's size, set.
+pub(crate) fn set_size(words: &mut [u64], file: u8, size: usize)
+    requires { ⌜ length (now words) ≡ 1172 ⌝ }
+    requires { ⌜ file ≤ 15 ⌝ }
+    ensures { λ _. ⌜ tablesOf (now (words .exit)) ≡ withSize (tablesOf (now (words .entry))) file size ⌝ }
+    ensures { λ _. ⌜ (inUseFit (now (words .entry)) ≡ true → inUseFit (now (words .exit)) ≡ true) ⌝ }
+{
+    let at = file as usize;
+    put_size(&mut words[1156..1172], at, size);
+}
+
 // "and a size below the write's end becomes that end".
 fn raise_size(words: &mut [u64], file: u8, end: usize)
     requires { ⌜ length (now words) ≡ 1172 ⌝ }
@@ -86,8 +110,7 @@ fn raise_size(words: &mut [u64], file: u8, end: usize)
     ensures { λ _. ⌜ (inUseFit (now (words .entry)) ≡ true → inUseFit (now (words .exit)) ≡ true) ⌝ }
 {
     let size = larger(file_size(words, file), end);
-    let at = file as usize;
-    put_size(&mut words[1156..1172], at, size);
+    set_size(words, file, size);
 }
 
 // A write that no lock bars.
@@ -138,7 +161,7 @@ fn write_open(
     if o.access == 0 {
         return Answer::Refused(Refusal::NoAccess);
     }
-    let q = ask_of(c, f.fid, f.offset, f.count, Purpose::Write);
+    let q = ask_of(c, f.fid, f.offset, f.count as u64, Purpose::Write);
     let bar = first_bar(words, q);
     match bar {
         Found::At(place) => refuse_for(words, place),

@@ -4,7 +4,7 @@ use borrow.Author.Needs.{needs}
 use native.Mathlib.Omega.{arith}
 use Rattle.message.specs.Command.{perform}
 use Rattle.message.specs.Message.{areaOf, dataOf}
-use Rattle.requests.specs.BlockPart.{locking-told, write-told}
+use Rattle.requests.specs.BlockPart.{data-part, locking-told, write-told, core-write-told}
 use Rattle.requests.proofs.perform.perform_block.Statement.{statement}
 use Rattle.requests.proofs.perform.perform_block.Tie as tie
 
@@ -59,6 +59,37 @@ enum-told-3 c = search needs
 
 do-exit-requires : tie.Need-do-exit-requires
 do-exit-requires c κs = (c .before .before .before .before .before .before .pre .0, c .before .before .before .before .before .before .pre .1 .0)
+
+enum-known-body-5 : tie.Need-enum-known-body-5
+enum-known-body-5 c = search needs
+
+do-core-read-requires : tie.Need-do-core-read-requires
+do-core-read-requires c κs = (c .before .before .before .before .before .before .before .pre .0, c .before .before .before .before .before .before .before .pre .1 .0)
+
+enum-known-body-6 : tie.Need-enum-known-body-6
+enum-known-body-6 c = search needs
+
+core-writing-block-requires : tie.Need-core-writing-block-requires
+core-writing-block-requires c κs =
+    let pre = c .before .before .before .before .before .before .before .before .pre in
+    let args = c .before .before .before .before .before .before .before .before .args in
+    let w = (core-write-told (args .s .now) (args .b) (c .before .before .before .body6 .given .0 .0) (pre .1 .1 .1) (c .before .before .before .body6 .given .1)) in
+    let from = w .from in
+    let count = w .count in
+    let inside = w .inside in
+    (pre .0, (pre .1 .0, (pre .1 .1 .0, omega arith)))
+
+enum-known-body-7 : tie.Need-enum-known-body-7
+enum-known-body-7 c = search needs
+
+do-range-requires : tie.Need-do-range-requires
+do-range-requires c κs = (c .before .before .before .before .before .before .before .pre .0, c .before .before .before .before .before .before .before .pre .1 .0)
+
+enum-known-body-8 : tie.Need-enum-known-body-8
+enum-known-body-8 c = search needs
+
+do-range-requires-2 : tie.Need-do-range-requires-2
+do-range-requires-2 c κs = (c .before .before .before .before .before .before .before .pre .0, c .before .before .before .before .before .before .before .pre .1 .0)
 
 same-length : tie.Need-same-length
 same-length c = search needs
@@ -121,6 +152,43 @@ unfolding perform
 returns-7 c =
     (rw (c .before .before .before .before .enum-told3 .given .1) (c .before .before .do-exit .ensures .0 (c .before .before .before .before .before .before .before .before .before .args .memory .now)), c .before .before .do-exit .ensures .1)
 
+same-length-9 : tie.Need-same-length-9
+same-length-9 c = search needs
+
+returns-8 : tie.Need-returns-8
+unfolding perform
+returns-8 c =
+    (rw (c .before .before .before .body5 .given .1) (c .do-core-read .ensures (c .before .before .before .before .before .before .before .before .args .memory .now)), λ h. h)
+
+same-length-10 : tie.Need-same-length-10
+same-length-10 c = search needs
+
+same-length-11 : tie.Need-same-length-11
+same-length-11 c = search needs
+
+returns-9 : tie.Need-returns-9
+unfolding perform areaOf
+returns-9 c =
+    let args = c .before .before .before .before .before .before .before .before .before .before .before .before .before .args in
+    let w = (core-write-told (args .s .now) (args .b) (c .before .before .before .before .before .before .before .before .body6 .given .0 .0) (c .before .before .before .before .before .before .before .before .before .before .before .before .before .pre .1 .1 .1) (c .before .before .before .before .before .before .before .before .body6 .given .1)) in
+    (rw (c .before .before .before .before .before .before .before .before .body6 .given .1, data-part (args .s .now) (args .b .at) (c .before .before .before .before .before .before .before .before .body6 .given .0 .0) w) (c .before .before .before .before .core-writing-block .ensures .0), c .before .before .before .before .core-writing-block .ensures .1)
+
+same-length-12 : tie.Need-same-length-12
+same-length-12 c = search needs
+
+returns-10 : tie.Need-returns-10
+unfolding perform
+returns-10 c =
+    (rw (c .before .before .before .before .before .body7 .given .1) (c .before .before .do-range .ensures .0 (c .before .before .before .before .before .before .before .before .before .before .args .memory .now)), c .before .before .do-range .ensures .1)
+
+same-length-13 : tie.Need-same-length-13
+same-length-13 c = search needs
+
+returns-11 : tie.Need-returns-11
+unfolding perform
+returns-11 c =
+    (rw (c .before .before .before .before .before .body8 .given .1) (c .before .before .do-range2 .ensures .0 (c .before .before .before .before .before .before .before .before .before .before .args .memory .now)), c .before .before .do-range2 .ensures .1)
+
 pub perform-block-spec : {M : Type 1} → statement M
 perform-block-spec =
     tie.close
@@ -139,6 +207,14 @@ perform-block-spec =
     do-disconnect-requires
     enum-told-3
     do-exit-requires
+    enum-known-body-5
+    do-core-read-requires
+    enum-known-body-6
+    core-writing-block-requires
+    enum-known-body-7
+    do-range-requires
+    enum-known-body-8
+    do-range-requires-2
     same-length
     returns
     same-length-2
@@ -153,4 +229,13 @@ perform-block-spec =
     same-length-7
     returns-6
     same-length-8
-    returns-7)
+    returns-7
+    same-length-9
+    returns-8
+    same-length-10
+    same-length-11
+    returns-9
+    same-length-12
+    returns-10
+    same-length-13
+    returns-11)

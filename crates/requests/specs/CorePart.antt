@@ -1,0 +1,70 @@
+-- What a counterpart answers, in the core command's reply block (document 02, CR 3): the same things are changed. Assumes nothing.
+use mathlib.Core.Path.{_≡_, refl, sym, ap, _∙_}
+use Prim.Native.Nat.{ℕ}
+use mathlib.Core.List.{List}
+use Rattle.records.specs.declared.Tables.{Tables}
+use Rattle.message.specs.Command.{Given, refused, done, coreSaid, asCore}
+use Rattle.message.specs.Given.{givenOf, inside, tablesAfter, memoryAfter, Gives}
+use Rattle.message.specs.declared.answer.Answer.{Answer}
+use Rattle.message.specs.declared.answer.Answer.the-variants.{Refused, Locked, LoggedOff, Read, Wrote, Plain, CoreRead, CoreWrote}
+use Rattle.requests.specs.Leaves.{Leaves, performed}
+
+unfoldable pub coreAnswer : Answer → Answer
+coreAnswer (Refused why) = Refused why
+coreAnswer Locked = Plain
+coreAnswer LoggedOff = LoggedOff
+coreAnswer (Read place count) = CoreRead place count
+coreAnswer (Wrote count) = CoreWrote count
+coreAnswer Plain = Plain
+coreAnswer (CoreRead place count) = CoreRead place count
+coreAnswer (CoreWrote count) = CoreWrote count
+
+-- it means what the counterpart gives, in that block
+pub core-given : (a : Answer) (t : Tables) (memory : List ℕ) → givenOf (coreAnswer a) t memory ≡ asCore (givenOf a t memory)
+unfolding coreAnswer givenOf asCore coreSaid
+core-given (Refused why) t memory = refl
+core-given Locked t memory = refl
+core-given LoggedOff t memory = refl
+core-given (Read place count) t memory = refl
+core-given (Wrote count) t memory = refl
+core-given Plain t memory = refl
+core-given (CoreRead place count) t memory = refl
+core-given (CoreWrote count) t memory = refl
+
+-- a READ's bytes lie in the file memory as before
+pub core-inside : (a : Answer) → inside (coreAnswer a) ≡ inside a
+unfolding coreAnswer inside
+core-inside (Refused why) = refl
+core-inside Locked = refl
+core-inside LoggedOff = refl
+core-inside (Read place count) = refl
+core-inside (Wrote count) = refl
+core-inside Plain = refl
+core-inside (CoreRead place count) = refl
+core-inside (CoreWrote count) = refl
+
+-- the same tables and file memory are left
+core-tables : (d : Given) (t : Tables) → tablesAfter (asCore d) t ≡ tablesAfter d t
+unfolding asCore tablesAfter
+core-tables (refused why) t = refl
+core-tables (done t′ memory′ said) t = refl
+
+core-memory : (d : Given) (memory : List ℕ) → memoryAfter (asCore d) memory ≡ memoryAfter d memory
+unfolding asCore memoryAfter
+core-memory (refused why) memory = refl
+core-memory (done t′ memory′ said) memory = refl
+
+-- so what performs the counterpart performs the core command
+pub gives-core : {d : Given} {t t′ : Tables} {memory left : List ℕ} {a : Answer} → Gives d t memory (performed a t′) left
+    → Gives (asCore d) t memory (performed (coreAnswer a) t′) left
+gives-core {d} {t} {t′} {memory} {left} {a} g =
+    record {
+      meaning = ap asCore (g .meaning) ∙ sym (core-given a t′ left);
+      tables-left = g .tables-left ∙ sym (core-tables d t);
+      memory-left = g .memory-left ∙ sym (core-memory d memory);
+      within = core-inside a ∙ g .within;
+    }
+
+pub leaves-core : {given : List ℕ → Given} {t t′ : Tables} {a : Answer} → Leaves given t (performed a t′)
+    → Leaves (λ m. asCore (given m)) t (performed (coreAnswer a) t′)
+leaves-core g m = gives-core (g m)
