@@ -1,10 +1,10 @@
--- The parts of a header and of a READ's block, in the order in which they are written. Assumes nothing.
+-- The parts of a header, of a READ's block and of a core READ's, in the order in which they are written. Assumes nothing.
 use mathlib.Core.Path.{_≡_, refl}
 use Prim.Native.Nat.{ℕ, _+_, _*_, _/_, _%_}
 use mathlib.Core.List.{List, [], _∷_, _++_}
 use lib.ListN.{length, take, drop, replicate}
 use Rattle.wire.specs.LittleEndian.{byteAt}
-use Rattle.message.specs.Command.{read}
+use Rattle.message.specs.Command.{read, coreRead}
 use Rattle.message.specs.Reply.{two, replyHeader, linkWords, replyBlock}
 use Rattle.message.specs.declared.refusal.Status.{Status}
 use Rattle.message.specs.declared.link.Link.{Link}
@@ -57,3 +57,15 @@ pub read-whole : (bytes : List ℕ) (place : ℕ) (link : Link)
 unfolding replyBlock readStart readExtent linkWords two
 read-whole bytes place none = refl
 read-whole bytes place (next c p) = refl
+
+-- a core READ's "count, eight zero bytes", ByteCount, the mark and the length of its data block: 16 bytes
+unfoldable pub coreFront : ℕ → List ℕ
+coreFront count = 5 ∷ (two count ++ (replicate 8 0 ++ (two (3 + count) ++ (0x01 ∷ two count))))
+
+pub length-coreFront : (count : ℕ) → length (coreFront count) ≡ 16
+unfolding coreFront two
+length-coreFront count = refl
+
+pub core-whole : (bytes : List ℕ) (place : ℕ) (link : Link) → replyBlock (coreRead bytes) place link ≡ coreFront (length bytes) ++ bytes
+unfolding replyBlock coreFront two
+core-whole bytes place link = refl

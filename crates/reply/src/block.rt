@@ -1,4 +1,4 @@
-// A reply block (document 01, "Reply blocks"): "each is written into the room left after the one before". The room that a
+// A reply block (document 01, "Reply blocks"; document 02, CR 3): "each is written into the room left after the one before". The room that a
 // writer is lent begins where its block is to stand.
 
 use crate::little_endian::high;
@@ -16,7 +16,7 @@ ghost use Rattle.lists.specs.Put.{put};
 ghost use Rattle.message.specs.Command.{read};
 ghost use Rattle.message.specs.Reply.{two, linkWords, refusedBlock, replyBlock};
 ghost use Rattle.message.specs.Given.{inside, blockOf, answerSize};
-ghost use Rattle.reply.specs.Fronts.{readStart, readExtent};
+ghost use Rattle.reply.specs.Fronts.{readStart, readExtent, coreFront};
 ghost use Rattle.reply.specs.Links.{linkFor, linkCommand, linkPlace};
 
 // "AndX names the next block written", which stands at `place`.
@@ -52,6 +52,9 @@ fn link_place(link: Link) -> usize
 // A READ's data stand behind WordCount, 12 words and ByteCount.
 const READ_DATA: usize = 27;
 
+// A core READ's data stand behind WordCount, 5 words, ByteCount, and the mark and length of its data block.
+const CORE_READ_DATA: usize = 16;
+
 // How long the block of an answer is.
 pub fn block_size(a: Answer) -> usize
     requires { ⌜ inside a ≡ true ⌝ }
@@ -64,6 +67,8 @@ pub fn block_size(a: Answer) -> usize
         Answer::Read(_, count) => READ_DATA + count,
         Answer::Wrote(_) => 15,
         Answer::Plain => 3,
+        Answer::CoreRead(_, count) => CORE_READ_DATA + count,
+        Answer::CoreWrote(_) => 5,
     }
 }
 
@@ -145,6 +150,43 @@ fn write_read(at: usize, count: usize, place: usize, link: Link, memory: &[u8], 
     lay(&memory[at..to], &mut room[READ_DATA..]);
 }
 
+// The core READ: 5 words: count, eight zero bytes; ByteCount counts the data block, which begins 0x01, length.
+fn write_core_front(count: usize, room: &mut [u8])
+    requires { ⌜ 16 ≤ length (now room) ⌝ }
+    requires { ⌜ count ≤ 65536 ⌝ }
+    ensures { λ _. ⌜ now (room .exit) ≡ put (now (room .entry)) 0 (coreFront count) ⌝ }
+{
+    let n0 = low(count);
+    let n1 = high(count);
+    let bytes = 3 + count;
+    let b0 = low(bytes);
+    let b1 = high(bytes);
+    let front = [5, n0, n1, 0, 0, 0, 0, 0, 0, 0, 0, b0, b1, 1, n0, n1];
+    lay(&front, room);
+}
+
+// Behind them the data, copied straight from the file memory.
+fn write_core_read(at: usize, count: usize, memory: &[u8], room: &mut [u8])
+    requires { ⌜ length (now memory) ≡ 65536 ⌝ }
+    requires { ⌜ at + count ≤ 65536 ⌝ }
+    requires { ⌜ 16 + count ≤ length (now room) ⌝ }
+    ensures { λ _. ⌜ now (room .exit) ≡ put (now (room .entry)) 0 (coreFront count ++ take count (drop at (now (memory .entry)))) ⌝ }
+{
+    write_core_front(count, room);
+    let to = at + count;
+    lay(&memory[at..to], &mut room[CORE_READ_DATA..]);
+}
+
+// The core WRITE: 1 word, the count.
+fn write_core_wrote(count: u16, room: &mut [u8])
+    requires { ⌜ 5 ≤ length (now room) ⌝ }
+    ensures { λ _. ⌜ now (room .exit) ≡ put (now (room .entry)) 0 (1 ∷ (two count ++ (0 ∷ 0 ∷ []))) ⌝ }
+{
+    let n = count as usize;
+    let written = [1, low(n), high(n), 0, 0];
+    lay(&written, room);
+}
+
 // The block of an answer, at the front of the room left for it.
 pub fn write_block(a: Answer, place: usize, link: Link, memory: &[u8], room: &mut [u8])
     requires { ⌜ length (now memory) ≡ 65536 ⌝ }
@@ -160,5 +202,7 @@ pub fn write_block(a: Answer, place: usize, link: Link, memory: &[u8], room: &mu
         Answer::Read(at, count) => write_read(at, count, place, link, memory, room),
         Answer::Wrote(count) => write_wrote(count, link, room),
         Answer::Plain => write_bare(room),
+        Answer::CoreRead(at, count) => write_core_read(at, count, memory, room),
+        Answer::CoreWrote(count) => write_core_wrote(count, room),
     }
 }

@@ -5,7 +5,12 @@ use Rattle.reply.proofs.block.write_block.Statement.{statement}
 use Rattle.reply.proofs.block.write_block.Tie as tie
 use Rattle.message.specs.Given.{blockOf, answerSize}
 use Rattle.message.specs.Reply.{replyBlock, refusedBlock}
-use Rattle.reply.specs.BlockLaws.{read-inside}
+use Rattle.reply.specs.BlockLaws.{length-yielded, read-inside, core-inside}
+use Rattle.reply.specs.Fronts.{core-whole}
+use mathlib.Core.Path.{_≡_}
+use Prim.Native.Nat.{_+_, _≤_}
+use native.Mathlib.Omega.{arith}
+use lib.ListN.{length, take, drop}
 
 enum-told : tie.Need-enum-told
 enum-told c = search needs
@@ -52,6 +57,23 @@ write-bare-requires-2 : tie.Need-write-bare-requires-2
 unfolding answerSize
 write-bare-requires-2 c κs = rw (c .before .enum-told4 .given .1) at (c .before .before .before .before .before .pre .1 .1 .0)
 
+enum-known-a-3 : tie.Need-enum-known-a-3
+enum-known-a-3 c = search needs
+
+write-core-read-requires : tie.Need-write-core-read-requires
+unfolding answerSize
+write-core-read-requires c κs =
+    let pre = c .before .before .before .before .before .before .pre in
+    let a = c .before .before .a3 in
+    (pre .0, (core-inside (c .before .before .before .before .before .before .args .a) (a .given .0 .0) (a .given .0 .1 .0) (a .given .1) (pre .1 .0), rw (a .given .1) at (pre .1 .1 .0)))
+
+enum-known-a-4 : tie.Need-enum-known-a-4
+enum-known-a-4 c = search needs
+
+write-core-wrote-requires : tie.Need-write-core-wrote-requires
+unfolding answerSize
+write-core-wrote-requires c κs = rw (c .before .before .a4 .given .1) at (c .before .before .before .before .before .before .pre .1 .1 .0)
+
 same-length : tie.Need-same-length
 same-length c = search needs
 
@@ -94,6 +116,26 @@ returns-6 : tie.Need-returns-6
 unfolding blockOf replyBlock refusedBlock
 returns-6 c = rw (c .before .before .before .before .enum-told4 .given .1) (c .before .before .write-bare2 .ensures)
 
+same-length-7 : tie.Need-same-length-7
+same-length-7 c = search needs
+
+returns-7 : tie.Need-returns-7
+unfolding blockOf
+returns-7 c =
+    let args = c .before .before .before .before .before .before .before .before .before .args in
+    let a = c .before .before .before .before .before .a3 in
+    let m = args .memory .now in
+    let fits : a .given .0 .0 + a .given .0 .1 .0 ≤ 65536 = core-inside (args .a) (a .given .0 .0) (a .given .0 .1 .0) (a .given .1) (c .before .before .before .before .before .before .before .before .before .pre .1 .0) in
+    let n : length (take (a .given .0 .1 .0) (drop (a .given .0 .0) m)) ≡ a .given .0 .1 .0 = length-yielded m (a .given .0 .0) (a .given .0 .1 .0) (omega arith) in
+    rw (a .given .1, core-whole (take (a .given .0 .1 .0) (drop (a .given .0 .0) m)) (args .place) (args .link), n) (c .before .before .write-core-read .ensures)
+
+same-length-8 : tie.Need-same-length-8
+same-length-8 c = search needs
+
+returns-8 : tie.Need-returns-8
+unfolding blockOf replyBlock
+returns-8 c = rw (c .before .before .before .before .before .a4 .given .1) (c .before .before .write-core-wrote .ensures)
+
 pub write-block-spec : {M : Type 1} → statement M
 write-block-spec =
     tie.close
@@ -110,6 +152,10 @@ write-block-spec =
     write-wrote-requires
     enum-told-4
     write-bare-requires-2
+    enum-known-a-3
+    write-core-read-requires
+    enum-known-a-4
+    write-core-wrote-requires
     same-length
     returns
     same-length-2
@@ -121,4 +167,8 @@ write-block-spec =
     same-length-5
     returns-5
     same-length-6
-    returns-6)
+    returns-6
+    same-length-7
+    returns-7
+    same-length-8
+    returns-8)
