@@ -21,18 +21,18 @@ use Rattle.message.specs.Refusal.{status, statusOf, holderOf}
 use Rattle.message.specs.declared.refusal.HeldBy.{HeldBy}
 use Rattle.message.specs.declared.refusal.HeldBy.the-variants.{Nobody}
 use Rattle.message.specs.declared.refusal.Refusal.{Refusal}
-use Rattle.message.specs.Command.{Said, locked, loggedOff, read, wrote, plain, Given, refused, done, perform}
+use Rattle.message.specs.Command.{Said, locked, loggedOff, read, wrote, plain, coreRead, coreWrote, Given, refused, done, perform}
 use Rattle.message.specs.declared.link.Link.{Link}
 use Rattle.message.specs.declared.link.Link.the-variants.{Next as next}
 use Rattle.message.specs.Reply.{replyBlock, refusedBlock, replySize}
 use Rattle.message.specs.Message.{areaOf, dataOf, Ran, after, linkTo, afterGiven, run}
 use Rattle.message.specs.Given.{givenOf, inside, tablesAfter, memoryAfter, blockOf, answerSize}
 use Rattle.message.specs.declared.answer.Answer.{Answer}
-use Rattle.message.specs.declared.answer.Answer.the-variants.{Refused, Locked, LoggedOff, Read, Wrote, Plain}
+use Rattle.message.specs.declared.answer.Answer.the-variants.{Refused, Locked, LoggedOff, Read, Wrote, Plain, CoreRead, CoreWrote}
 use Rattle.invariants.specs.Sound.{Good, keeps-good, perform-keeps}
 use Rattle.invariants.specs.ReplySize.{length-block}
 use Rattle.reply.specs.Links.{linkFor}
-use Rattle.reply.specs.BlockLaws.{length-yielded, read-inside}
+use Rattle.reply.specs.BlockLaws.{length-yielded, read-inside, core-inside}
 use Rattle.server.specs.Step.{statusAfter, holderLeft, goesOn}
 
 -- ---- a chain at its first block
@@ -198,6 +198,17 @@ kind (Read place count) memory i m =
     })
 kind (Wrote count) memory i m = was-done (record { said = wrote count; given = λ t. refl; block = λ p l. refl; size = refl; status-is = refl; nobody = refl; next-is = λ n. refl })
 kind Plain memory i m = was-done (record { said = plain; given = λ t. refl; block = λ p l. refl; size = refl; status-is = refl; nobody = refl; next-is = λ n. refl })
+kind (CoreRead place count) memory i m =
+    was-done (record {
+      said = coreRead (take count (drop place memory));
+      given = λ t. refl;
+      block = λ p l. refl;
+      size = ap (λ (n : ℕ). 16 + n) (sym (length-yielded memory place count (let h = core-inside (CoreRead place count) place count refl i in omega arith)));
+      status-is = refl;
+      nobody = refl;
+      next-is = λ n. refl;
+    })
+kind (CoreWrote count) memory i m = was-done (record { said = coreWrote count; given = λ t. refl; block = λ p l. refl; size = refl; status-is = refl; nobody = refl; next-is = λ n. refl })
 
 module _ {c : Caller} {s first : List ℕ} {whole : Ran} {command at place : ℕ} {t : Tables} {memory room : List ℕ} (g : Going c s first whole command at place t memory room) (b : Block) (e : parse s command at ≡ Whole b) where
   pub here : Head s command at (g .blocks-left) b

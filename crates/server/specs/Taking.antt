@@ -33,7 +33,7 @@ use Rattle.message.specs.declared.refusal.HeldBy.the-variants.{Nobody}
 use Rattle.message.specs.Reply.{replyHeader, refusedBlock}
 use Rattle.message.specs.Command.{perform}
 use Rattle.message.specs.declared.answer.Answer.{Answer}
-use Rattle.message.specs.declared.answer.Answer.the-variants.{Refused, Locked, LoggedOff, Read, Wrote, Plain}
+use Rattle.message.specs.declared.answer.Answer.the-variants.{Refused, Locked, LoggedOff, Read, Wrote, Plain, CoreRead, CoreWrote}
 use Rattle.message.specs.declared.answer.Performed.{Performed}
 use Rattle.message.specs.Given.{Gives, inside, blockOf, answerSize}
 use Rattle.message.specs.Message.{areaOf, dataOf, Ran, onlyStatus, runChain, served, answered, replyOf, Taken, replied}
@@ -62,6 +62,8 @@ goes-next LoggedOff n command at e = e
 goes-next (Read place count) n command at e = e
 goes-next (Wrote count) n command at e = e
 goes-next Plain n command at e = e
+goes-next (CoreRead place count) n command at e = e
+goes-next (CoreWrote count) n command at e = e
 
 -- the loop's start
 start-of : (c : Caller) (s room : List ℕ) (o : Option (List Block)) → blocks s ≡ o → readable o ≡ true → (t : Tables) (memory : List ℕ) → Good t → length memory ≡ 65536
@@ -176,8 +178,8 @@ finish s room whole why who place t memory before after f e long enough =
 pub served-named : (command : ℕ) → isServed (requestNamed command) ≡ served command
 unfolding isServed served
 served-named command =
-    by-request (λ (request : ServedRequest) (n : ℕ). isServed request ≡ served n) command refl refl refl refl refl refl refl
-    (λ u. rw (u .no-locking, u .no-read, u .no-write, u .no-close, u .no-logoff, u .no-tree-disconnect, u .no-process-exit))
+    by-request (λ (request : ServedRequest) (n : ℕ). isServed request ≡ served n) command refl refl refl refl refl refl refl refl refl refl refl
+    (λ u. rw (u .no-locking, u .no-read, u .no-write, u .no-close, u .no-logoff, u .no-tree-disconnect, u .no-process-exit, u .no-core-read, u .no-core-write, u .no-lock-byte-range, u .no-unlock-byte-range))
 
 pub answered-not-served : (connection : ℕ) (s : List ℕ) (t : Tables) (memory : List ℕ) → served (headerCommand s) ≡ false
     → answered connection s t memory ≡ onlyStatus (statusOf NotServed) t memory
