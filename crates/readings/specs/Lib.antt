@@ -4,6 +4,7 @@ pub mod SameNumbers
 pub mod RangeBytes
 pub mod ReaderComplete
 pub mod OneReading
+pub mod CoreAlone
 pub mod Moved
 pub mod FreeBytes
 pub mod MovedBytes
