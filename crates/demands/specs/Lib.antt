@@ -18,6 +18,7 @@ pub mod Admitted
 pub mod LoneCall
 pub mod LockWords
 pub mod CommandReasons
+pub mod CorePairs
 pub mod ReasonCalls
 pub mod ChainReasons
 pub mod FileBytes
