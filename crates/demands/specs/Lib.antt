@@ -44,6 +44,7 @@ pub mod WordsNamed
 pub mod StreamTaken
 pub mod StreamSeen
 pub mod NoSentence
+pub mod DataBlock
 pub mod ReplyHeader
 pub mod HolderExactly
 pub mod HolderWords
