@@ -145,21 +145,30 @@ speaks-alike (says-read {bytes = bytes}) = done-alike (same-bytes bytes)
 speaks-alike (says-wrote {count = count}) = done-alike (same-count count)
 speaks-alike says-locked = done-alike both-done
 
-ending-speaks : (o : Outcome) (t : Tables) (memory : List ℕ) (l : Locking) → Speaks (lockingEnd o t memory l)
+-- a LOCKING says no more than that it is done
+pub data LockingSays : Given → Type 0 where
+  locking-refused : {why : Refusal} → LockingSays (refused why)
+  locking-done : {t : Tables} {memory : List ℕ} → LockingSays (done t memory locked)
+
+locking-speaks : {g : Given} → LockingSays g → Speaks g
+locking-speaks locking-refused = says-refused
+locking-speaks locking-done = says-locked
+
+ending-says : (o : Outcome) (t : Tables) (memory : List ℕ) (l : Locking) → LockingSays (lockingEnd o t memory l)
 unfolding lockingEnd
-ending-speaks Done t memory l = says-locked
-ending-speaks BadRanges t memory l = says-refused
-ending-speaks NoLock t memory l = says-refused
-ending-speaks PastEnd t memory l = says-refused
-ending-speaks (InWay h) t memory l = says-refused
-ending-speaks NoRoom t memory l = says-refused
+ending-says Done t memory l = locking-done
+ending-says BadRanges t memory l = locking-refused
+ending-says NoLock t memory l = locking-refused
+ending-says PastEnd t memory l = locking-refused
+ending-says (InWay h) t memory l = locking-refused
+ending-says NoRoom t memory l = locking-refused
 
 module _ (c : Caller) (t : Tables) (memory : List ℕ) where
-  locking-speaks : (f : LockingFields) (area : List ℕ) → Speaks (doLocking c t memory f area)
+  pub locking-says : (f : LockingFields) (area : List ℕ) → LockingSays (doLocking c t memory f area)
   unfolding doLocking lockingAfter
-  locking-speaks f area =
-      open-case Speaks c t (f .fid) _ says-refused says-refused says-refused
-      (λ k _. cond-case Speaks (servedType (f .kind)) _ (refused LockType) (λ _. ending-speaks _ t memory _) (λ _. says-refused))
+  locking-says f area =
+      open-case LockingSays c t (f .fid) _ locking-refused locking-refused locking-refused
+      (λ k _. cond-case LockingSays (servedType (f .kind)) _ (refused LockType) (λ _. ending-says _ t memory _) (λ _. locking-refused))
 
   read-speaks : (f : ReadFields) → Speaks (doRead c t memory f)
   unfolding doRead
@@ -179,8 +188,8 @@ other-speaks : {c : Caller} {core other : Body} {area area′ bytes′ : List �
 unfolding perform
 other-speaks {c} (read-pair {f}) t memory = read-speaks c t memory f
 other-speaks {c} {bytes′ = bytes′} (write-pair {g = g} fid offset count counts same) t memory = write-speaks c t memory g bytes′
-other-speaks {c} {area′ = area′} (lock-pair {g = g} fid bits exclusive u l one) t memory = locking-speaks c t memory g area′
-other-speaks {c} {area′ = area′} (unlock-pair {g = g} fid bits u l one) t memory = locking-speaks c t memory g area′
+other-speaks {c} {area′ = area′} (lock-pair {g = g} fid bits exclusive u l one) t memory = locking-speaks (locking-says c t memory g area′)
+other-speaks {c} {area′ = area′} (unlock-pair {g = g} fid bits u l one) t memory = locking-speaks (locking-says c t memory g area′)
 
 -- "a core command and its counterpart with equal fields change the same things"
 pub pair-alike : {c : Caller} {core other : Body} {area area′ bytes′ : List ℕ} → Pair c core area other area′ bytes′ → (t : Tables) (memory bytes : List ℕ)

@@ -56,3 +56,4 @@ pub mod HolderBytes
 pub mod HolderFirst
 pub mod HolderWire
 pub mod Processes
+pub mod CorePairCalls
