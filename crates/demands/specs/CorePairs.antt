@@ -118,6 +118,12 @@ pair-gives {c} (unlock-pair {f} {g} {area′ = area′} fid bits u l one) t memo
     ap asCore (one-unlock c f t memory (oneRange f 1 0) (smallForm (rangeBy c f)) refl refl refl (small-one c f)
     ∙ rw (← fid) (sym (one-unlock c f t memory g area′ s u l one)))
 
+-- where the counterpart is done, the core command is and leaves the same, and says the same in its own reply block
+pub pair-done : {c : Caller} {core other : Body} {area area′ bytes′ : List ℕ} → Pair c core area other area′ bytes′ → (t : Tables) (memory bytes : List ℕ)
+    → {u : Tables} {m : List ℕ} {said : Said} → perform c t memory other area′ bytes′ ≡ done u m said → perform c t memory core area bytes ≡ done u m (coreSaid said)
+unfolding asCore
+pair-done p t memory bytes e = pair-gives p t memory bytes ∙ ap asCore e
+
 -- ---- in words
 
 -- what the two say where they are done: the same bytes, the same count, or only that it is done

@@ -57,3 +57,4 @@ pub mod HolderFirst
 pub mod HolderWire
 pub mod Processes
 pub mod CorePairCalls
+pub mod CorePairCases
