@@ -1,4 +1,5 @@
--- What a READ or a WRITE that is done gives and leaves, byte by byte (document 01, "Locks, reads and writes"), said of the command. Assumes nothing.
+-- What a READ or a WRITE that is done gives and leaves, byte by byte (document 01, "Locks, reads and writes"), and the core READ and WRITE (document 02, CR 3),
+-- said of the command. Assumes nothing.
 use mathlib.Core.Path.{_≡_, refl, sym, ap, _∙_}
 use Prim.Native.Nat.{ℕ, min, max, _+_, _-_, _*_, _≤_, _<_}
 use native.Mathlib.Omega.{arith}
@@ -7,17 +8,19 @@ use mathlib.Core.List.{List}
 use lib.ListN.{length, drop, getD, length-drop}
 use lib.Seq.{length-take-le}
 use lib.Dec.{eqb}
+use borrow.Author.Tests.{ne-eqb}
 use Rattle.lists.specs.declared.Found.{Found}
 use Rattle.lists.specs.declared.Found.the-variants.{At, Nothing}
 use Rattle.records.specs.declared.Open.{Open}
 use Rattle.records.specs.declared.Tables.{Tables}
 use Rattle.records.specs.Empty.{noOpen}
 use Rattle.records.specs.Held.{opensOf, withFiles}
+use Rattle.locks.specs.declared.types.Ask.{Ask}
 use Rattle.claims.specs.SoundPlain.{sound-plain}
-use Rattle.chain.specs.Layout.{WRITE, wordCount, blockEnd, fidAfterAndx, offsetLow, writeOffsetHigh, dataLength, dataOffset}
+use Rattle.chain.specs.Layout.{WRITE, CORE-WRITE, wordCount, blockEnd, fidAfterAndx, offsetLow, writeOffsetHigh, dataLength, dataOffset, firstFid, coreCount, coreOffset, markedData}
 use Rattle.chain.specs.Parse.{wideOffset}
-use Rattle.chain.specs.Grammar.{IsBlock, Data, locking-10, locking-20, read-10, read-12, write-12, write-14, close, logoff, tree-disconnect, process-exit}
-use Rattle.chain.specs.declared.block.Body.the-variants.{Write as WriteBody}
+use Rattle.chain.specs.Grammar.{IsBlock, Data, locking-10, locking-20, read-10, read-12, write-12, write-14, close, logoff, tree-disconnect, process-exit, core-read, core-write, lock-byte-range, unlock-byte-range}
+use Rattle.chain.specs.declared.block.Body.the-variants.{Write as WriteBody, CoreWrite as CoreWriteBody}
 use Rattle.chain.specs.declared.block.Next.{Next}
 use Rattle.chain.specs.declared.block.ReadFields.{ReadFields}
 use Rattle.chain.specs.declared.block.WriteFields.{WriteFields}
@@ -26,9 +29,10 @@ use Rattle.message.specs.declared.caller.Caller.{Caller}
 use Rattle.message.specs.declared.refusal.Refusal.{Refusal}
 use Rattle.message.specs.declared.refusal.Refusal.the-variants.{NoAccess, NoSpace}
 use Rattle.message.specs.Contents.{sizeOf, readBytes, written, resized}
-use Rattle.message.specs.Command.{Given, Said, refused, done, read, wrote, unlessBarred, doRead, endsPast, doWrite}
-use Rattle.message.specs.Message.{dataOf}
+use Rattle.message.specs.Command.{Given, Said, refused, done, read, wrote, coreRead, coreWrote, unlessBarred, doRead, writing, endsPast, doWrite, coreSaid, asCore, doCoreWrite}
+use Rattle.message.specs.Message.{areaOf, dataOf}
 use Rattle.invariants.specs.Sound.{Good}
+use Rattle.demands.specs.Malformed.{length-area}
 use Rattle.demands.specs.MemorySize.{write-ends}
 use Rattle.demands.specs.Admitted.{Admitted, admitted-may, with-open}
 use Rattle.demands.specs.FileBytes.{Wrote, written-bytes, read-length, read-byte, resized-size, resized-others, resized-records, written-nothing, resized-nothing}
@@ -62,6 +66,12 @@ not-barred t Nothing g e = e
 same-bytes : {x y : List ℕ} → read x ≡ read y → x ≡ y
 same-bytes e = cc
 
+-- a core command that is done: its counterpart is, and leaves the same
+pub as-core : (g : Given) {u : Tables} {m : List ℕ} {said : Said} → asCore g ≡ done u m said → (x : Said) × (g ≡ done u m x) × (said ≡ coreSaid x)
+unfolding asCore
+as-core (refused why) e = never cc
+as-core (done v n x) e = (x, cc, cc)
+
 module _ (c : Caller) (t : Tables) (memory : List ℕ) (full : length memory ≡ 65536) (g : Good t) {u : Tables} {m : List ℕ} where
   -- ---- READ
 
@@ -86,16 +96,20 @@ module _ (c : Caller) (t : Tables) (memory : List ℕ) (full : length memory ≡
 
   -- ---- WRITE
 
+  -- whatever it asks of the locks and leaves: it ends inside the file's room and leaves that through the open
+  pub writing-left : {said : Said} (fid : ℕ) (ask : Open → Ask) (past : Bool) (next : Open → Given) (o : Open) → Admitted c t fid o → writing c t fid ask past next ≡ done u m said
+      → (past ≡ false) × (next o ≡ done u m said)
+  writing-left fid ask past next o a e =
+      let w = admitted-may c t fid (g .sound) o a in
+      let h = not-refused (eqb (getD (opensOf t) (w .0) noOpen .access) 0) NoAccess _ (sym (with-open c t fid (w .0) _ (w .1)) ∙ e) in
+      let s = not-refused past NoSpace _ (not-barred t _ _ (h .1)) in
+      (s .0, rw (w .2) at (s .1))
+
   -- it leaves what the definitions say of the open's file, inside the file's room, and says the count
   pub write-left : {said : Said} (f : WriteFields) (bytes : List ℕ) (o : Open) → Admitted c t (f .fid) o → doWrite c t memory f bytes ≡ done u m said
       → (endsPast (f .offset) (f .count) ≡ false) × (u ≡ resized t (o .file) (f .offset) (f .count)) × (m ≡ written t memory (o .file) (f .offset) bytes) × (said ≡ wrote (f .count))
   unfolding doWrite
-  write-left f bytes o a e =
-      let w = admitted-may c t (f .fid) (g .sound) o a in
-      let h = not-refused (eqb (getD (opensOf t) (w .0) noOpen .access) 0) NoAccess _ (sym (with-open c t (f .fid) (w .0) _ (w .1)) ∙ e) in
-      let s = not-refused (endsPast (f .offset) (f .count)) NoSpace _ (not-barred t _ _ (h .1)) in
-      let d = rw (w .2) at (s .1) in
-      (s .0, cc, cc, cc)
+  write-left f bytes o a e = let s = writing-left (f .fid) _ (endsPast (f .offset) (f .count)) _ o a e in let d = s .1 in (s .0, cc, cc, cc)
 
   -- "WRITE: 6 words: AndX, count, ..": the count that its reply block says is the one asked for, whether 0 or more
   pub write-says : {said : Said} (f : WriteFields) (bytes : List ℕ) (o : Open) → Admitted c t (f .fid) o → doWrite c t memory f bytes ≡ done u m said → said ≡ wrote (f .count)
@@ -122,6 +136,41 @@ module _ (c : Caller) (t : Tables) (memory : List ℕ) (full : length memory ≡
   write-nothing f bytes o a n z e =
       let w = write-left f bytes o a e in
       (w .1 ∙ ap (resized t (o .file) (f .offset)) z ∙ resized-nothing t (o .file) (f .offset), w .2 ∙ written-nothing t memory (o .file) (f .offset) bytes (n ∙ z))
+
+  -- ---- the core READ and WRITE (document 02, CR 3): "the rules of their AndX counterparts"
+
+  -- what the counterpart leaves, and its bytes in the core command's reply block
+  pub core-read-left : {said : Said} (f : ReadFields) (o : Open) → Admitted c t (f .fid) o → asCore (doRead c t memory f) ≡ done u m said
+      → (u ≡ t) × (m ≡ memory) × (said ≡ coreRead (readBytes t memory (o .file) (f .offset) (f .max)))
+  unfolding coreSaid
+  core-read-left f o a e =
+      let d = as-core (doRead c t memory f) e in
+      let l = read-left f o a (d .1) in
+      (l .0, l .1, d .2 ∙ ap coreSaid (l .2))
+
+  pub core-read-yields : (f : ReadFields) (o : Open) → Admitted c t (f .fid) o → (bytes : List ℕ) → asCore (doRead c t memory f) ≡ done u m (coreRead bytes)
+      → Yields (o .file) (sizeOf t (o .file)) (f .offset) (f .max) memory bytes
+  unfolding coreSaid
+  core-read-yields f o a bytes e =
+      let d = as-core (doRead c t memory f) e in
+      let l = read-left f o a (d .1) in
+      let q : coreRead bytes ≡ coreRead (readBytes t memory (o .file) (f .offset) (f .max)) = d .2 ∙ ap coreSaid (l .2) in
+      let same : bytes ≡ readBytes t memory (o .file) (f .offset) (f .max) = cc in
+      read-yields f o a bytes (d .1 ∙ ap (done u m) (l .2 ∙ ap read (sym same)))
+
+  -- a write of some bytes is done as the counterpart is, and says the count
+  pub core-write-given : {said : Said} (f : WriteFields) (bytes : List ℕ) (o : Open) → Admitted c t (f .fid) o → 1 ≤ f .count → doCoreWrite c t memory f bytes ≡ done u m said
+      → (doWrite c t memory f bytes ≡ done u m (wrote (f .count))) × (said ≡ coreWrote (f .count))
+  unfolding doCoreWrite coreSaid
+  core-write-given f bytes o a some-bytes e =
+      let d = as-core (doWrite c t memory f bytes) (rw (ne-eqb (f .count) 0 (λ z. omega arith)) at e) in
+      let says = write-says f bytes o a (d .1) in
+      (d .1 ∙ ap (done u m) says, d .2 ∙ ap coreSaid says)
+
+  -- so it leaves what the counterpart leaves; count 0 is SetSize.antt
+  pub core-write-leaves : {said : Said} (f : WriteFields) (bytes : List ℕ) (o : Open) → Admitted c t (f .fid) o → length bytes ≡ f .count → 1 ≤ f .count
+      → doCoreWrite c t memory f bytes ≡ done u m said → WroteFile t u (o .file) (f .offset) bytes memory m
+  core-write-leaves f bytes o a n some-bytes e = write-leaves f bytes o a n some-bytes (core-write-given f bytes o a some-bytes e .0)
 
 -- ---- the data of a block
 
@@ -163,3 +212,36 @@ data-counted (close h) next f same = never cc
 data-counted (logoff h) next f same = never cc
 data-counted (tree-disconnect h) next f same = never cc
 data-counted (process-exit h) next f same = never cc
+data-counted (core-read h) next f same = never cc
+data-counted (core-write h) next f same = never cc
+data-counted (lock-byte-range h) next f same = never cc
+data-counted (unlock-byte-range h) next f same = never cc
+
+-- the fields of a core WRITE block
+abbrev coreWriteFields : List ℕ → ℕ → WriteFields
+coreWriteFields s at = record { fid = firstFid s at; offset = coreOffset s at; count = coreCount s at; from = markedData s at }
+
+-- a core WRITE's data, behind the mark and the length of its data block, is as long as its count
+pub core-counted : {s : List ℕ} {at command : ℕ} → IsBlock s at command → (next : Next) (f : WriteFields) → bodyAt s command at ≡ CoreWriteBody f
+    → length (drop 3 (areaOf s (blockAt s command at next))) ≡ f .count
+unfolding bodyAt
+core-counted (locking-10 p h) next f same = never cc
+core-counted (locking-20 p h) next f same = never cc
+core-counted (read-10 h) next f same = never cc
+core-counted (read-12 h) next f same = never cc
+core-counted (write-12 h) next f same = never cc
+core-counted (write-14 h) next f same = never cc
+core-counted (close h) next f same = never cc
+core-counted (logoff h) next f same = never cc
+core-counted (tree-disconnect h) next f same = never cc
+core-counted (process-exit h) next f same = never cc
+core-counted (core-read h) next f same = never cc
+core-counted {s} {at} (core-write h) next f same =
+    let q : CoreWriteBody (coreWriteFields s at) ≡ CoreWriteBody f = same in
+    let z : coreWriteFields s at ≡ f = cc in
+    let long = length-area (core-write h) next in
+    let filled = h .filled in
+    let n : length (areaOf s (blockAt s CORE-WRITE at next)) - 3 ≡ coreCount s at = omega arith in
+    length-drop 3 (areaOf s (blockAt s CORE-WRITE at next)) ∙ n ∙ ap (λ (x : WriteFields). x .count) z
+core-counted (lock-byte-range h) next f same = never cc
+core-counted (unlock-byte-range h) next f same = never cc
