@@ -1,4 +1,5 @@
--- What a message of one command that is done gives and leaves, said of the call (document 01, "Locks, reads and writes" and "Reply blocks"). Assumes nothing.
+-- What a message of one command that is done gives and leaves, said of the call (document 01, "Locks, reads and writes" and "Reply blocks"; document 02, CR 3).
+-- Assumes nothing.
 use mathlib.Core.Path.{_≡_, _∙_}
 use Prim.Native.Nat.{ℕ, min, _+_, _-_, _≤_, _<_}
 use native.Mathlib.Omega.{arith}
@@ -6,6 +7,7 @@ use mathlib.Core.List.{List, [], _∷_, _++_}
 use mathlib.Core.Option.{some}
 use lib.ListN.{length, take, drop}
 use native.Mathlib.Decide.{ℕ-discrete}
+use borrow.Author.Tests.{eq-eqb, ne-eqb}
 use Rattle.lists.specs.Put.{put}
 use Rattle.wire.specs.LittleEndian.{le16At}
 use Rattle.records.specs.declared.Open.{Open}
@@ -19,7 +21,7 @@ use Rattle.chain.specs.Chain.{blocks}
 use Rattle.chain.specs.declared.block.ReadFields.{ReadFields}
 use Rattle.chain.specs.declared.block.WriteFields.{WriteFields}
 use Rattle.chain.specs.declared.block.Body.{Body}
-use Rattle.chain.specs.declared.block.Body.the-variants.{Read as ReadBody, Write as WriteBody, Close, Logoff, TreeDisconnect, ProcessExit}
+use Rattle.chain.specs.declared.block.Body.the-variants.{Read as ReadBody, Write as WriteBody, Close, Logoff, TreeDisconnect, ProcessExit, CoreRead as CoreReadBody, CoreWrite as CoreWriteBody}
 use Rattle.chain.specs.declared.block.Block.{Block}
 use Rattle.invariants.specs.BlockParse.{blockAt}
 use Rattle.invariants.specs.Chained.{Chained, chained-end, read-chained}
@@ -28,7 +30,7 @@ use Rattle.message.specs.declared.caller.Caller.{Caller}
 use Rattle.message.specs.Refusal.{status}
 use Rattle.message.specs.declared.link.Link.the-variants.{None as noLink}
 use Rattle.message.specs.Contents.{sizeOf, readBytes}
-use Rattle.message.specs.Command.{Said, read, wrote, plain, loggedOff, Given, done, doRead, doWrite, perform}
+use Rattle.message.specs.Command.{Said, read, wrote, plain, loggedOff, coreRead, coreWrote, Given, done, doRead, doWrite, asCore, doSetSize, doCoreWrite, perform}
 use Rattle.message.specs.Reply.{replyHeader, replyBlock, replySize}
 use Rattle.message.specs.Message.{areaOf, dataOf, Taken, take-message}
 use Rattle.invariants.specs.Sound.{Good, size-most}
@@ -36,9 +38,9 @@ use Rattle.invariants.specs.Fit.{Fit, take-message-good}
 use Rattle.demands.specs.Calls.{statusRead}
 use Rattle.demands.specs.RefusedCall.{gives, Untouched}
 use Rattle.demands.specs.Admitted.{Admitted}
-use Rattle.demands.specs.FileCommands.{Yields, WroteFile, read-left, read-yields, write-says, write-leaves, write-nothing, data-counted}
+use Rattle.demands.specs.FileCommands.{Yields, WroteFile, read-left, read-yields, write-says, write-leaves, write-nothing, as-core, core-read-left, core-read-yields, core-write-leaves, core-write-says, data-counted, core-counted}
 use Rattle.demands.specs.DoneCall.{Carried, carried, long-enough, past-session, past-tree, past-open}
-use Rattle.demands.specs.ReplyBytes.{read-data, read-length, read-offset, write-count}
+use Rattle.demands.specs.ReplyBytes.{CoreReadBlock, CoreWriteBlock, read-data, read-length, read-offset, write-count, core-read-block, core-write-block}
 
 -- ---- the plain words
 
@@ -68,12 +70,27 @@ pub record ReadCall (c : Caller) (t : Tables) (f : ReadFields) (memory : List �
   -- nothing is changed
   pub unchanged : Untouched t memory call
 
+-- a core READ through an open that the caller may use
+pub record CoreReadCall (c : Caller) (t : Tables) (f : ReadFields) (memory : List ℕ) (call : Taken) : Type 0 where
+  pub through : Open
+  pub admitted : Admitted c t (f .fid) through
+  pub bytes : List ℕ
+  pub yields : Yields (through .file) (sizeOf t (through .file)) (f .offset) (f .max) memory bytes
+  -- they stand in its reply block, and the reply ends with them
+  pub in-reply : CoreReadBlock bytes (call .room)
+  pub reply-ends : call .length ≡ 48 + length bytes
+  pub unchanged : Untouched t memory call
+
 -- ---- the command behind them
 
 -- a WRITE's data is as long as its count
 one-counted : {s : List ℕ} {command at : ℕ} {b : Block} → Chained s command at (b ∷ []) → (f : WriteFields) → b .body ≡ WriteBody f → length (dataOf s b) ≡ f .count
 unfolding blockAt
 one-counted (chained-end h l) f same = data-counted h _ f same
+
+one-filled : {s : List ℕ} {command at : ℕ} {b : Block} → Chained s command at (b ∷ []) → (f : WriteFields) → b .body ≡ CoreWriteBody f → length (drop 3 (areaOf s b)) ≡ f .count
+unfolding blockAt
+one-filled (chained-end h l) f same = core-counted h _ f same
 
 -- what the command of a known body gives
 pub gives-body : (c : Caller) (s : List ℕ) (b : Block) (t : Tables) (memory : List ℕ) (body : Body) {g : Given} → b .body ≡ body → gives c s b t memory ≡ g
@@ -128,16 +145,16 @@ module _ (connection : ℕ) (s : List ℕ) (b : Block) (e : blocks s ≡ some (b
       let w = write-nothing caller t memory (fit .memory-whole) g f (dataOf s b) (o .0) (o .1) (counted f is) none (write-given f is) in
       record { same-tables = w .0; same-memory = w .1 }
 
-  few-bytes : (f : WriteFields) → b .body ≡ WriteBody f → f .count < 65536
-  few-bytes f is =
+  -- a count that was written is no more than a file's size
+  few-written : (f : WriteFields) (bytes : List ℕ) → length bytes ≡ f .count → (1 ≤ f .count → WriteCall caller t f bytes memory call) → f .count < 65536
+  few-written f bytes long wrote-some =
       elim (ℕ-discrete (f .count) 0) [
         | yes none ↦ omega arith
         | no n ↦
-            let w = write-call f is (omega arith) in
+            let w = wrote-some (omega arith) in
             let after = take-message-good connection s t memory room g in
             let most : sizeOf (call .tables) (w .through .file) ≤ 4096 = size-most (call .tables) (w .through .file) (sound-says (call .tables) (after .sound)) in
             let size = w .wrote-file .size in
-            let long = counted f is in
             omega arith
       ]
 
@@ -147,7 +164,7 @@ module _ (connection : ℕ) (s : List ℕ) (b : Block) (e : blocks s ≡ some (b
       let o = write-open f is in
       let w = write-says caller t memory (fit .memory-whole) g f (dataOf s b) (o .0) (o .1) (write-given f is) in
       let r : call .room ≡ put room 0 (replyHeader s (status 0 0) ++ replyBlock (wrote (f .count)) FIRST noLink) = rw w at (the-command .reply) in
-      rw r (write-count s long room (f .count) (few-bytes f is))
+      rw r (write-count s long room (f .count) (few-written f (dataOf s b) (counted f is) (write-call f is)))
 
   -- ---- READ
 
@@ -184,6 +201,72 @@ module _ (connection : ℕ) (s : List ℕ) (b : Block) (e : blocks s ≡ some (b
         reply-ends = ends ∙ (let n : 32 + (27 + length bytes) ≡ 59 + length bytes = omega arith in n);
         unchanged = record { same-tables = l .0; same-memory = l .1 };
       }
+
+  -- ---- the core READ and WRITE (document 02, CR 3)
+
+  core-read-given : (f : ReadFields) → b .body ≡ CoreReadBody f → asCore (doRead caller t memory f) ≡ done (call .tables) (call .memory) (the-command .said)
+  unfolding perform
+  core-read-given f is = gives-body caller s b t memory (CoreReadBody f) is (the-command .given)
+
+  -- "the rules of their AndX counterparts": the bytes of a READ, in the core READ's block
+  pub core-read-call : (f : ReadFields) → b .body ≡ CoreReadBody f → CoreReadCall caller t f memory call
+  unfolding doRead replySize
+  core-read-call f is =
+      let o = past-open caller t (f .fid) _ (as-core (doRead caller t memory f) (core-read-given f is) .1) in
+      let l = core-read-left caller t memory (fit .memory-whole) g f (o .0) (o .1) (core-read-given f is) in
+      let bytes = readBytes t memory (o .0 .file) (f .offset) (f .max) in
+      let d : asCore (doRead caller t memory f) ≡ done (call .tables) (call .memory) (coreRead bytes) = rw (l .2) at (core-read-given f is) in
+      let y = core-read-yields caller t memory (fit .memory-whole) g f (o .0) (o .1) bytes d in
+      let r : call .room ≡ put room 0 (replyHeader s (status 0 0) ++ replyBlock (coreRead bytes) FIRST noLink) = rw (l .2) at (the-command .reply) in
+      let ends : call .length ≡ 32 + (16 + length bytes) = rw (l .2) at (the-command .reply-length) in
+      let most : sizeOf t (o .0 .file) ≤ 4096 = size-most t (o .0 .file) (sound-says t (g .sound)) in
+      let n : length bytes ≡ min (f .max) (sizeOf t (o .0 .file) - f .offset) = y .so-many in
+      let few : length bytes < 65533 = omega arith in
+      record {
+        through = o .0;
+        admitted = o .1;
+        bytes = bytes;
+        yields = y;
+        in-reply = rw r (core-read-block s long room bytes few);
+        reply-ends = ends ∙ (let n : 32 + (16 + length bytes) ≡ 48 + length bytes = omega arith in n);
+        unchanged = record { same-tables = l .0; same-memory = l .1 };
+      }
+
+  pub core-filled : (f : WriteFields) → b .body ≡ CoreWriteBody f → length (drop 3 (areaOf s b)) ≡ f .count
+  unfolding blocks
+  core-filled f is = one-filled (read-chained s (headerCommand s) FIRST (b ∷ []) e) f is
+
+  pub core-write-done : (f : WriteFields) → b .body ≡ CoreWriteBody f
+      → doCoreWrite caller t memory f (drop 3 (areaOf s b)) ≡ done (call .tables) (call .memory) (the-command .said)
+  unfolding perform
+  core-write-done f is = gives-body caller s b t memory (CoreWriteBody f) is (the-command .given)
+
+  pub core-write-open : (f : WriteFields) → b .body ≡ CoreWriteBody f → (o : Open) × Admitted caller t (f .fid) o
+  unfolding doCoreWrite doSetSize doWrite
+  core-write-open f is =
+      elim (ℕ-discrete (f .count) 0) [
+        | yes none ↦ let o = past-open caller t (f .fid) _ (rw (eq-eqb (f .count) 0 none) at (core-write-done f is)) in (o .0, o .1)
+        | no n ↦
+            let some-bytes = as-core (doWrite caller t memory f (drop 3 (areaOf s b))) (rw (ne-eqb (f .count) 0 n) at (core-write-done f is)) in
+            let o = past-open caller t (f .fid) _ (some-bytes .1) in
+            (o .0, o .1)
+      ]
+
+  -- some bytes, which stand behind the mark and the length of the data block; count 0 is SetSize.antt
+  pub core-write-call : (f : WriteFields) → b .body ≡ CoreWriteBody f → 1 ≤ f .count → WriteCall caller t f (drop 3 (areaOf s b)) memory call
+  core-write-call f is some-bytes =
+      let o = core-write-open f is in
+      let w = core-write-leaves caller t memory (fit .memory-whole) g f (drop 3 (areaOf s b)) (o .0) (o .1) (core-filled f is) some-bytes (core-write-done f is) in
+      record { through = o .0; admitted = o .1; wrote-file = w }
+
+  -- its reply says the count, 0 included
+  pub core-write-reply : (f : WriteFields) → b .body ≡ CoreWriteBody f → CoreWriteBlock (f .count) (call .room) × (call .length ≡ 37)
+  unfolding replySize
+  core-write-reply f is =
+      let o = core-write-open f is in
+      let w = core-write-says caller t memory (fit .memory-whole) g f (drop 3 (areaOf s b)) (o .0) (o .1) (core-write-done f is) in
+      let r : call .room ≡ put room 0 (replyHeader s (status 0 0) ++ replyBlock (coreWrote (f .count)) FIRST noLink) = rw w at (the-command .reply) in
+      (rw r (core-write-block s long room (f .count) (few-written f (drop 3 (areaOf s b)) (core-filled f is) (core-write-call f is))), rw w at (the-command .reply-length))
 
   -- ---- the removals
 

@@ -7,8 +7,9 @@ use mathlib.Core.Bool.{Bool, true, false, cond}
 use mathlib.Core.List.{List}
 use lib.ListN.{length, drop, getD, length-drop}
 use lib.Seq.{length-take-le}
-use lib.Dec.{eqb}
-use borrow.Author.Tests.{ne-eqb}
+use lib.Dec.{eqb, ltb}
+use native.Mathlib.Decide.{ℕ-discrete}
+use borrow.Author.Tests.{ltb-false, eq-eqb, ne-eqb}
 use Rattle.lists.specs.declared.Found.{Found}
 use Rattle.lists.specs.declared.Found.the-variants.{At, Nothing}
 use Rattle.records.specs.declared.Open.{Open}
@@ -28,8 +29,8 @@ use Rattle.invariants.specs.BlockParse.{bodyAt, blockAt}
 use Rattle.message.specs.declared.caller.Caller.{Caller}
 use Rattle.message.specs.declared.refusal.Refusal.{Refusal}
 use Rattle.message.specs.declared.refusal.Refusal.the-variants.{NoAccess, NoSpace}
-use Rattle.message.specs.Contents.{sizeOf, readBytes, written, resized}
-use Rattle.message.specs.Command.{Given, Said, refused, done, read, wrote, coreRead, coreWrote, unlessBarred, doRead, writing, endsPast, doWrite, coreSaid, asCore, doCoreWrite}
+use Rattle.message.specs.Contents.{sizeOf, readBytes, grown, written, withSize, resized}
+use Rattle.message.specs.Command.{Given, Said, refused, done, read, wrote, coreRead, coreWrote, unlessBarred, doRead, writing, endsPast, doWrite, coreSaid, asCore, doSetSize, doCoreWrite}
 use Rattle.message.specs.Message.{areaOf, dataOf}
 use Rattle.invariants.specs.Sound.{Good}
 use Rattle.demands.specs.Malformed.{length-area}
@@ -171,6 +172,25 @@ module _ (c : Caller) (t : Tables) (memory : List ℕ) (full : length memory ≡
   pub core-write-leaves : {said : Said} (f : WriteFields) (bytes : List ℕ) (o : Open) → Admitted c t (f .fid) o → length bytes ≡ f .count → 1 ≤ f .count
       → doCoreWrite c t memory f bytes ≡ done u m said → WroteFile t u (o .file) (f .offset) bytes memory m
   core-write-leaves f bytes o a n some-bytes e = write-leaves f bytes o a n some-bytes (core-write-given f bytes o a some-bytes e .0)
+
+  -- count 0 sets the size, inside the file's room: it leaves what the definitions say of the open's file
+  pub set-size-left : {said : Said} (f : WriteFields) (o : Open) → Admitted c t (f .fid) o → doSetSize c t memory f ≡ done u m said
+      → (f .offset ≤ 4096) × (u ≡ withSize t (o .file) (f .offset)) × (m ≡ grown t memory (o .file) (f .offset)) × (said ≡ coreWrote 0)
+  unfolding doSetSize
+  set-size-left f o a e =
+      let s = writing-left (f .fid) _ (ltb 4096 (f .offset)) _ o a e in
+      let d = s .1 in
+      (ltb-false 4096 (f .offset) (s .0), cc, cc, cc)
+
+  -- the count that its reply block says is the one asked for, whether 0 or more
+  pub core-write-says : {said : Said} (f : WriteFields) (bytes : List ℕ) (o : Open) → Admitted c t (f .fid) o → doCoreWrite c t memory f bytes ≡ done u m said
+      → said ≡ coreWrote (f .count)
+  unfolding doCoreWrite
+  core-write-says f bytes o a e =
+      elim (ℕ-discrete (f .count) 0) [
+        | yes z ↦ set-size-left f o a (rw (eq-eqb (f .count) 0 z) at e) .3 ∙ ap coreWrote (sym z)
+        | no n ↦ core-write-given f bytes o a (omega arith) e .1
+      ]
 
 -- ---- the data of a block
 

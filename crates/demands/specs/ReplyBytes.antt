@@ -1,19 +1,42 @@
--- What stands in the reply room after a reply of one block (document 01, "Reply blocks"): a READ's data and the words for them, a WRITE's count.
--- Assumes nothing.
+-- What stands in the reply room after a reply of one block (document 01, "Reply blocks"): a READ's data and the words for them, a WRITE's count; and the blocks of the
+-- core commands (document 02, CR 3, as in source documents 000 and 004). Assumes nothing.
 use mathlib.Core.Path.{_≡_, sym, ap, _∙_}
 use Prim.Native.Nat.{ℕ, _+_, _/_, _%_, _≤_, _<_}
 use native.Mathlib.Omega.{arith}
 use mathlib.Core.List.{List, _++_, append-assoc}
-use lib.ListN.{length, take, drop, getD}
+use lib.ListN.{length, take, drop, getD, replicate}
 use lib.Seq.{take-append-seam, drop-append-add, getD-append-add}
 use Rattle.lists.specs.Put.{put}
 use Rattle.wire.specs.LittleEndian.{byteAt, le16At}
 use Rattle.chain.specs.Layout.{FIRST}
 use Rattle.message.specs.Refusal.{status}
 use Rattle.message.specs.declared.link.Link.the-variants.{None as noLink}
-use Rattle.message.specs.Command.{Said, read, wrote}
+use Rattle.message.specs.Command.{Said, read, wrote, plain, coreRead, coreWrote}
 use Rattle.message.specs.Reply.{two, linkWords, replyHeader, replyBlock}
 use Rattle.invariants.specs.ReplySize.{length-header}
+
+-- ---- the core commands' blocks, which stand at 32
+
+-- READ: 5 words: count, eight zero bytes; then a data block: 0x01, length, data
+pub record CoreReadBlock (bytes room : List ℕ) : Type 0 where
+  pub words : byteAt room 32 ≡ 5
+  pub count : le16At room 33 ≡ length bytes
+  pub zeros : take 8 (drop 35 room) ≡ replicate 8 0
+  pub byte-count : le16At room 43 ≡ 3 + length bytes
+  pub mark : byteAt room 45 ≡ 0x01
+  pub data-length : le16At room 46 ≡ length bytes
+  pub the-data : take (length bytes) (drop 48 room) ≡ bytes
+
+-- WRITE: 1 word, the count; no bytes
+pub record CoreWriteBlock (count : ℕ) (room : List ℕ) : Type 0 where
+  pub words : byteAt room 32 ≡ 1
+  pub count-said : le16At room 33 ≡ count
+  pub no-bytes : le16At room 35 ≡ 0
+
+-- LOCK_BYTE_RANGE and UNLOCK_BYTE_RANGE: no words, no bytes
+pub record PlainBlock (room : List ℕ) : Type 0 where
+  pub no-words : byteAt room 32 ≡ 0
+  pub no-bytes : le16At room 33 ≡ 0
 
 module _ (s : List ℕ) (long : 32 ≤ length s) (room : List ℕ) (said : Said) where
   -- the block, the reply laid over the front of the room, and what stands in the room behind it
@@ -73,3 +96,45 @@ module _ (s : List ℕ) (long : 32 ≤ length s) (room : List ℕ) where
       let a : byteAt (answer s long room (wrote count)) 37 ≡ count % 256 = answer-byte s long room (wrote count) 5 in
       let b : byteAt (answer s long room (wrote count)) 38 ≡ count / 256 % 256 = answer-byte s long room (wrote count) 6 in
       omega arith
+
+  -- the core READ
+  pub core-read-block : (bytes : List ℕ) → length bytes < 65533 → CoreReadBlock bytes (answer s long room (coreRead bytes))
+  unfolding le16At replyBlock two
+  core-read-block bytes few =
+      let at = answer-byte s long room (coreRead bytes) in
+      let n : byteAt (answer s long room (coreRead bytes)) 33 ≡ length bytes % 256 = at 1 in
+      let n′ : byteAt (answer s long room (coreRead bytes)) 34 ≡ length bytes / 256 % 256 = at 2 in
+      let k : byteAt (answer s long room (coreRead bytes)) 43 ≡ (3 + length bytes) % 256 = at 11 in
+      let k′ : byteAt (answer s long room (coreRead bytes)) 44 ≡ (3 + length bytes) / 256 % 256 = at 12 in
+      let l : byteAt (answer s long room (coreRead bytes)) 46 ≡ length bytes % 256 = at 14 in
+      let l′ : byteAt (answer s long room (coreRead bytes)) 47 ≡ length bytes / 256 % 256 = at 15 in
+      let d : drop 48 (answer s long room (coreRead bytes)) ≡ bytes ++ rest s long room (coreRead bytes) = answer-behind s long room (coreRead bytes) 16 in
+      record {
+        words = at 0;
+        count = omega arith;
+        zeros = ap (take 8) (answer-behind s long room (coreRead bytes) 3);
+        byte-count = omega arith;
+        mark = at 13;
+        data-length = omega arith;
+        the-data = ap (take (length bytes)) d ∙ take-append-seam bytes (rest s long room (coreRead bytes));
+      }
+
+  -- the core WRITE
+  pub core-write-block : (count : ℕ) → count < 65536 → CoreWriteBlock count (answer s long room (coreWrote count))
+  unfolding le16At replyBlock two
+  core-write-block count few =
+      let at = answer-byte s long room (coreWrote count) in
+      let n : byteAt (answer s long room (coreWrote count)) 33 ≡ count % 256 = at 1 in
+      let n′ : byteAt (answer s long room (coreWrote count)) 34 ≡ count / 256 % 256 = at 2 in
+      let k : byteAt (answer s long room (coreWrote count)) 35 ≡ 0 = at 3 in
+      let k′ : byteAt (answer s long room (coreWrote count)) 36 ≡ 0 = at 4 in
+      record { words = at 0; count-said = omega arith; no-bytes = omega arith }
+
+  -- the core LOCK and UNLOCK
+  pub plain-block : PlainBlock (answer s long room plain)
+  unfolding le16At replyBlock
+  plain-block =
+      let at = answer-byte s long room plain in
+      let k : byteAt (answer s long room plain) 33 ≡ 0 = at 1 in
+      let k′ : byteAt (answer s long room plain) 34 ≡ 0 = at 2 in
+      record { no-words = at 0; no-bytes = omega arith }

@@ -1,15 +1,16 @@
 -- The fields of the header and of a message's first block, which stands at 32, where the layout has them, and the step from a reading to the reader's block
 -- with these fields. Assumes nothing.
-use mathlib.Core.Path.{_≡_, refl, ap, _∙_}
-use Prim.Native.Nat.{ℕ, _+_, _*_, _/_}
+use mathlib.Core.Path.{_≡_, refl, sym, ap, _∙_}
+use Prim.Native.Nat.{ℕ, _+_, _*_, _/_, _≤_, _<_}
 use native.Mathlib.Omega.{arith}
 use mathlib.Core.Bool.{cond}
 use mathlib.Core.List.{List, [], _∷_, map}
 use mathlib.Core.Option.{some}
-use lib.ListN.{take, drop}
+use lib.ListN.{length, take, drop, length-take, length-drop}
+use lib.Seq.{length-take-le, getD-take, getD-drop, ext-getD}
 use lib.Dec.{eqb}
-use Rattle.wire.specs.LittleEndian.{le16At}
-use Rattle.chain.specs.Layout.{headerCommand, FIRST, wordCount, byteArea, byteCount, fidAfterAndx, offsetLow, readMax, readOffsetHigh, dataLength, dataOffset, writeOffsetHigh}
+use Rattle.wire.specs.LittleEndian.{byteAt, le16At}
+use Rattle.chain.specs.Layout.{headerCommand, FIRST, wordCount, byteArea, byteCount, fidAfterAndx, offsetLow, readMax, readOffsetHigh, dataLength, dataOffset, writeOffsetHigh, firstFid, coreCount, coreOffset, markedData}
 use Rattle.chain.specs.Grammar.{Span, Reading}
 use Rattle.chain.specs.Chain.{blocks}
 use Rattle.chain.specs.declared.block.ReadFields.{ReadFields}
@@ -47,6 +48,17 @@ writeFields s = record { fid = fidAfterAndx s FIRST; offset = writeFrom s; count
 -- the DataLength bytes of the message from DataOffset on
 abbrev pub writeData : List ℕ → List ℕ
 writeData s = take (dataLength s FIRST) (drop (dataOffset s FIRST) s)
+
+-- the core READ and WRITE (document 02, CR 3): FID 2, count 2, offset 4
+abbrev pub coreReadFields : List ℕ → ReadFields
+coreReadFields s = record { fid = firstFid s FIRST; offset = coreOffset s FIRST; max = coreCount s FIRST }
+
+abbrev pub coreWriteFields : List ℕ → WriteFields
+coreWriteFields s = record { fid = firstFid s FIRST; offset = coreOffset s FIRST; count = coreCount s FIRST; from = markedData s FIRST }
+
+-- the count bytes of the message behind the mark and the length of the data block
+abbrev pub coreData : List ℕ → List ℕ
+coreData s = take (coreCount s FIRST) (drop (markedData s FIRST) s)
 
 -- ---- the reader's first block
 
@@ -92,3 +104,23 @@ module _ {s : List ℕ} {later : List Block} (q : FirstBlock s later) where
   pub first-data : dataOf s (q .block) ≡ writeData s
   unfolding dataOf
   first-data = ap (λ (n : ℕ). take (dataLength s n) (drop (dataOffset s n) s)) (q .stands)
+
+  -- and a core WRITE's, all of which is there
+  pub first-core-data : length (drop 3 (areaOf s (q .block))) ≡ coreCount s FIRST → drop 3 (areaOf s (q .block)) ≡ coreData s
+  first-core-data n =
+      let long : length (drop 3 (lockingArea s)) ≡ coreCount s FIRST = rw first-area at n in
+      let cut = length-take (byteCount s FIRST) (drop (byteArea s FIRST) s) in
+      let less = length-drop 3 (lockingArea s) in
+      let whole = length-drop (byteArea s FIRST) s in
+      let end = length-drop (markedData s FIRST) s in
+      let inside : coreCount s FIRST ≤ length (drop (markedData s FIRST) s) = omega arith in
+      rw first-area
+      (ext-getD 0 (drop 3 (lockingArea s)) (coreData s) (long ∙ sym (length-take-le (coreCount s FIRST) (drop (markedData s FIRST) s) inside))
+      (λ i h. let few : 3 + i < byteCount s FIRST = omega arith in
+      let few′ : i < coreCount s FIRST = omega arith in
+      let place : byteArea s FIRST + (3 + i) ≡ markedData s FIRST + i = omega arith in
+      getD-drop 3 (lockingArea s) i 0
+      ∙ getD-take (byteCount s FIRST) (drop (byteArea s FIRST) s) (3 + i) 0 few
+      ∙ getD-drop (byteArea s FIRST) s (3 + i) 0
+      ∙ ap (byteAt s) place
+      ∙ sym (getD-take (coreCount s FIRST) (drop (markedData s FIRST) s) i 0 few′ ∙ getD-drop (markedData s FIRST) s i 0)))
