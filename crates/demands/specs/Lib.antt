@@ -31,6 +31,7 @@ pub mod ReplyBytes
 pub mod CallEffects
 pub mod WireFields
 pub mod Effects
+pub mod SetSize
 pub mod LockEffects
 pub mod FirstReadings
 pub mod LockReasons
