@@ -56,7 +56,7 @@ contents-same t u memory other file inside long size bytes =
     contents-byte u other file i few ∙ bytes i few′ ∙ sym (contents-byte t memory file i few′))
 
 -- another file's bytes lie in front of a file's 4,096 or behind them
-beside : (other file i : ℕ) → (other ≡ file → ⊥) → i < 4096 → (other * 4096 + i < file * 4096) ⊎ (file * 4096 + 4096 ≤ other * 4096 + i)
+pub beside : (other file i : ℕ) → (other ≡ file → ⊥) → i < 4096 → (other * 4096 + i < file * 4096) ⊎ (file * 4096 + 4096 ≤ other * 4096 + i)
 beside other file i different h =
     elim (decided (ltb other file)) [
       | inl e ↦ let l : other < file = ltb-true other file e in inl (omega arith)

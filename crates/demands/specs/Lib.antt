@@ -32,6 +32,8 @@ pub mod CallEffects
 pub mod WireFields
 pub mod Effects
 pub mod SetSize
+pub mod Shown
+pub mod OldBytes
 pub mod LockEffects
 pub mod FirstReadings
 pub mod LockReasons
