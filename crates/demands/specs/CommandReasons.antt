@@ -1,11 +1,12 @@
 -- The status of each command and the one reason for it, in plain words (document 01, "Refusals on the wire": the codes, and "Order: as written, for the whole of each
--- command with all its ranges"). A reason names the failure of those before it in that order; the status is given just where its reason holds. Assumes nothing.
+-- command with all its ranges"; document 02, CR 3, of the core commands: "as for the counterparts"). A reason names the failure of those before it in that order; the status
+-- is given just where its reason holds. Assumes nothing.
 use mathlib.Core.Path.{_≡_, refl, sym, ap, _∙_}
 use mathlib.Core.Logic.{_⊎_, inl, inr, _↔_}
-use Prim.Native.Nat.{ℕ, _+_, _*_, _/_, _%_, _≤_, _<_}
+use Prim.Native.Nat.{ℕ, min, max, _+_, _-_, _*_, _/_, _%_, _^_, _≤_, _<_}
 use native.Mathlib.Omega.{arith}
-use mathlib.Core.Bool.{Bool, true, false, cond, not, _||_, and-false}
-use mathlib.Core.List.{List, map}
+use mathlib.Core.Bool.{true, false, not, _||_, and-false}
+use mathlib.Core.List.{List, [], _∷_, _++_, map, List·Memᴰ·eq-of-singleton as only-one}
 use mathlib.Core.Option.{Option, none, some}
 use lib.ListN.{length, getD}
 use lib.Dec.{leb, ltb, eqb}
@@ -20,29 +21,33 @@ use Rattle.records.specs.declared.Lock.{Lock}
 use Rattle.records.specs.declared.Tables.{Tables}
 use Rattle.records.specs.Empty.{noOpen}
 use Rattle.records.specs.Held.{opensOf, locksOf}
-use Rattle.locks.specs.Wire.{rangeSize, rangesAt}
-use Rattle.locks.specs.Request.{ofHeader, rangesOf, releaseAll, Grants, granted, blocked, grantAll, afterGrants, rangePasses, afterReleases, Result, request, settle, locking}
+use Rattle.locks.specs.Wire.{rangeSize, rangeAt, rangesAt, smallForm}
+use Rattle.locks.specs.Request.{ofHeader, lockOf, rangesOf, releaseAll, Grants, granted, blocked, grantAll, afterGrants, rangePasses, afterReleases, Result, request, settle, locking}
 use Rattle.locks.specs.declared.types.LockRange.{LockRange}
-use Rattle.locks.specs.declared.types.Purpose.the-variants.{Read as Reading, Write as Writing}
+use Rattle.locks.specs.declared.types.Purpose.the-variants.{Read as Reading}
 use Rattle.soundness.specs.File.{fileOf}
 use Rattle.soundness.specs.Sound.{sound}
 use Rattle.claims.specs.SoundPlain.{sound-plain}
 use Rattle.claims.specs.HostReasons.{HasTree}
 use Rattle.claims.specs.Cases.{statusIn}
+use Rattle.invariants.specs.GivenCases.{cond-case}
 use Rattle.chain.specs.declared.block.LockingFields.{LockingFields}
 use Rattle.chain.specs.declared.block.ReadFields.{ReadFields}
 use Rattle.chain.specs.declared.block.WriteFields.{WriteFields}
+use Rattle.chain.specs.declared.block.RangeFields.{RangeFields}
 use Rattle.chain.specs.declared.block.Body.{Body}
-use Rattle.chain.specs.declared.block.Body.the-variants.{Locking as LockingBody, Read as ReadBody, Write as WriteBody, Close, Logoff, TreeDisconnect, ProcessExit}
+use Rattle.chain.specs.declared.block.Body.the-variants.{Locking as LockingBody, Read as ReadBody, Write as WriteBody, Close, Logoff, TreeDisconnect, ProcessExit, CoreRead as CoreReadBody, CoreWrite as CoreWriteBody, LockByteRange, UnlockByteRange}
 use Rattle.message.specs.declared.caller.Caller.{Caller}
 use Rattle.message.specs.Refusal.{status, statusOf}
 use Rattle.message.specs.declared.refusal.Status.{Status}
-use Rattle.message.specs.declared.refusal.Refusal.the-variants.{NoAccess, LockType, NoSpace}
-use Rattle.message.specs.Contents.{readBytes, written, resized}
-use Rattle.message.specs.Command.{Given, Said, refused, done, read, wrote, withSession, withTree, withOpen, servedType, requestOf, lockingEnd, lockingAfter, doLocking, askBy, unlessBarred, barring, doRead, endsPast, doWrite, perform}
-use Rattle.demands.specs.LoneLock.{Conflicts, May, InWay, Owner, read-conflict as read-exact, write-conflict as write-exact, sharedIn}
+use Rattle.message.specs.declared.refusal.Refusal.the-variants.{NoAccess, LockType}
+use Rattle.message.specs.Contents.{sizeOf, readBytes}
+use Rattle.message.specs.Command.{Given, refused, done, read, withSession, withTree, withOpen, servedType, requestOf, lockingEnd, lockingAfter, doLocking, askBy, unlessBarred, barring, doRead, endsPast, doWrite, asCore, rangeBy, oneRange, doRange, betweenSizes, doSetSize, doCoreWrite, perform}
+use Rattle.demands.specs.LoneLock.{May, InWay, Owner, BarsLock, BarsSize, BarsRange, read-conflict as read-exact, sharedIn, exclusive-way, range-back}
 use Rattle.demands.specs.Admitted.{SessionHere, Admitted, NoSessionFor, NoTreeFor, NoOpenFor, admitted-may, session-or, tree-or, open-or, with-session, with-tree, with-open, session-given, tree-given, open-given}
-use Rattle.demands.specs.LockWords.{Released, Unnamed, Releasing, all-released, one-unnamed, release-means, released-is, unnamed-is, released-was, PastEnd, past-means, past-is, AllGranted, OneBlocked, Opened, Granting, all-granted, one-blocked, grant-means, granted-is, blocked-is}
+use Rattle.demands.specs.LockWords.{Released, Unnamed, Releasing, all-released, one-unnamed, release-means, released-is, unnamed-is, released-was, PastEnd, past-means, past-is, AllGranted, OneBlocked, Opened, Granting, all-granted, one-blocked, grant-means, granted-is, blocked-is, none-to-release, none-released, none-unnamed, one-released, one-names-none, names-none, none-to-grant, grant-then, none-granted, blocked-here, none-blocked, one-barred, one-more, one-granted}
+use Rattle.demands.specs.WritingReasons.{WritingStatus, conflicts-status, other-status, writing-reason, writing-given}
+use Rattle.demands.specs.CoreReasons.{LockStatus, lock-not, lock-barred, lock-full, lock-done, UnlockStatus, unlock-not, unlock-unnamed, unlock-done, out-listed, listed-out, out-fits}
 
 -- ---- the reasons
 
@@ -80,16 +85,18 @@ pub data ReadStatus (c : Caller) (t : Tables) (f : ReadFields) : Status → Type
 abbrev pub BarsWrite : Caller → Tables → WriteFields → Open → Type 0
 BarsWrite c t f o = InWay t o (locksOf t) (f .offset) (f .count) (λ l. (l .shared ≡ false) × Owner (f .fid) (c .process) l → ⊥)
 
--- WRITE: "or a write on access 0", 1/33, "class 3, code 39, write would end past 4,096"; "Length 0 .. is done at any offset"
-pub data WriteStatus (c : Caller) (t : Tables) (f : WriteFields) : Status → Type 0 where
-  -- 2/91, 2/5 or 1/6: Admitted.antt
-  write-not : {n : Status} → NoOpenFor c t (f .fid) n → WriteStatus c t f n
-  write-access : {o : Open} → Admitted c t (f .fid) o → o .access ≡ 0 → WriteStatus c t f (status 1 5)
-  write-barred : {o : Open} → Admitted c t (f .fid) o → (o .access ≡ 0 → ⊥) → BarsWrite c t f o → WriteStatus c t f (status 1 33)
-  write-space : {o : Open} → Admitted c t (f .fid) o → (o .access ≡ 0 → ⊥) → (BarsWrite c t f o → ⊥) → 1 ≤ f .count → 4096 < f .offset + f .count
-      → WriteStatus c t f (status 3 39)
-  write-done : {o : Open} → Admitted c t (f .fid) o → (o .access ≡ 0 → ⊥) → (BarsWrite c t f o → ⊥) → (f .count ≡ 0) ⊎ (f .offset + f .count ≤ 4096)
-      → WriteStatus c t f (status 0 0)
+-- WRITE: "Length 0 .. is done at any offset"
+abbrev pub WriteStatus : Caller → Tables → WriteFields → Status → Type 0
+WriteStatus c t f n =
+    WritingStatus c t (f .fid) (BarsWrite c t f) ((1 ≤ f .count) × (4096 < f .offset + f .count)) ((f .count ≡ 0) ⊎ (f .offset + f .count ≤ 4096)) n
+
+-- the core WRITE, document 02, CR 3: with count 0 it "sets the file's size to the offset (past 4,096 is 3/39)"; with any other it is a WRITE
+abbrev pub SetSizeStatus : Caller → Tables → WriteFields → Status → Type 0
+SetSizeStatus c t f n = WritingStatus c t (f .fid) (BarsSize c t f) (4096 < f .offset) (f .offset ≤ 4096) n
+
+pub data CoreWriteStatus (c : Caller) (t : Tables) (f : WriteFields) (n : Status) : Type 0 where
+  some-count : (f .count ≡ 0 → ⊥) → WriteStatus c t f n → CoreWriteStatus c t f n
+  count-0 : f .count ≡ 0 → SetSizeStatus c t f n → CoreWriteStatus c t f n
 
 -- the type's bits 0x01 and 0x10 are all of it
 abbrev pub OnlyTwoBits : ℕ → Type 0
@@ -133,27 +140,12 @@ Reason c t area (Close fid) n = CloseStatus c t fid n
 Reason c t area Logoff n = SessionStatus c t n
 Reason c t area TreeDisconnect n = TreeStatus c t n
 Reason c t area ProcessExit n = SessionStatus c t n
+Reason c t area (CoreReadBody f) n = ReadStatus c t f n
+Reason c t area (CoreWriteBody f) n = CoreWriteStatus c t f n
+Reason c t area (LockByteRange f) n = LockStatus c t f n
+Reason c t area (UnlockByteRange f) n = UnlockStatus c t f n
 
--- ---- 1/33 and other codes
-
-conflicts-status : (g : Given) → Conflicts g → statusIn g ≡ status 1 33
-unfolding statusIn statusOf
-conflicts-status g h = ap statusIn (h .1)
-
-other-status : (g : Given) → (statusIn g .code ≡ 33 → ⊥) → Conflicts g → ⊥
-unfolding status
-other-status g n h = n (ap (λ (s : Status). s .code) (conflicts-status g h))
-
--- a write's end decides between 3/39 and done
-end-code : (b : Bool) → cond b (status 3 39) (status 0 0) .code ≡ 33 → ⊥
-unfolding status
-end-code true e = omega arith
-end-code false e = omega arith
-
-end-status : (b : Bool) (u : Tables) (m : List ℕ) (said : Said) → statusIn (cond b (refused NoSpace) (done u m said)) ≡ cond b (status 3 39) (status 0 0)
-unfolding statusIn statusOf
-end-status true u m said = refl
-end-status false u m said = refl
+-- ---- a write's end
 
 past-means-space : (offset count : ℕ) → endsPast offset count ≡ true → (1 ≤ count) × (4096 < offset + count)
 unfolding endsPast
@@ -297,89 +289,19 @@ module _ (c : Caller) (t : Tables) (memory : List ℕ) (ok : sound t ≡ true) w
   -- ---- WRITE
 
   module _ (f : WriteFields) (bytes : List ℕ) where
-    abbrev write-end : Open → Given
-    write-end o = done (resized t (o .file) (f .offset) (f .count)) (written t memory (o .file) (f .offset) bytes) (wrote (f .count))
+    write-passes : (endsPast (f .offset) (f .count) ≡ true) ↔ ((1 ≤ f .count) × (4096 < f .offset + f .count))
+    write-passes = (past-means-space (f .offset) (f .count), λ h. space-is-past (f .offset) (f .count) (h .0) (h .1))
 
-    write-given-open : {n : Status} → NoOpenFor c t (f .fid) n → statusIn (doWrite c t memory f bytes) ≡ n
-    unfolding doWrite
-    write-given-open h = open-given c t (f .fid) _ h
+    write-fits : (endsPast (f .offset) (f .count) ≡ false) ↔ ((f .count ≡ 0) ⊎ (f .offset + f .count ≤ 4096))
+    write-fits = (inside-means (f .offset) (f .count), inside-is (f .offset) (f .count))
 
-    module _ (k : ℕ) (may : May c t (f .fid) k) where
-      abbrev write-open : Open
-      write-open = getD (opensOf t) k noOpen
-
-      write-refused : eqb (write-open .access) 0 ≡ true → doWrite c t memory f bytes ≡ refused NoAccess
-      unfolding doWrite
-      write-refused e = with-open c t (f .fid) k _ may ∙ rw e
-
-      write-is : eqb (write-open .access) 0 ≡ false
-          → doWrite c t memory f bytes
-          ≡ unlessBarred t (barring t (askBy c (f .fid) (f .offset) (f .count) Writing)) (cond (endsPast (f .offset) (f .count)) (refused NoSpace) (write-end write-open))
-      unfolding doWrite
-      write-is e = with-open c t (f .fid) k _ may ∙ rw e
-
-      module _ (e : eqb (write-open .access) 0 ≡ false) where
-        -- a lock is in the way, or the write's end decides
-        write-ends : (x : Found) → doWrite c t memory f bytes ≡ unlessBarred t x (cond (endsPast (f .offset) (f .count)) (refused NoSpace) (write-end write-open))
-            → (BarsWrite c t f write-open × (statusIn (doWrite c t memory f bytes) ≡ status 1 33))
-            ⊎ ((BarsWrite c t f write-open → ⊥) × (statusIn (doWrite c t memory f bytes) ≡ cond (endsPast (f .offset) (f .count)) (status 3 39) (status 0 0)))
-        unfolding unlessBarred
-        write-ends (At j) g = inl (write-exact c t memory k ok f bytes may e .0 (_, g), conflicts-status (doWrite c t memory f bytes) (_, g))
-        write-ends Nothing g =
-            inr (
-              λ w. other-status (doWrite c t memory f bytes) (λ q. end-code (endsPast (f .offset) (f .count)) (sym (ap (λ (s : Status). s .code) (ap statusIn g ∙ end-status (endsPast (f .offset) (f .count)) _ _ _)) ∙ q)) (write-exact c t memory k ok f bytes may e .1 w),
-              ap statusIn g ∙ end-status (endsPast (f .offset) (f .count)) _ _ _,
-            )
-
-    -- WRITE: the status has its reason
     write-reason : WriteStatus c t f (statusIn (doWrite c t memory f bytes))
-    unfolding statusIn statusOf
-    write-reason =
-        elim (open-or c t (f .fid)) [
-          | inl h ↦ rw (write-given-open (h .1)) (write-not (h .1))
-          | inr (k, may, a) ↦ elim (decided (eqb (getD (opensOf t) k noOpen .access) 0)) [
-            | inl e ↦ rw (write-refused k may e) (write-access a (eqb-true (getD (opensOf t) k noOpen .access) 0 e))
-            | inr e ↦ elim (write-ends k may e (barring t (askBy c (f .fid) (f .offset) (f .count) Writing)) (write-is k may e)) [
-              | inl w ↦ rw (w .1) (write-barred a (eqb-false (getD (opensOf t) k noOpen .access) 0 e) (w .0))
-              | inr w ↦ elim (decided (endsPast (f .offset) (f .count))) [
-                | inl p ↦
-                    let s = past-means-space (f .offset) (f .count) p in
-                    rw (w .1, p) (write-space a (eqb-false (getD (opensOf t) k noOpen .access) 0 e) (w .0) (s .0) (s .1))
-                | inr p ↦ rw (w .1, p) (write-done a (eqb-false (getD (opensOf t) k noOpen .access) 0 e) (w .0) (inside-means (f .offset) (f .count) p))
-              ]
-            ]
-          ]
-        ]
+    unfolding doWrite statusIn
+    write-reason = writing-reason c t memory ok (f .fid) (λ o. f .offset) (λ o. f .count) (endsPast (f .offset) (f .count)) _ (λ o. refl) write-passes write-fits
 
-    -- no lock in the way: the write's end decides
-    write-free : {o : Open} → Admitted c t (f .fid) o → (o .access ≡ 0 → ⊥) → (BarsWrite c t f o → ⊥)
-        → statusIn (doWrite c t memory f bytes) ≡ cond (endsPast (f .offset) (f .count)) (status 3 39) (status 0 0)
-    write-free {o} a n b =
-        let m = admitted-may c t (f .fid) ok o a in
-        let e = ne-eqb (getD (opensOf t) (m .0) noOpen .access) 0 (λ x. n (ap (λ (p : Open). p .access) (sym (m .2)) ∙ x)) in
-        let b′ : BarsWrite c t f (getD (opensOf t) (m .0) noOpen) → ⊥ = rw (m .2) b in
-        elim (write-ends (m .0) (m .1) e (barring t (askBy c (f .fid) (f .offset) (f .count) Writing)) (write-is (m .0) (m .1) e)) [
-          | inl w ↦ absurd (b′ (w .0))
-          | inr w ↦ w .1
-        ]
-
-    -- and where the reason holds, the status is given
     write-given : {n : Status} → WriteStatus c t f n → statusIn (doWrite c t memory f bytes) ≡ n
-    unfolding statusIn statusOf
-    write-given (write-not h) = write-given-open h
-    write-given (write-access {o} a e) =
-        let m = admitted-may c t (f .fid) ok o a in
-        ap statusIn (write-refused (m .0) (m .1) (eq-eqb (getD (opensOf t) (m .0) noOpen .access) 0 (ap (λ (p : Open). p .access) (m .2) ∙ e)))
-    write-given (write-barred {o} a n b) =
-        let m = admitted-may c t (f .fid) ok o a in
-        let e = ne-eqb (getD (opensOf t) (m .0) noOpen .access) 0 (λ x. n (ap (λ (p : Open). p .access) (sym (m .2)) ∙ x)) in
-        let b′ : BarsWrite c t f (getD (opensOf t) (m .0) noOpen) = rw (m .2) b in
-        elim (write-ends (m .0) (m .1) e (barring t (askBy c (f .fid) (f .offset) (f .count) Writing)) (write-is (m .0) (m .1) e)) [
-          | inl w ↦ w .1
-          | inr w ↦ absurd (w .0 b′)
-        ]
-    write-given (write-space a n b h p) = rw (write-free a n b, space-is-past (f .offset) (f .count) h p)
-    write-given (write-done a n b h) = rw (write-free a n b, inside-is (f .offset) (f .count) h)
+    unfolding doWrite statusIn
+    write-given = writing-given c t memory ok (f .fid) (λ o. f .offset) (λ o. f .count) (endsPast (f .offset) (f .count)) _ (λ o. refl) write-passes write-fits
 
   -- ---- LOCKING
 
@@ -526,7 +448,136 @@ module _ (c : Caller) (t : Tables) (memory : List ℕ) (ok : sound t ≡ true) w
   tree-is next zero (tree-not h) = tree-given c t next h
   tree-is next zero (tree-there s r) = ap statusIn (with-tree c t next s r) ∙ zero
 
--- ---- all seven
+  -- ---- the core commands
+
+  -- another reply block, and no other refusal
+  core-status : (g : Given) → statusIn (asCore g) ≡ statusIn g
+  unfolding asCore statusIn
+  core-status (refused why) = refl
+  core-status (done u m said) = refl
+
+  -- the core WRITE
+  module _ (f : WriteFields) (bytes : List ℕ) where
+    set-size-reason : SetSizeStatus c t f (statusIn (doSetSize c t memory f))
+    unfolding doSetSize betweenSizes statusIn
+    set-size-reason =
+        writing-reason c t memory ok (f .fid) (λ o. min (sizeOf t (o .file)) (f .offset)) (λ o. max (sizeOf t (o .file)) (f .offset) - min (sizeOf t (o .file)) (f .offset)) (ltb 4096 (f .offset)) _ (λ o. refl)
+        (ltb-true 4096 (f .offset), lt-ltb 4096 (f .offset)) (ltb-false 4096 (f .offset), le-ltb 4096 (f .offset))
+
+    set-size-given : {n : Status} → SetSizeStatus c t f n → statusIn (doSetSize c t memory f) ≡ n
+    unfolding doSetSize betweenSizes statusIn
+    set-size-given =
+        writing-given c t memory ok (f .fid) (λ o. min (sizeOf t (o .file)) (f .offset)) (λ o. max (sizeOf t (o .file)) (f .offset) - min (sizeOf t (o .file)) (f .offset)) (ltb 4096 (f .offset)) _ (λ o. refl)
+        (ltb-true 4096 (f .offset), lt-ltb 4096 (f .offset)) (ltb-false 4096 (f .offset), le-ltb 4096 (f .offset))
+
+    core-write-reason : CoreWriteStatus c t f (statusIn (doCoreWrite c t memory f bytes))
+    unfolding doCoreWrite
+    core-write-reason =
+        cond-case (λ (g : Given). CoreWriteStatus c t f (statusIn g)) (eqb (f .count) 0) (doSetSize c t memory f) (asCore (doWrite c t memory f bytes))
+        (λ e. count-0 (eqb-true (f .count) 0 e) set-size-reason)
+        (λ e. some-count (eqb-false (f .count) 0 e) (rw (core-status (doWrite c t memory f bytes)) (write-reason f bytes)))
+
+    core-write-given : {n : Status} → CoreWriteStatus c t f n → statusIn (doCoreWrite c t memory f bytes) ≡ n
+    unfolding doCoreWrite
+    core-write-given (some-count h r) = rw (ne-eqb (f .count) 0 h) (core-status (doWrite c t memory f bytes) ∙ write-given f bytes r)
+    core-write-given (count-0 h r) = rw (eq-eqb (f .count) 0 h) (set-size-given r)
+
+  -- LOCK_BYTE_RANGE and UNLOCK_BYTE_RANGE: the LOCKING of one range, of a served type and within 2^64
+  module _ (f : RangeFields) where
+    abbrev its-area : List ℕ
+    its-area = smallForm (rangeBy c f)
+
+    abbrev its-range : LockRange
+    its-range = ofHeader (c .process / 65536) (rangeAt false its-area 0)
+
+    not-past : PastEnd (its-range ∷ []) → ⊥
+    unfolding PastEnd
+    not-past w =
+        let e = only-one (w .1) ∙ range-back c f in
+        let past : 2 ^ 64 < f .offset % 4294967296 + f .length % 4294967296 = rw e at (w .2) in
+        omega arith
+
+    bars-exact : {o : Open} → BarsLock t o (locksOf t) false its-range ↔ BarsRange c t f o
+    bars-exact = (λ w. exclusive-way .0 (rw (range-back c f) at w), λ w. rw (range-back c f) (exclusive-way .1 w))
+
+    to-lock : {n : Status} → LockingStatus c t (oneRange f 0 1) its-area n → LockStatus c t f n
+    unfolding oneRange rangesAt
+    to-lock (locking-not h) = lock-not h
+    to-lock (locking-type a h) = absurd (h refl)
+    to-lock (locking-unnamed a b u) = absurd (none-unnamed u refl)
+    to-lock (locking-past a b r w) = absurd (not-past w)
+    to-lock (locking-blocked a b r low w) = lock-barred a (bars-exact .0 (rw (none-released r refl) at (one-barred w)))
+    to-lock (locking-full {last = last} a b r low g h) =
+        let w = rw (none-released r refl) at (one-granted g) in
+        let more : length last ≡ length (locksOf t) + 1 = w .2 in
+        lock-full a (λ x. w .0 (bars-exact .1 x)) (omega arith)
+    to-lock (locking-done {last = last} a b r low g h) =
+        let w = rw (none-released r refl) at (one-granted g) in
+        let more : length last ≡ length (locksOf t) + 1 = w .2 in
+        lock-done a (λ x. w .0 (bars-exact .1 x)) (omega arith)
+
+    one-held : {o : Open} → (BarsRange c t f o → ⊥) → AllGranted t o (f .fid) false (its-range ∷ []) (locksOf t) (locksOf t ++ (lockOf (f .fid) false its-range ∷ []))
+    one-held free = grant-then (λ w. free (bars-exact .0 w)) none-to-grant
+
+    from-lock : {n : Status} → LockStatus c t f n → LockingStatus c t (oneRange f 0 1) its-area n
+    unfolding oneRange rangesAt
+    from-lock (lock-not h) = locking-not h
+    from-lock (lock-barred a w) = locking-blocked a refl none-to-release not-past (blocked-here (bars-exact .1 w))
+    from-lock (lock-full a free h) =
+        let more = one-more (locksOf t) (lockOf (f .fid) false its-range) in
+        locking-full a refl none-to-release not-past (one-held free) (omega arith)
+    from-lock (lock-done a free h) =
+        let more = one-more (locksOf t) (lockOf (f .fid) false its-range) in
+        locking-done a refl none-to-release not-past (one-held free) (omega arith)
+
+    none-past : PastEnd [] → ⊥
+    unfolding any
+    none-past w = not-decided-twice false (past-is [] w) refl
+
+    to-unlock : {n : Status} → LockingStatus c t (oneRange f 1 0) its-area n → UnlockStatus c t f n
+    unfolding oneRange rangesAt
+    to-unlock (locking-not h) = unlock-not h
+    to-unlock (locking-type a h) = absurd (h refl)
+    to-unlock (locking-unnamed a b u) = unlock-unnamed a (λ w. one-names-none (rw (range-back c f) at u) (w .lock) (w .listed) (w .named))
+    to-unlock (locking-past a b r w) = absurd (none-past w)
+    to-unlock (locking-blocked a b r low w) = absurd (none-blocked w refl)
+    to-unlock (locking-full {left = left} {last} a b r low g h) =
+        let few = out-fits t ok (one-released r) in
+        let same : last ≡ left = none-granted g refl in
+        absurd (let z : ⊥ = omega (arith, ap length same) in z)
+    to-unlock (locking-done a b r low g h) = unlock-done a (out-listed (one-released (rw (range-back c f) at r)))
+
+    from-unlock : {n : Status} → UnlockStatus c t f n → LockingStatus c t (oneRange f 1 0) its-area n
+    unfolding oneRange rangesAt
+    from-unlock (unlock-not h) = locking-not h
+    from-unlock (unlock-unnamed a h) = locking-unnamed a refl (rw (range-back c f) (names-none (λ l m n. h (record { lock = l; listed = m; named = n }))))
+    from-unlock (unlock-done a w) =
+        let q = listed-out w in
+        let out : Released (f .fid) (its-range ∷ []) (locksOf t) (q .0) = rw (range-back c f) (q .1) in
+        locking-done a refl out none-past none-to-grant (out-fits t ok (one-released out))
+
+    announced : length its-area ≡ 1 * rangeSize false
+    unfolding smallForm rangeSize
+    announced = refl
+
+    -- the status has its reason, and where the reason holds, the status is given
+    lock-reason : LockStatus c t f (statusIn (doRange c t memory f 0 1))
+    unfolding doRange oneRange
+    lock-reason = rw (core-status (doLocking c t memory (oneRange f 0 1) its-area)) (to-lock (locking-reason (oneRange f 0 1) its-area announced))
+
+    lock-given : {n : Status} → LockStatus c t f n → statusIn (doRange c t memory f 0 1) ≡ n
+    unfolding doRange oneRange
+    lock-given r = core-status (doLocking c t memory (oneRange f 0 1) its-area) ∙ locking-given (oneRange f 0 1) its-area announced (from-lock r)
+
+    unlock-reason : UnlockStatus c t f (statusIn (doRange c t memory f 1 0))
+    unfolding doRange oneRange
+    unlock-reason = rw (core-status (doLocking c t memory (oneRange f 1 0) its-area)) (to-unlock (locking-reason (oneRange f 1 0) its-area announced))
+
+    unlock-given : {n : Status} → UnlockStatus c t f n → statusIn (doRange c t memory f 1 0) ≡ n
+    unfolding doRange oneRange
+    unlock-given r = core-status (doLocking c t memory (oneRange f 1 0) its-area) ∙ locking-given (oneRange f 1 0) its-area announced (from-unlock r)
+
+-- ---- all eleven
 
 -- a LOCKING block's byte area is just the announced ranges, as it is in every block of a reading
 unfoldable pub Announced : Body → List ℕ → Type 0
@@ -543,6 +594,10 @@ module _ (c : Caller) (t : Tables) (memory : List ℕ) (ok : sound t ≡ true) w
   perform-reason Logoff area bytes h = session-reason c t memory ok _ refl
   perform-reason TreeDisconnect area bytes h = tree-reason c t memory ok _ refl
   perform-reason ProcessExit area bytes h = session-reason c t memory ok _ refl
+  perform-reason (CoreReadBody f) area bytes h = rw (core-status c t memory ok (doRead c t memory f)) (read-reason c t memory ok f)
+  perform-reason (CoreWriteBody f) area bytes h = core-write-reason c t memory ok f _
+  perform-reason (LockByteRange f) area bytes h = lock-reason c t memory ok f
+  perform-reason (UnlockByteRange f) area bytes h = unlock-reason c t memory ok f
 
   -- "Order: as written": and where the reason holds, its status is given
   pub perform-given : (b : Body) (area bytes : List ℕ) → Announced b area → {n : Status} → Reason c t area b n → statusIn (perform c t memory b area bytes) ≡ n
@@ -554,6 +609,10 @@ module _ (c : Caller) (t : Tables) (memory : List ℕ) (ok : sound t ≡ true) w
   perform-given Logoff area bytes h r = session-is c t memory ok _ refl r
   perform-given TreeDisconnect area bytes h r = tree-is c t memory ok _ refl r
   perform-given ProcessExit area bytes h r = session-is c t memory ok _ refl r
+  perform-given (CoreReadBody f) area bytes h r = core-status c t memory ok (doRead c t memory f) ∙ read-given c t memory ok f r
+  perform-given (CoreWriteBody f) area bytes h r = core-write-given c t memory ok f _ r
+  perform-given (LockByteRange f) area bytes h r = lock-given c t memory ok f r
+  perform-given (UnlockByteRange f) area bytes h r = unlock-given c t memory ok f r
 
   -- a command has a status exactly for its reason
   pub perform-exact : (b : Body) (area bytes : List ℕ) → Announced b area → (n : Status) → (statusIn (perform c t memory b area bytes) ≡ n) ↔ Reason c t area b n

@@ -17,6 +17,8 @@ pub mod RoomKept
 pub mod Admitted
 pub mod LoneCall
 pub mod LockWords
+pub mod WritingReasons
+pub mod CoreReasons
 pub mod CommandReasons
 pub mod CorePairs
 pub mod ReasonCalls

@@ -7,7 +7,7 @@ use native.Mathlib.Omega.{arith}
 use mathlib.Core.Bool.{Bool, true, false, cond, not, _&&_}
 use mathlib.Core.List.{List, [], _∷_, _++_, List·Memᴰ as In, List·Memᴰ·head as here, List·Memᴰ·tail as there, List·Memᴰ·cases-cons as first-or-later, List·Memᴰ·append-cases as front-or-back, List·Memᴰ·eq-of-singleton as only-one}
 use mathlib.Core.Option.{Option, none, some}
-use lib.ListN.{length, getD}
+use lib.ListN.{length, getD, length-append}
 use lib.Dec.{eqb}
 use borrow.Author.Tests.{eqb-true, eq-eqb, ltb-true, lt-ltb, not-true}
 use Rattle.lists.specs.Walk.{any, foundFrom, found}
@@ -32,6 +32,10 @@ use Rattle.invariants.specs.SoundParts.{sound-says}
 use Rattle.claims.specs.SoundPlain.{fileOf-one}
 use Rattle.invariants.specs.FoundFacts.{found-hit, found-miss}
 use Rattle.demands.specs.LoneLock.{BarsLock}
+
+-- two constructors are not one
+pub never : {P : Type 0} → _≡_ {A = ℕ} 0 1 → P
+never e = absurd (omega arith)
 
 -- ---- unlocks
 
@@ -129,9 +133,25 @@ out-once (later-one h n) (this-one m) = absurd (h m)
 out-once (later-one {l} h n) (later-one g m) = ap (λ (x : List Lock). l ∷ x) (out-once n m)
 
 -- and it was listed
-out-named : {fid : ℕ} {r : LockRange} {list left : List Lock} → TakenOut fid r list left → (l : Lock) × In l list × Named fid r l
+pub out-named : {fid : ℕ} {r : LockRange} {list left : List Lock} → TakenOut fid r list left → (l : Lock) × In l list × Named fid r l
 out-named (this-one {l} n) = (l, here refl, n)
 out-named (later-one h n) = let w = out-named n in (w .0, there (w .1), w .2)
+
+-- no range takes nothing out; one takes its lock out, or names none
+pub none-released : {fid : ℕ} {rs : List LockRange} {list left : List Lock} → Released fid rs list left → rs ≡ [] → left ≡ list
+none-released none-to-release e = refl
+none-released (release-then out more) e = never cc
+
+pub none-unnamed : {fid : ℕ} {rs : List LockRange} {list : List Lock} → Unnamed fid rs list → rs ≡ [] → ⊥
+none-unnamed (names-none h) e = never cc
+none-unnamed (later-names-none out more) e = never cc
+
+pub one-released : {fid : ℕ} {r : LockRange} {list left : List Lock} → Released fid (r ∷ []) list left → TakenOut fid r list left
+one-released (release-then out none-to-release) = out
+
+pub one-names-none : {fid : ℕ} {r : LockRange} {list : List Lock} → Unnamed fid (r ∷ []) list → (l : Lock) → In l list → Named fid r l → ⊥
+one-names-none (names-none h) = h
+one-names-none (later-names-none out more) = absurd (none-unnamed more refl)
 
 -- what the release of all gives, and what that means
 pub data Releasing (fid : ℕ) (rs : List LockRange) (list : List Lock) : Option (List Lock) → Type 0 where
@@ -216,11 +236,32 @@ pub data AllGranted (t : Tables) (o : Open) (fid : ℕ) (shared : Bool) : List L
   grant-then : {r : LockRange} {rs : List LockRange} {list last : List Lock} → (BarsLock t o list shared r → ⊥)
       → AllGranted t o fid shared rs (list ++ (lockOf fid shared r ∷ [])) last → AllGranted t o fid shared (r ∷ rs) list last
 
+-- no range is granted nothing
+pub none-granted : {t : Tables} {o : Open} {fid : ℕ} {shared : Bool} {rs : List LockRange} {list last : List Lock} → AllGranted t o fid shared rs list last → rs ≡ [] → last ≡ list
+none-granted none-to-grant e = refl
+none-granted (grant-then free more) e = never cc
+
 -- or one is in the way
 pub data OneBlocked (t : Tables) (o : Open) (fid : ℕ) (shared : Bool) : List LockRange → List Lock → Type 0 where
   blocked-here : {r : LockRange} {rs : List LockRange} {list : List Lock} → BarsLock t o list shared r → OneBlocked t o fid shared (r ∷ rs) list
   blocked-later : {r : LockRange} {rs : List LockRange} {list : List Lock} → (BarsLock t o list shared r → ⊥)
       → OneBlocked t o fid shared rs (list ++ (lockOf fid shared r ∷ [])) → OneBlocked t o fid shared (r ∷ rs) list
+
+pub none-blocked : {t : Tables} {o : Open} {fid : ℕ} {shared : Bool} {rs : List LockRange} {list : List Lock} → OneBlocked t o fid shared rs list → rs ≡ [] → ⊥
+none-blocked (blocked-here bar) e = never cc
+none-blocked (blocked-later free more) e = never cc
+
+-- one range has one in its way, or its lock stands behind the others, one more than they were
+pub one-barred : {t : Tables} {o : Open} {fid : ℕ} {shared : Bool} {r : LockRange} {list : List Lock} → OneBlocked t o fid shared (r ∷ []) list → BarsLock t o list shared r
+one-barred (blocked-here bar) = bar
+one-barred (blocked-later free more) = absurd (none-blocked more refl)
+
+pub one-more : (list : List Lock) (l : Lock) → length (list ++ (l ∷ [])) ≡ length list + 1
+one-more list l = length-append list (l ∷ [])
+
+pub one-granted : {t : Tables} {o : Open} {fid : ℕ} {shared : Bool} {r : LockRange} {list last : List Lock} → AllGranted t o fid shared (r ∷ []) list last
+    → (BarsLock t o list shared r → ⊥) × (last ≡ list ++ (lockOf fid shared r ∷ [])) × (length last ≡ length list + 1)
+one-granted {fid = fid} {shared = shared} {r = r} {list = list} (grant-then free none-to-grant) = (free, refl, one-more list (lockOf fid shared r))
 
 -- each lock's FID is an open's
 unfoldable pub Opened : Tables → List Lock → Type 0

@@ -1,13 +1,13 @@
--- When a lone lock, a read or a write is refused for a lock (document 01, "Locks, reads and writes"), in plain propositions. Assumes nothing.
+-- When a lone lock, a read or a write is refused for a lock (document 01, "Locks, reads and writes"; document 02, CR 3), in plain propositions. Assumes nothing.
 use mathlib.Core.Path.{_≡_, refl, sym, _∙_, ap}
 use mathlib.Core.Logic.{_↔_}
-use Prim.Native.Nat.{ℕ, _*_, _/_, _%_}
+use Prim.Native.Nat.{ℕ, min, max, _+_, _-_, _*_, _/_, _%_, _^_}
 use native.Mathlib.Omega.{arith}
 use mathlib.Core.Bool.{Bool, true, false, cond, not, _&&_}
 use mathlib.Core.List.{List, [], _∷_, _++_, List·Memᴰ as In}
 use lib.ListN.{length, getD}
-use lib.Dec.{leb, eqb}
-use borrow.Author.Tests.{eqb-true, eq-eqb, not-true}
+use lib.Dec.{leb, ltb, eqb}
+use borrow.Author.Tests.{eqb-true, eq-eqb, le-ltb, not-true}
 use Rattle.lists.specs.Walk.{any, found}
 use Rattle.lists.specs.Truth.{both-hold, hold-both, fails, not-decided-twice, not-holds}
 use Rattle.lists.specs.declared.Found.{Found}
@@ -17,8 +17,8 @@ use Rattle.records.specs.declared.Lock.{Lock}
 use Rattle.records.specs.declared.Tables.{Tables}
 use Rattle.records.specs.Empty.{noOpen, noLock}
 use Rattle.records.specs.Held.{sessionsOf, treesOf, opensOf, locksOf}
-use Rattle.locks.specs.Range.{Overlap, overlaps, overlap-iff}
-use Rattle.locks.specs.Wire.{rangeSize, rangeAt, rangesAt}
+use Rattle.locks.specs.Range.{Overlap, overlaps, passesEnd, overlap-iff}
+use Rattle.locks.specs.Wire.{rangeSize, rangeAt, rangesAt, smallForm, small-back}
 use Rattle.locks.specs.Answer.{owns, bars, inWay, answersFor, answers}
 use Rattle.locks.specs.Request.{ofHeader, rangesOf, askOf as askFor, lockOf, releaseAll, granted, afterWalk, grantAll, afterGrants, rangePasses, afterReleases, request, settle, locking, Result, done as doneWith, refused as refusedBy}
 use Rattle.locks.specs.declared.types.Ask.{Ask}
@@ -34,9 +34,10 @@ use Rattle.claims.specs.SoundPlain.{fileOf-one, sound-plain}
 use Rattle.chain.specs.declared.block.LockingFields.{LockingFields}
 use Rattle.chain.specs.declared.block.ReadFields.{ReadFields}
 use Rattle.chain.specs.declared.block.WriteFields.{WriteFields}
+use Rattle.chain.specs.declared.block.RangeFields.{RangeFields}
 use Rattle.message.specs.declared.caller.Caller.{Caller}
-use Rattle.message.specs.Contents.{resized, written}
-use Rattle.message.specs.Command.{Given, Said, wrote, refused, done, isSession, withSession, withTree, isOpen, openAt, withOpen, servedType, requestOf, lockingEnd, lockingAfter, doLocking, askBy, unlessBarred, barring, doRead, endsPast, doWrite}
+use Rattle.message.specs.Contents.{sizeOf, grown, withSize}
+use Rattle.message.specs.Command.{Given, Said, coreWrote, refused, done, isSession, withSession, withTree, isOpen, openAt, withOpen, servedType, requestOf, lockingEnd, lockingAfter, doLocking, askBy, unlessBarred, barring, doRead, writing, endsPast, doWrite, asCore, rangeBy, oneRange, doRange, betweenSizes, doSetSize}
 use Rattle.message.specs.declared.refusal.Refusal.the-variants.{Conflict, NoSpace}
 use Rattle.invariants.specs.GivenCases.{cond-case}
 use Rattle.invariants.specs.FoundFacts.{found-hit, found-miss}
@@ -71,6 +72,25 @@ pub record InWay (t : Tables) (o : Open) (list : List Lock) (offset size : ℕ) 
 -- one that is in the way of a lock asked for: "overlaps it and the two aren't both shared"
 abbrev pub BarsLock : Tables → Open → List Lock → Bool → LockRange → Type 0
 BarsLock t o list shared r = InWay t o list (r .offset) (r .length) (λ l. (l .shared ≡ true) × (shared ≡ true) → ⊥)
+
+-- in the way of a core WRITE of count 0, which sets the file's size to the offset: of the bytes from the smaller to the larger of the two, "any lock .. save the writer's own
+-- exclusive ones"
+abbrev pub BarsSize : Caller → Tables → WriteFields → Open → Type 0
+BarsSize c t f o =
+    InWay t o (locksOf t) (min (sizeOf t (o .file)) (f .offset)) (max (sizeOf t (o .file)) (f .offset) - min (sizeOf t (o .file)) (f .offset))
+    (λ l. (l .shared ≡ false) × Owner (f .fid) (c .process) l → ⊥)
+
+-- the range of a LOCK_BYTE_RANGE or an UNLOCK_BYTE_RANGE: "the process from the header"; offset and length have 32 bits, as many as their fields (of a message of bytes:
+-- WireFields.antt, `range-whole`)
+abbrev pub coreRange : Caller → RangeFields → LockRange
+coreRange c f = record { process = c .process; offset = f .offset % 4294967296; length = f .length % 4294967296 }
+
+-- in the way of a LOCK_BYTE_RANGE: "the lock is exclusive", so that a listed lock of that file that overlaps it is, be it shared or not
+abbrev pub AnyLock : Lock → Type 0
+AnyLock l = Unit {0}
+
+abbrev pub BarsRange : Caller → Tables → RangeFields → Open → Type 0
+BarsRange c t f o = InWay t o (locksOf t) (coreRange c f .offset) (coreRange c f .length) AnyLock
 
 -- ---- a walk that finds one
 
@@ -189,21 +209,35 @@ module _ (c : Caller) (t : Tables) (memory : List ℕ) (k : ℕ) (ok : sound t �
             (way-hit c t (f .fid) k may ok (askBy c (f .fid) (f .offset) (f .max) Reading) refl _ (read-bars (askBy c (f .fid) (f .offset) (f .max) Reading)) (λ l. refl) w),
       )
 
-  -- "A write is refused 1/33 exactly if any lock overlaps it save the writer's own exclusive ones."
+  -- "A write is refused 1/33 exactly if any lock overlaps it save the writer's own exclusive ones": whatever it covers and whatever it comes to
+  module _ (fid : ℕ) (from size : Open → ℕ) (past : Bool) (next : Open → Given) (others : (o : Open) → Conflicts (next o) → ⊥) where
+    pub writing-conflict : (may : May c t fid k) → eqb (asked c t fid k may .access) 0 ≡ false
+        → Conflicts (writing c t fid (λ o. askBy c fid (from o) (size o) Writing) past next)
+        ↔ InWay t (asked c t fid k may) (locksOf t) (from (asked c t fid k may)) (size (asked c t fid k may)) (λ l. (l .shared ≡ false) × Owner fid (c .process) l → ⊥)
+    unfolding barring askBy answers answersFor bars
+    writing-conflict may access =
+        let o = asked c t fid k may in
+        let q = askBy c fid (from o) (size o) Writing in
+        let n : Conflicts (cond past (refused NoSpace) (next o)) → ⊥ = cond-case (λ (g : Given). Conflicts g → ⊥) past (refused NoSpace) (next o) (λ _. space-not) (λ _. others o) in
+        rw (with-open c t fid k may, access) (
+          λ h. let e = unless-exact _ _ _ n .0 h in hit-way c t fid k may ok q refl _ (write-bars q) (λ l. refl) (e .0) (e .1) noLock,
+          λ w. unless-exact _ _ _ n .1 (way-hit c t fid k may ok q refl _ (write-bars q) (λ l. refl) w),
+        )
+
   pub write-conflict : (f : WriteFields) (bytes : List ℕ) (may : May c t (f .fid) k) → eqb (asked c t (f .fid) k may .access) 0 ≡ false
       → Conflicts (doWrite c t memory f bytes)
       ↔ InWay t (asked c t (f .fid) k may) (locksOf t) (f .offset) (f .count) (λ l. (l .shared ≡ false) × Owner (f .fid) (c .process) l → ⊥)
-  unfolding doWrite barring askBy answers answersFor bars
+  unfolding doWrite
   write-conflict f bytes may access =
-      let n : Conflicts (cond (endsPast (f .offset) (f .count)) (refused NoSpace)
-      (done (resized t (asked c t (f .fid) k may .file) (f .offset) (f .count)) (written t memory (asked c t (f .fid) k may .file) (f .offset) bytes) (wrote (f .count)))) → ⊥ =
-      cond-case (λ (g : Given). Conflicts g → ⊥) (endsPast (f .offset) (f .count)) (refused NoSpace) _ (λ _. space-not) (λ _. done-not _ _ _) in
-      rw (with-open c t (f .fid) k may, access) (
-        λ h. let e = unless-exact _ _ _ n .0 h in
-            hit-way c t (f .fid) k may ok (askBy c (f .fid) (f .offset) (f .count) Writing) refl _ (write-bars (askBy c (f .fid) (f .offset) (f .count) Writing)) (λ l. refl) (e .0) (e .1) noLock,
-        λ w. unless-exact _ _ _ n .1
-            (way-hit c t (f .fid) k may ok (askBy c (f .fid) (f .offset) (f .count) Writing) refl _ (write-bars (askBy c (f .fid) (f .offset) (f .count) Writing)) (λ l. refl) w),
-      )
+      writing-conflict (f .fid) (λ o. f .offset) (λ o. f .count) (endsPast (f .offset) (f .count)) _ (λ o. done-not _ _ _) may access
+
+  -- document 02, CR 3, of a core WRITE of count 0: "for locks it covers the bytes between the old and the new size"
+  pub size-conflict : (f : WriteFields) (may : May c t (f .fid) k) → eqb (asked c t (f .fid) k may .access) 0 ≡ false
+      → Conflicts (doSetSize c t memory f) ↔ BarsSize c t f (asked c t (f .fid) k may)
+  unfolding doSetSize betweenSizes
+  size-conflict f may access =
+      writing-conflict (f .fid) (λ o. min (sizeOf t (o .file)) (f .offset)) (λ o. max (sizeOf t (o .file)) (f .offset) - min (sizeOf t (o .file)) (f .offset)) (ltb 4096 (f .offset))
+      (λ o. done (withSize t (o .file) (f .offset)) (grown t memory (o .file) (f .offset)) (coreWrote 0)) (λ o. done-not _ _ _) may access
 
 -- ---- a lone lock
 
@@ -248,3 +282,41 @@ module _ (c : Caller) (t : Tables) (memory : List ℕ) (k : ℕ) (ok : sound t �
             hit-way c t (f .fid) k may ok (askFor (f .fid) (Grant (sharedIn f)) (ofHeader (c .process / 65536) (loneRange f area))) refl _ (grant-bars (sharedIn f)) (λ m. refl) (e .0) (e .1) noLock,
         λ w. lone-exact t memory _ _ _ .1 (way-hit c t (f .fid) k may ok (askFor (f .fid) (Grant (sharedIn f)) (ofHeader (c .process / 65536) (loneRange f area))) refl _ (grant-bars (sharedIn f)) (λ m. refl) w),
       )
+
+-- ---- the lock of a core command
+
+-- the core command's reply block is another; its refusal is the counterpart's
+pub core-conflict : (g : Given) → Conflicts (asCore g) ↔ Conflicts g
+unfolding asCore
+core-conflict (refused why) = (λ h. h, λ h. h)
+core-conflict (done u m said) = (λ h. absurd (done-not _ _ _ h), λ h. absurd (done-not _ _ _ h))
+
+-- what is read of the one range of a core command is the range that it has
+pub range-back : (c : Caller) (f : RangeFields) → ofHeader (c .process / 65536) (rangeAt false (smallForm (rangeBy c f)) 0) ≡ coreRange c f
+unfolding ofHeader rangeBy
+range-back c f = rw (small-back (rangeBy c f)) (ap (λ (n : ℕ). record { process = n; offset = f .offset % 4294967296; length = f .length % 4294967296 }) (let e : 65536 * (c .process / 65536) + c .process % 65536 ≡ c .process = omega arith in e))
+
+-- an exclusive lock asked for and a listed one are not both shared
+any-clash : (l : Lock) → (l .shared ≡ true) × (false ≡ true) → ⊥
+any-clash l h = not-decided-twice false (h .1) refl
+
+pub exclusive-way : {t : Tables} {o : Open} {list : List Lock} {offset size : ℕ}
+    → InWay t o list offset size (λ l. (l .shared ≡ true) × (false ≡ true) → ⊥) ↔ InWay t o list offset size AnyLock
+exclusive-way = (
+  λ w. record { lock = w .lock; listed = w .listed; of-file = w .of-file; overlap = w .overlap; clash = tt },
+  λ w. record { lock = w .lock; listed = w .listed; of-file = w .of-file; overlap = w .overlap; clash = any-clash (w .lock) },
+)
+
+-- demand 2's lock alone in its request, "of a served type, .. and within range": a LOCK_BYTE_RANGE is always that
+pub range-conflict : (c : Caller) (t : Tables) (memory : List ℕ) (k : ℕ) → sound t ≡ true → (f : RangeFields) (may : May c t (f .fid) k)
+    → Conflicts (doRange c t memory f 0 1) ↔ BarsRange c t f (asked c t (f .fid) k may)
+unfolding doRange oneRange rangeBy smallForm servedType rangeSize rangePasses passesEnd
+range-conflict c t memory k ok f may =
+    let area = smallForm (rangeBy c f) in
+    let g = doLocking c t memory (oneRange f 0 1) area in
+    let same : loneRange (oneRange f 0 1) area ≡ record { process = c .process % 65536; offset = f .offset % 4294967296; length = f .length % 4294967296 } = small-back (rangeBy c f) in
+    let within = le-ltb (2 ^ 64) (f .offset % 4294967296 + f .length % 4294967296) (omega arith) in
+    let q = lock-conflict c t memory k ok (oneRange f 0 1) area may refl refl refl refl (rw same within) in (
+      λ h. exclusive-way .0 (rw same at (q .0 (core-conflict g .0 h))),
+      λ w. core-conflict g .1 (q .1 (rw same (exclusive-way .1 w))),
+    )
