@@ -11,7 +11,7 @@ use Rattle.records.specs.declared.Tables.{Tables}
 use Rattle.locks.specs.Wire.{rangeSize}
 use Rattle.claims.specs.Cases.{statusIn}
 use Rattle.chain.specs.Layout.{headerCommand, FIRST, byteCount, fidAfterAndx, lockType, unlockCount, lockCount}
-use Rattle.chain.specs.Grammar.{IsBlock, locking-10, locking-20, read-10, read-12, write-12, write-14, close, logoff, tree-disconnect, process-exit}
+use Rattle.chain.specs.Grammar.{IsBlock, locking-10, locking-20, read-10, read-12, write-12, write-14, close, logoff, tree-disconnect, process-exit, core-read, core-write, lock-byte-range, unlock-byte-range}
 use Rattle.chain.specs.Chain.{blocks}
 use Rattle.chain.specs.declared.block.LockingFields.{LockingFields}
 use Rattle.chain.specs.declared.block.Body.the-variants.{Locking as LockingBody}
@@ -27,17 +27,14 @@ use Rattle.demands.specs.Malformed.{length-area}
 use Rattle.demands.specs.OneByOne.{chained-served}
 use Rattle.invariants.specs.Fit.{Fit}
 use Rattle.demands.specs.Calls.{statusRead, status-call}
+use Rattle.demands.specs.LockWords.{never}
 use Rattle.demands.specs.CommandReasons.{Reason, Announced, perform-exact}
 
 -- the fields of a LOCKING block
 abbrev fieldsAt : List ℕ → ℕ → LockingFields
 fieldsAt s at = record { fid = fidAfterAndx s at; kind = lockType s at; unlocks = unlockCount s at; locks = lockCount s at }
 
--- another body has no ranges to announce
-never : {P : Type 0} → _≡_ {A = ℕ} 0 1 → P
-never e = absurd (omega arith)
-
--- a block of the grammar has a byte area of just the announced ranges
+-- a block of the grammar has a byte area of just the announced ranges; another body than a LOCKING's has none to announce
 pub block-announced : {s : List ℕ} {at command : ℕ} → IsBlock s at command → (area : List ℕ) → length area ≡ byteCount s at → Announced (bodyAt s command at) area
 unfolding Announced bodyAt rangeSize
 block-announced {s} {at} (locking-10 p h) area e f same =
@@ -56,6 +53,10 @@ block-announced (close h) area e f same = never cc
 block-announced (logoff h) area e f same = never cc
 block-announced (tree-disconnect h) area e f same = never cc
 block-announced (process-exit h) area e f same = never cc
+block-announced (core-read h) area e f same = never cc
+block-announced (core-write h) area e f same = never cc
+block-announced (lock-byte-range h) area e f same = never cc
+block-announced (unlock-byte-range h) area e f same = never cc
 
 -- the status of a message of one command
 given-status : (g : Given) (place : ℕ) (t : Tables) (memory : List ℕ) (rest : ℕ → Tables → List ℕ → Ran) → ((p : ℕ) (u : Tables) (m : List ℕ) → rest p u m .status ≡ status 0 0)
