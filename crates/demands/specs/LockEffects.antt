@@ -1,6 +1,6 @@
 -- What a LOCKING that is done leaves (document 01, "Locks, reads and writes": "Unlocks go first, in order: each removes the earliest listed lock with equal FID,
--- process, offset and length. Then locks in order, each against the list as it stands"), said of the call and of the message's bytes: every field of every lock
--- is one of the message's. Assumes nothing.
+-- process, offset and length. Then locks in order, each against the list as it stands"), and a LOCK_BYTE_RANGE and an UNLOCK_BYTE_RANGE
+-- (document 02, CR 3), said of the call and of the message's bytes: every field of every lock is one of the message's. Assumes nothing.
 use mathlib.Core.Path.{_≡_, refl, ap, _∙_}
 use mathlib.Core.Logic.{_↔_}
 use Prim.Native.Nat.{ℕ, zero, suc, min, _+_, _*_, _/_, _%_, _≤_, _<_}
@@ -11,6 +11,7 @@ use lib.ListN.{length, drop, length-take}
 use lib.Seq.{getD-take, getD-drop}
 use lib.Dec.{eqb}
 use borrow.Author.Tests.{eqb-true, eqb-false, eq-eqb}
+use Rattle.lists.specs.Put.{put}
 use Rattle.wire.specs.LittleEndian.{byteAt, le16At, le32At}
 use Rattle.records.specs.declared.Open.{Open}
 use Rattle.records.specs.declared.Lock.{Lock}
@@ -19,29 +20,36 @@ use Rattle.records.specs.Held.{locksOf, withLocks}
 use Rattle.locks.specs.Wire.{rangeSize, numberAt, rangeFrom, rangeAt, rangesAt}
 use Rattle.locks.specs.Request.{ofHeader, lockOf}
 use Rattle.locks.specs.declared.types.LockRange.{LockRange}
-use Rattle.chain.specs.Layout.{LOCKING, headerCommand, FIRST, byteArea, byteCount, fidAfterAndx, lockType, unlockCount, lockCount}
+use Rattle.chain.specs.Layout.{LOCKING, LOCK_BYTE_RANGE, UNLOCK_BYTE_RANGE, headerCommand, FIRST, byteArea, byteCount, fidAfterAndx, lockType, unlockCount, lockCount, firstFid, rangeCount, rangeOffset}
 use Rattle.chain.specs.Grammar.{Span, Reading}
 use Rattle.chain.specs.Chain.{blocks}
+use Rattle.chain.specs.Parse.{rangeFields}
+use Rattle.chain.specs.declared.block.RangeFields.{RangeFields}
 use Rattle.chain.specs.declared.block.Block.{Block}
-use Rattle.chain.specs.declared.block.Body.the-variants.{Locking as LockingBody}
+use Rattle.chain.specs.declared.block.Body.the-variants.{Locking as LockingBody, LockByteRange, UnlockByteRange}
 use Rattle.invariants.specs.BlockParse.{bodyAt}
 use Rattle.invariants.specs.Chained.{read-chained}
 use Rattle.invariants.specs.Sound.{Good}
 use Rattle.invariants.specs.Fit.{Fit}
 use Rattle.readings.specs.SameNumbers.{same-16, same-32}
 use Rattle.message.specs.Caller.{callerOf}
+use Rattle.message.specs.declared.caller.Caller.{Caller}
 use Rattle.message.specs.Refusal.{status}
-use Rattle.message.specs.Command.{done, withLockList, doLocking, perform}
+use Rattle.message.specs.declared.link.Link.the-variants.{None as noLink}
+use Rattle.message.specs.Command.{Said, plain, done, withLockList, doLocking, oneRange, doRange, perform}
+use Rattle.message.specs.Reply.{replyHeader, replyBlock, replySize}
 use Rattle.message.specs.Message.{areaOf, Taken, take-message}
 use Rattle.demands.specs.Calls.{statusRead}
 use Rattle.demands.specs.Admitted.{Admitted}
-use Rattle.demands.specs.LoneLock.{InWay, sharedIn}
+use Rattle.demands.specs.LoneLock.{InWay, AnyLock, coreRange, sharedIn}
 use Rattle.demands.specs.LoneCall.{area-first, lockingFields, lockingArea}
 use Rattle.demands.specs.LockWords.{TakenOut, Released, none-to-release, release-then, AllGranted, none-to-grant, grant-then}
-use Rattle.demands.specs.LockLeaves.{locking-leaves}
+use Rattle.demands.specs.LockLeaves.{locking-leaves, coreLock, lock-range-leaves, unlock-range-leaves}
+use Rattle.demands.specs.FileCommands.{as-core}
+use Rattle.demands.specs.ReplyBytes.{PlainBlock, plain-block}
 use Rattle.demands.specs.CommandReasons.{Announced, rangesBy}
 use Rattle.demands.specs.ReasonCalls.{one-announced}
-use Rattle.demands.specs.DoneCall.{past-open}
+use Rattle.demands.specs.DoneCall.{Carried, long-enough, past-open}
 use Rattle.demands.specs.CallEffects.{gives-body, the-command}
 use Rattle.demands.specs.WireFields.{senderProcess, upperHalf, FirstBlock, one-first, first-body, first-area}
 
@@ -101,6 +109,43 @@ pub record LockingDone (connection : ℕ) (s : List ℕ) (t : Tables) (memory : 
   pub other-tables : call .tables ≡ withLockList t (call .tables .locks) (call .tables .nlocks)
   pub whole : call .tables ≡ withLocks t last
   pub same-memory : call .memory ≡ memory
+
+-- what a LOCK_BYTE_RANGE leaves (document 02, CR 3): one lock more, behind the others; FID, count and offset are its words
+pub record LockRangeDone (connection : ℕ) (s : List ℕ) (t : Tables) (memory : List ℕ) (call : Taken) : Type 0 where
+  pub through : Open
+  pub admitted : Admitted (callerOf connection s) t (firstFid s FIRST) through
+  -- "the process from the header; the lock is exclusive". In a message of bytes offset and count are below 2^32.
+  pub lock : Lock
+  pub of-fid : lock .fid ≡ firstFid s FIRST
+  pub of-process : lock .process ≡ senderProcess s
+  pub of-offset : lock .offset ≡ rangeOffset s FIRST % 4294967296
+  pub of-length : lock .length ≡ rangeCount s FIRST % 4294967296
+  pub exclusive : lock .shared ≡ false
+  -- no listed lock was in its way, and there was a record for it
+  pub free : InWay t through (locksOf t) (lock .offset) (lock .length) AnyLock → ⊥
+  pub not-over : length (locksOf t) < 128
+  pub held : locksOf (call .tables) ≡ locksOf t ++ (lock ∷ [])
+  pub other-tables : call .tables ≡ withLockList t (call .tables .locks) (call .tables .nlocks)
+  pub whole : call .tables ≡ withLocks t (locksOf t ++ (lock ∷ []))
+  pub same-memory : call .memory ≡ memory
+  -- a block of no words and no bytes
+  pub reply : PlainBlock (call .room)
+  pub reply-ends : call .length ≡ 35
+
+-- and an UNLOCK_BYTE_RANGE: the list without the earliest lock "with equal FID, process, offset and length"
+pub record UnlockRangeDone (connection : ℕ) (s : List ℕ) (t : Tables) (memory : List ℕ) (call : Taken) : Type 0 where
+  pub through : Open
+  pub admitted : Admitted (callerOf connection s) t (firstFid s FIRST) through
+  pub range : LockRange
+  pub of-process : range .process ≡ senderProcess s
+  pub of-offset : range .offset ≡ rangeOffset s FIRST % 4294967296
+  pub of-length : range .length ≡ rangeCount s FIRST % 4294967296
+  pub unlocked : TakenOut (firstFid s FIRST) range (locksOf t) (locksOf (call .tables))
+  pub other-tables : call .tables ≡ withLockList t (call .tables .locks) (call .tables .nlocks)
+  pub whole : call .tables ≡ withLocks t (locksOf (call .tables))
+  pub same-memory : call .memory ≡ memory
+  pub reply : PlainBlock (call .room)
+  pub reply-ends : call .length ≡ 35
 
 -- ---- ranges of the block's byte area are those of the message
 
@@ -200,7 +245,7 @@ locking-reading connection s r t memory room g fit z e =
     let o = past-open c t (f .fid) _ given in
     let announced : Announced (LockingBody f) (lockingArea s) = rw (same, is) at (one-announced (read-chained s (headerCommand s) FIRST (b ∷ []) (only .is-read))) in
     let fits = locking-fits only e in
-    let l = locking-leaves c t memory (fit .tables-sound) f (lockingArea s) (o .0) (o .1) announced given in
+    let l = locking-leaves c t memory (fit .tables-sound) f (lockingArea s) (o .0) (o .1) (announced f refl) given in
     record {
       through = o .0;
       admitted = o .1;
@@ -214,3 +259,83 @@ locking-reading connection s r t memory room g fit z e =
       whole = l .whole;
       same-memory = l .same-memory;
     }
+
+-- ---- a message whose reading is one LOCK_BYTE_RANGE or UNLOCK_BYTE_RANGE
+
+-- the open that it is done through
+range-through : (c : Caller) (t : Tables) (memory : List ℕ) (f : RangeFields) (unlocks locks : ℕ) {u : Tables} {m : List ℕ} {said : Said} → doRange c t memory f unlocks locks ≡ done u m said
+    → (o : Open) × Admitted c t (f .fid) o
+unfolding doRange doLocking oneRange
+range-through c t memory f unlocks locks e = let o = past-open c t (f .fid) _ (as-core _ e .1) in (o .0, o .1)
+
+module _ (connection : ℕ) (s : List ℕ) {span : Span} (r : Reading s (span ∷ [])) (t : Tables) (memory room : List ℕ) (g : Good t) (fit : Fit s t memory room)
+    (z : statusRead (take-message connection s t memory room .room) ≡ status 0 0) where
+  abbrev caller : Caller
+  caller = callerOf connection s
+
+  abbrev call : Taken
+  call = take-message connection s t memory room
+
+  only : FirstBlock s []
+  only = one-first r
+
+  ran : Carried caller s (only .block) t memory room call
+  ran = the-command connection s (only .block) (only .is-read) t memory room g fit z
+
+  plain-reply : ran .said ≡ plain → PlainBlock (call .room) × (call .length ≡ 35)
+  unfolding replySize
+  plain-reply e =
+      let w : call .room ≡ put room 0 (replyHeader s (status 0 0) ++ replyBlock plain FIRST noLink) = rw e at (ran .reply) in
+      (rw w (plain-block s (long-enough s (fit .not-dropped)) room), rw e at (ran .reply-length))
+
+  pub lock-reading : headerCommand s ≡ LOCK_BYTE_RANGE → LockRangeDone connection s t memory call
+  unfolding callerOf perform bodyAt
+  lock-reading e =
+      let f = rangeFields s FIRST in
+      let given : doRange caller t memory f 0 1 ≡ done (call .tables) (call .memory) (ran .said) =
+      gives-body caller s (only .block) t memory (LockByteRange f) (first-body only LOCK_BYTE_RANGE e) (ran .given) in
+      let o = range-through caller t memory f 0 1 given in
+      let l = lock-range-leaves caller t memory (g .sound) f (o .0) (o .1) given in
+      let said = plain-reply (l .says) in
+      record {
+        through = o .0;
+        admitted = o .1;
+        lock = coreLock caller f;
+        of-fid = refl;
+        of-process = refl;
+        of-offset = refl;
+        of-length = refl;
+        exclusive = refl;
+        free = l .free;
+        not-over = l .not-over;
+        held = l .held;
+        other-tables = l .other-tables;
+        whole = l .whole;
+        same-memory = l .same-memory;
+        reply = said .0;
+        reply-ends = said .1;
+      }
+
+  pub unlock-reading : headerCommand s ≡ UNLOCK_BYTE_RANGE → UnlockRangeDone connection s t memory call
+  unfolding callerOf perform bodyAt
+  unlock-reading e =
+      let f = rangeFields s FIRST in
+      let given : doRange caller t memory f 1 0 ≡ done (call .tables) (call .memory) (ran .said) =
+      gives-body caller s (only .block) t memory (UnlockByteRange f) (first-body only UNLOCK_BYTE_RANGE e) (ran .given) in
+      let o = range-through caller t memory f 1 0 given in
+      let l = unlock-range-leaves caller t memory (g .sound) f (o .0) (o .1) given in
+      let said = plain-reply (l .says) in
+      record {
+        through = o .0;
+        admitted = o .1;
+        range = coreRange caller f;
+        of-process = refl;
+        of-offset = refl;
+        of-length = refl;
+        unlocked = l .unlocked;
+        other-tables = l .other-tables;
+        whole = l .whole;
+        same-memory = l .same-memory;
+        reply = said .0;
+        reply-ends = said .1;
+      }
