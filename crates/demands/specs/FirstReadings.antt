@@ -1,31 +1,39 @@
--- Refusals for conflict and the status of a message with its one reason (document 01, "Locks, reads and writes" and "Refusals on the wire"), said of the call and of
--- the message's bytes: of any reading for the first command, and of a reading of one block for every status. Assumes nothing.
+-- Refusals for conflict and the status of a message with its one reason (document 01, "Locks, reads and writes" and "Refusals on the wire"; document 02, CR 3), said of the
+-- call and of the message's bytes: of any reading for the first command, and of a reading of one block for every status. Assumes nothing.
 use mathlib.Core.Path.{_≡_}
-use mathlib.Core.Logic.{_↔_}
-use Prim.Native.Nat.{ℕ}
+use mathlib.Core.Logic.{_↔_, Iff·trans}
+use Prim.Native.Nat.{ℕ, min, max, _-_, _%_}
 use mathlib.Core.Bool.{false}
 use mathlib.Core.List.{List, [], _∷_}
+use lib.ListN.{getD, drop}
+use lib.Dec.{eqb}
+use borrow.Author.Tests.{eq-eqb, ne-eqb}
 use Rattle.records.specs.declared.Open.{Open}
 use Rattle.records.specs.declared.Tables.{Tables}
-use Rattle.records.specs.Held.{locksOf}
-use Rattle.chain.specs.Layout.{CLOSE, PROCESS_EXIT, LOCKING, READ, WRITE, TREE_DISCONNECT, LOGOFF, headerCommand, FIRST, fidAfterAndx, readMax, dataLength, firstFid}
+use Rattle.records.specs.Empty.{noOpen}
+use Rattle.records.specs.Held.{opensOf, locksOf}
+use Rattle.chain.specs.Layout.{CLOSE, PROCESS_EXIT, LOCKING, READ, WRITE, TREE_DISCONNECT, LOGOFF, CORE-READ, CORE-WRITE, LOCK_BYTE_RANGE, UNLOCK_BYTE_RANGE, headerCommand, FIRST, fidAfterAndx, readMax, dataLength, firstFid, coreCount, coreOffset, rangeCount, rangeOffset}
 use Rattle.chain.specs.Grammar.{Span, Reading}
-use Rattle.chain.specs.Parse.{wideOffset}
+use Rattle.chain.specs.Parse.{wideOffset, rangeFields}
 use Rattle.chain.specs.declared.block.Body.{Body}
-use Rattle.chain.specs.declared.block.Body.the-variants.{Locking as LockingBody, Read as ReadBody, Write as WriteBody, Close, Logoff, TreeDisconnect, ProcessExit}
+use Rattle.chain.specs.declared.block.Body.the-variants.{Locking as LockingBody, Read as ReadBody, Write as WriteBody, Close, Logoff, TreeDisconnect, ProcessExit, CoreRead as CoreReadBody, CoreWrite as CoreWriteBody, LockByteRange, UnlockByteRange}
 use Rattle.invariants.specs.BlockParse.{bodyAt}
 use Rattle.invariants.specs.Fit.{Fit}
 use Rattle.message.specs.Caller.{callerOf}
 use Rattle.message.specs.Refusal.{status}
 use Rattle.message.specs.declared.refusal.Status.{Status}
-use Rattle.message.specs.Message.{take-message}
+use Rattle.message.specs.declared.caller.Caller.{Caller}
+use Rattle.message.specs.Contents.{sizeOf}
+use Rattle.message.specs.Command.{doRead, doWrite, doCoreWrite, perform}
+use Rattle.message.specs.Message.{areaOf, dataOf, take-message}
 use Rattle.demands.specs.Calls.{statusRead}
-use Rattle.demands.specs.LoneLock.{InWay, Owner}
-use Rattle.demands.specs.LoneCall.{FirstConflict, first-read-call, first-write-call, one-says, lockingFields, lockingArea}
-use Rattle.demands.specs.Admitted.{Admitted}
-use Rattle.demands.specs.CommandReasons.{SessionStatus, TreeStatus, CloseStatus, ReadStatus, WriteStatus, LockingStatus, Reason}
+use Rattle.demands.specs.LoneLock.{Conflicts, May, InWay, Owner, AnyLock, read-conflict, write-conflict, size-conflict, core-conflict, range-conflict}
+use Rattle.demands.specs.LoneCall.{FirstConflict, first-conflict, first-read-call, first-write-call, one-says, lockingFields, lockingArea}
+use Rattle.demands.specs.Admitted.{Admitted, admitted-may}
+use Rattle.demands.specs.CoreReasons.{LockStatus, UnlockStatus}
+use Rattle.demands.specs.CommandReasons.{SessionStatus, TreeStatus, CloseStatus, ReadStatus, WriteStatus, CoreWriteStatus, LockingStatus, Reason}
 use Rattle.demands.specs.ReasonCalls.{call-exact}
-use Rattle.demands.specs.WireFields.{senderProcess, readFrom, readFields, writeFrom, writeFields, FirstBlock, reading-first, one-first, first-body, first-area}
+use Rattle.demands.specs.WireFields.{senderProcess, readFrom, readFields, writeFrom, writeFields, coreReadFields, coreWriteFields, FirstBlock, reading-first, one-first, first-body, first-area}
 
 -- "an exclusive lock of another owner overlaps offset and max": the owner is the message's FID with its sender's process
 abbrev pub BarsReadOn : List ℕ → Tables → Open → Type 0
@@ -52,6 +60,81 @@ module _ (connection : ℕ) (s : List ℕ) {spans : List Span} (r : Reading s sp
   first-write-reading e access =
       let q = reading-first r in
       first-write-call connection s (q .1 .block) (q .0) (q .1 .is-read) t memory room fit o (writeFields s) (first-body (q .1) WRITE e) valid access
+
+-- ---- the core commands (document 02, CR 3)
+
+-- of a core READ and a core WRITE the owner is the message's FID, its first word, with its sender's process
+abbrev pub BarsCoreReadOn : List ℕ → Tables → Open → Type 0
+BarsCoreReadOn s t o =
+    InWay t o (locksOf t) (coreOffset s FIRST) (coreCount s FIRST) (λ l. (l .shared ≡ false) × (Owner (firstFid s FIRST) (senderProcess s) l → ⊥))
+
+abbrev pub BarsCoreWriteOn : List ℕ → Tables → Open → Type 0
+BarsCoreWriteOn s t o =
+    InWay t o (locksOf t) (coreOffset s FIRST) (coreCount s FIRST) (λ l. (l .shared ≡ false) × Owner (firstFid s FIRST) (senderProcess s) l → ⊥)
+
+-- "for locks it covers the bytes between the old and the new size"
+abbrev pub BarsSizeOn : List ℕ → Tables → Open → Type 0
+BarsSizeOn s t o =
+    InWay t o (locksOf t) (min (sizeOf t (o .file)) (coreOffset s FIRST)) (max (sizeOf t (o .file)) (coreOffset s FIRST) - min (sizeOf t (o .file)) (coreOffset s FIRST))
+    (λ l. (l .shared ≡ false) × Owner (firstFid s FIRST) (senderProcess s) l → ⊥)
+
+-- "the lock is exclusive": a listed lock of that file overlaps it (of a message of bytes offset and count are the fields: Processes.antt, `range-whole`)
+abbrev pub BarsRangeOn : List ℕ → Tables → Open → Type 0
+BarsRangeOn s t o = InWay t o (locksOf t) (rangeOffset s FIRST % 4294967296) (rangeCount s FIRST % 4294967296) AnyLock
+
+module _ (connection : ℕ) (s : List ℕ) {spans : List Span} (r : Reading s spans) (t : Tables) (memory room : List ℕ) (fit : Fit s t memory room) (o : Open)
+    (valid : Admitted (callerOf connection s) t (firstFid s FIRST) o) where
+  abbrev caller : Caller
+  caller = callerOf connection s
+
+  -- 1/33 in a reply of one refused block is the first command's conflict
+  first-by : (command : ℕ) → headerCommand s ≡ command
+      → FirstConflict (take-message connection s t memory room)
+      ↔ Conflicts (perform caller t memory (bodyAt s command FIRST) (areaOf s (reading-first r .1 .block)) (dataOf s (reading-first r .1 .block)))
+  first-by command e =
+      let q = reading-first r in
+      rw (first-body (q .1) command e) at (first-conflict connection s (q .1 .block) (q .0) (q .1 .is-read) t memory room fit)
+
+  -- the open that the message names
+  its-open : (k : ℕ) × May caller t (firstFid s FIRST) k × (getD (opensOf t) k noOpen ≡ o)
+  its-open = admitted-may caller t (firstFid s FIRST) (fit .tables-sound) o valid
+
+  its-access : (denied : ℕ) → (o .access ≡ denied → ⊥) → eqb (getD (opensOf t) (its-open .0) noOpen .access) denied ≡ false
+  its-access denied n = rw (its-open .2) (ne-eqb (o .access) denied n)
+
+  -- a core READ "is refused 1/33 exactly if an exclusive lock of another owner overlaps offset and max"
+  pub first-core-read-reading : headerCommand s ≡ CORE-READ → (o .access ≡ 1 → ⊥) → FirstConflict (take-message connection s t memory room) ↔ BarsCoreReadOn s t o
+  unfolding bodyAt perform callerOf
+  first-core-read-reading e access =
+      Iff·trans (first-by CORE-READ e)
+      (Iff·trans (core-conflict (doRead caller t memory (coreReadFields s)))
+      (rw (its-open .2) at (read-conflict caller t memory (its-open .0) (fit .tables-sound) (coreReadFields s) (its-open .1) (its-access 1 access))))
+
+  -- a core WRITE of some bytes "exactly if any lock overlaps it save the writer's own exclusive ones"
+  pub first-core-write-reading : headerCommand s ≡ CORE-WRITE → (coreCount s FIRST ≡ 0 → ⊥) → (o .access ≡ 0 → ⊥)
+      → FirstConflict (take-message connection s t memory room) ↔ BarsCoreWriteOn s t o
+  unfolding bodyAt perform doCoreWrite callerOf
+  first-core-write-reading e some access =
+      let bytes = drop 3 (areaOf s (reading-first r .1 .block)) in
+      Iff·trans (rw (ne-eqb (coreCount s FIRST) 0 some) at (first-by CORE-WRITE e))
+      (Iff·trans (core-conflict (doWrite caller t memory (coreWriteFields s) bytes))
+      (rw (its-open .2) at (write-conflict caller t memory (its-open .0) (fit .tables-sound) (coreWriteFields s) bytes (its-open .1) (its-access 0 access))))
+
+  -- and one of count 0 exactly if such a lock overlaps the bytes between the file's size and the offset
+  pub first-set-size-reading : headerCommand s ≡ CORE-WRITE → coreCount s FIRST ≡ 0 → (o .access ≡ 0 → ⊥)
+      → FirstConflict (take-message connection s t memory room) ↔ BarsSizeOn s t o
+  unfolding bodyAt perform doCoreWrite callerOf
+  first-set-size-reading e none access =
+      Iff·trans (rw (eq-eqb (coreCount s FIRST) 0 none) at (first-by CORE-WRITE e))
+      (rw (its-open .2) at (size-conflict caller t memory (its-open .0) (fit .tables-sound) (coreWriteFields s) (its-open .1) (its-access 0 access)))
+
+  -- "A lock alone in its request, of a served type, on a valid open and within range, is refused for conflict exactly when a listed lock of that file overlaps it and the two
+  -- aren't both shared": a LOCK_BYTE_RANGE is always alone, of a served type and within range, and never shared
+  pub first-lock-reading : headerCommand s ≡ LOCK_BYTE_RANGE → FirstConflict (take-message connection s t memory room) ↔ BarsRangeOn s t o
+  unfolding bodyAt perform
+  first-lock-reading e =
+      Iff·trans (first-by LOCK_BYTE_RANGE e)
+      (rw (its-open .2) at (range-conflict caller t memory (its-open .0) (fit .tables-sound) (rangeFields s FIRST) (its-open .1)))
 
 -- ---- a reading of one block
 
@@ -109,3 +192,23 @@ module _ (connection : ℕ) (s : List ℕ) {span : Span} (r : Reading s (span �
       ↔ SessionStatus (callerOf connection s) t n
   unfolding bodyAt Reason
   exit-exact e n = reason-of ProcessExit (first-body only PROCESS_EXIT e) n
+
+  pub core-read-exact : headerCommand s ≡ CORE-READ → (n : Status) → (statusRead (take-message connection s t memory room .room) ≡ n)
+      ↔ ReadStatus (callerOf connection s) t (coreReadFields s) n
+  unfolding bodyAt Reason
+  core-read-exact e n = reason-of (CoreReadBody (coreReadFields s)) (first-body only CORE-READ e) n
+
+  pub core-write-exact : headerCommand s ≡ CORE-WRITE → (n : Status) → (statusRead (take-message connection s t memory room .room) ≡ n)
+      ↔ CoreWriteStatus (callerOf connection s) t (coreWriteFields s) n
+  unfolding bodyAt Reason
+  core-write-exact e n = reason-of (CoreWriteBody (coreWriteFields s)) (first-body only CORE-WRITE e) n
+
+  pub lock-exact : headerCommand s ≡ LOCK_BYTE_RANGE → (n : Status) → (statusRead (take-message connection s t memory room .room) ≡ n)
+      ↔ LockStatus (callerOf connection s) t (rangeFields s FIRST) n
+  unfolding bodyAt Reason
+  lock-exact e n = reason-of (LockByteRange (rangeFields s FIRST)) (first-body only LOCK_BYTE_RANGE e) n
+
+  pub unlock-exact : headerCommand s ≡ UNLOCK_BYTE_RANGE → (n : Status) → (statusRead (take-message connection s t memory room .room) ≡ n)
+      ↔ UnlockStatus (callerOf connection s) t (rangeFields s FIRST) n
+  unfolding bodyAt Reason
+  unlock-exact e n = reason-of (UnlockByteRange (rangeFields s FIRST)) (first-body only UNLOCK_BYTE_RANGE e) n

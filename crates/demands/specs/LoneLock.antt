@@ -81,7 +81,7 @@ BarsSize c t f o =
     (λ l. (l .shared ≡ false) × Owner (f .fid) (c .process) l → ⊥)
 
 -- the range of a LOCK_BYTE_RANGE or an UNLOCK_BYTE_RANGE: "the process from the header"; offset and length have 32 bits, as many as their fields (of a message of bytes:
--- WireFields.antt, `range-whole`)
+-- Processes.antt, `range-whole`)
 abbrev pub coreRange : Caller → RangeFields → LockRange
 coreRange c f = record { process = c .process; offset = f .offset % 4294967296; length = f .length % 4294967296 }
 
@@ -296,6 +296,11 @@ pub range-back : (c : Caller) (f : RangeFields) → ofHeader (c .process / 65536
 unfolding ofHeader rangeBy
 range-back c f = rw (small-back (rangeBy c f)) (ap (λ (n : ℕ). record { process = n; offset = f .offset % 4294967296; length = f .length % 4294967296 }) (let e : 65536 * (c .process / 65536) + c .process % 65536 ≡ c .process = omega arith in e))
 
+pub lone-back : (c : Caller) (f : RangeFields) → loneRange (oneRange f 0 1) (smallForm (rangeBy c f))
+    ≡ record { process = c .process % 65536; offset = f .offset % 4294967296; length = f .length % 4294967296 }
+unfolding oneRange rangeBy
+lone-back c f = small-back (rangeBy c f)
+
 -- an exclusive lock asked for and a listed one are not both shared
 any-clash : (l : Lock) → (l .shared ≡ true) × (false ≡ true) → ⊥
 any-clash l h = not-decided-twice false (h .1) refl
@@ -310,13 +315,12 @@ exclusive-way = (
 -- demand 2's lock alone in its request, "of a served type, .. and within range": a LOCK_BYTE_RANGE is always that
 pub range-conflict : (c : Caller) (t : Tables) (memory : List ℕ) (k : ℕ) → sound t ≡ true → (f : RangeFields) (may : May c t (f .fid) k)
     → Conflicts (doRange c t memory f 0 1) ↔ BarsRange c t f (asked c t (f .fid) k may)
-unfolding doRange oneRange rangeBy smallForm servedType rangeSize rangePasses passesEnd
+unfolding doRange oneRange smallForm servedType rangeSize rangePasses passesEnd
 range-conflict c t memory k ok f may =
     let area = smallForm (rangeBy c f) in
     let g = doLocking c t memory (oneRange f 0 1) area in
-    let same : loneRange (oneRange f 0 1) area ≡ record { process = c .process % 65536; offset = f .offset % 4294967296; length = f .length % 4294967296 } = small-back (rangeBy c f) in
     let within = le-ltb (2 ^ 64) (f .offset % 4294967296 + f .length % 4294967296) (omega arith) in
-    let q = lock-conflict c t memory k ok (oneRange f 0 1) area may refl refl refl refl (rw same within) in (
-      λ h. exclusive-way .0 (rw same at (q .0 (core-conflict g .0 h))),
-      λ w. core-conflict g .1 (q .1 (rw same (exclusive-way .1 w))),
+    let q = lock-conflict c t memory k ok (oneRange f 0 1) area may refl refl refl refl (rw (lone-back c f) within) in (
+      λ h. exclusive-way .0 (rw (lone-back c f) at (q .0 (core-conflict g .0 h))),
+      λ w. core-conflict g .1 (q .1 (rw (lone-back c f) (exclusive-way .1 w))),
     )
