@@ -19,7 +19,6 @@ use Rattle.locks.specs.Wire.{rangesAt}
 use Rattle.locks.specs.declared.types.LockRange.{LockRange}
 use Rattle.locks.specs.declared.types.Holder.{Holder}
 use Rattle.chain.specs.declared.block.LockingFields.{LockingFields}
-use Rattle.chain.specs.declared.block.Body.{Body}
 use Rattle.soundness.specs.Sound.{sound}
 use Rattle.invariants.specs.Sound.{Good}
 use Rattle.invariants.specs.Fit.{take-message-good}
@@ -28,14 +27,14 @@ use Rattle.message.specs.declared.caller.Caller.{Caller}
 use Rattle.message.specs.declared.refusal.HeldBy.the-variants.{Holder as held-by}
 use Rattle.demands.specs.LockWords.{PastEnd}
 use Rattle.demands.specs.HolderExactly.{call, held-fit}
-use Rattle.demands.specs.HolderWords.{FirstInWay, LockHeld, CommandHeld, read-held, write-held, lock-held}
-use Rattle.demands.specs.HolderStands.{holder-exact, held-then}
+use Rattle.demands.specs.HolderWords.{LockHeld, Stands, first-stands, HeldWhere, one-range, many-ranges}
+use Rattle.demands.specs.HolderStands.{holder-exact, where-then}
 use Rattle.demands.specs.HolderOpen.{OwnRange, holder-own, holder-listed}
 
 -- a lock that overlaps something has a byte
-first-some : {t : Tables} {o : Open} {list : List Lock} {offset size : ℕ} {Clash : Lock → Type 0} {h : Holder} → FirstInWay t o list offset size Clash h → 1 ≤ h .lock .length
+stands-some : {t : Tables} {o : Open} {list : List Lock} {offset size : ℕ} {h : Holder} → Stands t o list offset size h → 1 ≤ h .lock .length
 unfolding Overlap InRange
-first-some {h = h} w =
+stands-some {h = h} w =
     let both = w .overlap in
     let low : h .lock .offset ≤ both .0 = both .1 .0 in
     let high : both .0 < h .lock .offset + h .lock .length = both .1 .1 in
@@ -63,14 +62,13 @@ module _ (t : Tables) (ok : sound t ≡ true) where
   listed-ends : (l : Lock) → In l (locksOf t) → l .offset + l .length ≤ 2 ^ 64
   listed-ends l m = sound-plain t .0 ok .lock-ends l m
 
-  first-ends : {o : Open} {offset size : ℕ} {Clash : Lock → Type 0} {h : Holder} → FirstInWay t o (locksOf t) offset size Clash h → h .lock .offset + h .lock .length ≤ 2 ^ 64
-  first-ends {h = h} w = listed-ends (h .lock) (rw (w .stands-there) at (place-in noLock (locksOf t) (h .place) (w .in-list)))
+  stands-ends : {o : Open} {offset size : ℕ} {h : Holder} → Stands t o (locksOf t) offset size h → h .lock .offset + h .lock .length ≤ 2 ^ 64
+  stands-ends {h = h} w = listed-ends (h .lock) (rw (w .stands-there) at (place-in noLock (locksOf t) (h .place) (w .in-list)))
 
-  held-bytes : {c : Caller} {area : List ℕ} {body : Body} {h : Holder} → CommandHeld c t area body h → (1 ≤ h .lock .length) × (h .lock .offset + h .lock .length ≤ 2 ^ 64)
-  held-bytes (read-held f e r) = (first-some (r .first), first-ends (r .first))
-  held-bytes (write-held f e r) = (first-some (r .first), first-ends (r .first))
-  held-bytes {h = h} (lock-held f e r) = (
-    first-some (r .held .first),
+  held-bytes : {c : Caller} {area : List ℕ} {h : Holder} → HeldWhere c t area h → (1 ≤ h .lock .length) × (h .lock .offset + h .lock .length ≤ 2 ^ 64)
+  held-bytes (one-range w) = (stands-some w, stands-ends w)
+  held-bytes {h = h} (many-ranges r) = (
+    stands-some (first-stands (r .held .first)),
     elim (decLt (h .place) (length (r .left))) [
       | yes l ↦ listed-ends (h .lock) (holder-listed r l)
       | no n ↦ own-ends r (holder-own r (omega arith))
@@ -82,4 +80,4 @@ pub holder-bytes : (connection : ℕ) (s : List ℕ) (t : Tables) (memory room :
     → (1 ≤ h .lock .length) × (h .lock .offset + h .lock .length ≤ 2 ^ 64)
 holder-bytes connection s t memory room g h e =
     let fit = held-fit connection s t memory room h e in
-    held-bytes (call connection s t memory room .tables) (take-message-good connection s t memory room g .sound) (held-then connection s t memory room g fit h (holder-exact connection s t memory room g fit h .0 e))
+    held-bytes (call connection s t memory room .tables) (take-message-good connection s t memory room g .sound) (where-then connection s t memory room g fit h (holder-exact connection s t memory room g fit h .0 e))

@@ -1,15 +1,15 @@
 -- A command is refused for conflict with a holder exactly if that holder is in its way, in plain words (document 02, CR 2: "Locks, reads and writes pass it up").
 -- Assumes nothing.
 use mathlib.Core.Path.{_≡_, refl, sym, ap, _∙_}
-use mathlib.Core.Logic.{_↔_, inl, inr}
-use Prim.Native.Nat.{ℕ, _+_, _*_, _/_, _%_}
+use mathlib.Core.Logic.{_↔_, inl, inr, Iff·trans}
+use Prim.Native.Nat.{ℕ, min, max, _+_, _-_, _*_, _/_, _%_, _<_}
 use native.Mathlib.Omega.{arith}
 use mathlib.Core.Bool.{Bool, true, false, cond}
 use mathlib.Core.List.{List, List·Memᴰ as In}
 use mathlib.Core.Option.{Option, none, some}
-use lib.ListN.{length, getD}
-use lib.Dec.{leb, eqb}
-use borrow.Author.Tests.{eqb-false, eq-eqb, ne-eqb}
+use lib.ListN.{length, drop, getD}
+use lib.Dec.{leb, ltb, eqb}
+use borrow.Author.Tests.{eqb-true, eqb-false, eq-eqb, ne-eqb}
 use Rattle.lists.specs.Walk.{any}
 use Rattle.lists.specs.Truth.{fails, decided, not-decided-twice}
 use Rattle.lists.specs.declared.Found.{Found}
@@ -19,12 +19,13 @@ use Rattle.records.specs.declared.Lock.{Lock}
 use Rattle.records.specs.declared.Tables.{Tables}
 use Rattle.records.specs.Empty.{noOpen}
 use Rattle.records.specs.Held.{opensOf, locksOf}
-use Rattle.locks.specs.Wire.{rangeSize}
+use Rattle.locks.specs.Wire.{rangeSize, smallForm}
 use Rattle.locks.specs.Answer.{bars, inWay, answersFor, answers}
 use Rattle.locks.specs.Request.{releaseAll, Grants, granted, blocked, grantAll, Result, afterGrants, rangePasses, afterReleases, request, settle, locking, holderAt, rangesOf}
 use Rattle.locks.specs.declared.types.Ask.{Ask}
 use Rattle.locks.specs.declared.types.LockRange.{LockRange}
 use Rattle.locks.specs.declared.types.Holder.{Holder}
+use Rattle.locks.specs.declared.types.Purpose.{Purpose}
 use Rattle.locks.specs.declared.types.Purpose.the-variants.{Read as Reading, Write as Writing}
 use Rattle.soundness.specs.File.{fileOf}
 use Rattle.soundness.specs.Sound.{sound}
@@ -33,19 +34,22 @@ use Rattle.claims.specs.Cases.{statusIn}
 use Rattle.chain.specs.declared.block.LockingFields.{LockingFields}
 use Rattle.chain.specs.declared.block.ReadFields.{ReadFields}
 use Rattle.chain.specs.declared.block.WriteFields.{WriteFields}
+use Rattle.chain.specs.declared.block.RangeFields.{RangeFields}
 use Rattle.chain.specs.declared.block.Body.{Body}
-use Rattle.chain.specs.declared.block.Body.the-variants.{Locking as LockingBody, Read as ReadBody, Write as WriteBody, Close, Logoff, TreeDisconnect, ProcessExit}
+use Rattle.chain.specs.declared.block.Body.the-variants.{Locking as LockingBody, Read as ReadBody, Write as WriteBody, Close, Logoff, TreeDisconnect, ProcessExit, CoreRead as CoreReadBody, CoreWrite as CoreWriteBody, LockByteRange, UnlockByteRange}
 use Rattle.invariants.specs.GivenCases.{cond-case, session-case, tree-case, open-case}
 use Rattle.message.specs.declared.caller.Caller.{Caller}
 use Rattle.message.specs.Refusal.{status, statusOf}
 use Rattle.message.specs.declared.refusal.Status.{Status}
 use Rattle.message.specs.declared.refusal.Refusal.the-variants.{NoAccess, NoSpace, Conflict}
-use Rattle.message.specs.Command.{Given, refused, withOpen, servedType, requestOf, lockingEnd, lockingAfter, doLocking, askBy, unlessBarred, barring, doRead, endsPast, doWrite, perform}
+use Rattle.message.specs.Contents.{sizeOf}
+use Rattle.message.specs.Command.{Given, refused, done, withOpen, servedType, requestOf, lockingEnd, lockingAfter, doLocking, askBy, unlessBarred, barring, doRead, writing, endsPast, doWrite, asCore, rangeBy, oneRange, doRange, betweenSizes, doSetSize, doCoreWrite, perform}
 use Rattle.demands.specs.LoneLock.{May, sharedIn, read-bars, write-bars}
 use Rattle.demands.specs.Admitted.{Admitted, no-session, before-tree, no-tree, NoOpenFor, before-open, no-open, admitted-may, open-or, with-open, open-given}
-use Rattle.demands.specs.LockWords.{Released, Releasing, all-released, one-unnamed, release-means, released-is, released-was, past-means, past-is, Opened}
+use Rattle.demands.specs.LockWords.{never, Released, Releasing, all-released, one-unnamed, release-means, released-is, released-was, past-means, past-is, Opened}
 use Rattle.demands.specs.CommandReasons.{Announced, OnlyTwoBits, served-exact, unlocksIn, locksIn}
-use Rattle.demands.specs.HolderWords.{TransferHeld, ReadHeld, WriteHeld, LockHeld, CommandHeld, read-held, write-held, lock-held, never, held-read, held-write, held-lock}
+use Rattle.demands.specs.HolderWords.{TransferHeld, ReadHeld, WritingHeld, WriteHeld, SizeHeld, CoreWriteHeld, write-held, size-held, LockHeld, CommandHeld}
+use Rattle.demands.specs.HolderLone.{range-held}
 use Rattle.demands.specs.HolderWalk.{Way, found-first, first-place, asked-exact, blocked-held, held-blocked}
 
 -- refused for conflict with that holder
@@ -82,51 +86,62 @@ module _ (c : Caller) (t : Tables) (memory : List ℕ) (ok : sound t ≡ true) w
   barred-names q Nothing next h n e f = absurd (n f)
 
   -- both are told by the access denied, by what is asked of the list and by what follows where nothing is in the way, which has no holder
-  module _ (denied : ℕ) (q : Ask) {Clash : Lock → Type 0} (clashes : (l : Lock) → (bars (q .purpose) q l ≡ true) ↔ Clash l)
-      (asks : (l : Lock) → answers (fileOf (opensOf t)) q l ≡ inWay (fileOf (opensOf t)) q l) (next : Open → Given) (h : Holder) (others : (o : Open) → Names (next o) h → ⊥) where
-    abbrev transfer : Open → Given
-    transfer o = cond (eqb (o .access) denied) (refused NoAccess) (unlessBarred t (barring t q) (next o))
+  module _ (fid denied : ℕ) (from size : Open → ℕ) (purpose : Purpose) (h : Holder) where
+    abbrev ask : Open → Ask
+    ask o = askBy c fid (from o) (size o) purpose
 
-    way-exact : {o : Open} → Admitted c t (q .fid) o → (l : Lock) → In l (locksOf t) → (answers (fileOf (opensOf t)) q l ≡ true) ↔ Way t o (q .offset) (q .length) Clash l
-    way-exact {o} a = asked-exact t ok o (a .opened .listed) q (a .opened .of-fid) clashes asks (locksOf t) listed-opened
+    module _ {Clash : Lock → Type 0} (clashes : (o : Open) (l : Lock) → (bars (ask o .purpose) (ask o) l ≡ true) ↔ Clash l)
+        (asks : (o : Open) (l : Lock) → answers (fileOf (opensOf t)) (ask o) l ≡ inWay (fileOf (opensOf t)) (ask o) l) (next : Open → Given) (others : (o : Open) → Names (next o) h → ⊥) where
+      abbrev transfer : Open → Given
+      transfer o = cond (eqb (o .access) denied) (refused NoAccess) (unlessBarred t (barring t (ask o)) (next o))
 
-    transfer-may : (o : Open) → Admitted c t (q .fid) o → (b : Bool) → eqb (o .access) denied ≡ b → Names (cond b (refused NoAccess) (unlessBarred t (barring t q) (next o))) h
-        → TransferHeld c t (q .fid) denied (q .offset) (q .length) Clash h
-    unfolding barring
-    transfer-may o a true z e = never cc
-    transfer-may o a false z e =
-        let v = barred-names q (barring t q) (next o) h (others o) refl e in
-        record {
-          through = o;
-          admitted = a;
-          access = eqb-false (o .access) denied z;
-          first = rw (v .2) at (found-first (answers (fileOf (opensOf t)) q) (locksOf t) (way-exact a) (v .0) (v .1));
-        }
+      way-exact : {o : Open} → Admitted c t fid o → (l : Lock) → In l (locksOf t) → (answers (fileOf (opensOf t)) (ask o) l ≡ true) ↔ Way t o (from o) (size o) Clash l
+      unfolding askBy
+      way-exact {o} a = asked-exact t ok o (a .opened .listed) (ask o) (a .opened .of-fid) (clashes o) (asks o) (locksOf t) listed-opened
 
-    transfer-exact : Names (withOpen c t (q .fid) transfer) h ↔ TransferHeld c t (q .fid) denied (q .offset) (q .length) Clash h
-    unfolding barring unlessBarred
-    transfer-exact = (
-      λ e. elim (open-or c t (q .fid)) [
-        | inl no-one ↦ not-asked (q .fid) transfer (no-one .1) h e
-        | inr (k, may, a) ↦
-            transfer-may (getD (opensOf t) k noOpen) a (eqb (getD (opensOf t) k noOpen .access) denied) refl (sym (with-open c t (q .fid) k transfer may) ∙ e)
-      ],
-      λ r. let m = admitted-may c t (q .fid) ok (r .through) (r .admitted) in
-          let p = first-place (answers (fileOf (opensOf t)) q) (locksOf t) (way-exact (r .admitted)) (r .first) in
-          with-open c t (q .fid) (m .0) transfer (m .1)
-          ∙ rw (m .2, ne-eqb (r .through .access) denied (r .access), p .0) (ap (λ (x : Holder). refused (Conflict x)) (p .1)),
-    )
+      transfer-may : (o : Open) → Admitted c t fid o → (b : Bool) → eqb (o .access) denied ≡ b → Names (cond b (refused NoAccess) (unlessBarred t (barring t (ask o)) (next o))) h
+          → TransferHeld c t fid denied from size Clash h
+      unfolding barring
+      transfer-may o a true z e = never cc
+      transfer-may o a false z e =
+          let v = barred-names (ask o) (barring t (ask o)) (next o) h (others o) refl e in
+          record {
+            through = o;
+            admitted = a;
+            access = eqb-false (o .access) denied z;
+            first = rw (v .2) at (found-first (answers (fileOf (opensOf t)) (ask o)) (locksOf t) (way-exact a) (v .0) (v .1));
+          }
+
+      transfer-exact : Names (withOpen c t fid transfer) h ↔ TransferHeld c t fid denied from size Clash h
+      unfolding barring unlessBarred
+      transfer-exact = (
+        λ e. elim (open-or c t fid) [
+          | inl no-one ↦ not-asked fid transfer (no-one .1) h e
+          | inr (k, may, a) ↦
+              transfer-may (getD (opensOf t) k noOpen) a (eqb (getD (opensOf t) k noOpen .access) denied) refl (sym (with-open c t fid k transfer may) ∙ e)
+        ],
+        λ r. let m = admitted-may c t fid ok (r .through) (r .admitted) in
+            let p = first-place (answers (fileOf (opensOf t)) (ask (r .through))) (locksOf t) (way-exact (r .admitted)) (r .first) in
+            with-open c t fid (m .0) transfer (m .1)
+            ∙ rw (m .2, ne-eqb (r .through .access) denied (r .access), p .0) (ap (λ (x : Holder). refused (Conflict x)) (p .1)),
+      )
 
   read-exact : (f : ReadFields) (h : Holder) → Names (doRead c t memory f) h ↔ ReadHeld c t f h
   unfolding doRead askBy answers answersFor bars
   read-exact f h =
-      transfer-exact 1 (askBy c (f .fid) (f .offset) (f .max) Reading) (read-bars (askBy c (f .fid) (f .offset) (f .max) Reading)) (λ l. refl) _ h (λ o e. never cc)
+      transfer-exact (f .fid) 1 (λ o. f .offset) (λ o. f .max) Reading h (λ o. read-bars (askBy c (f .fid) (f .offset) (f .max) Reading)) (λ o l. refl) _ (λ o e. never cc)
+
+  -- a write, whatever it covers and comes to
+  writing-exact : (fid : ℕ) (from size : Open → ℕ) (past : Bool) (next : Open → Given) (h : Holder) → ((o : Open) → Names (next o) h → ⊥)
+      → Names (writing c t fid (λ o. askBy c fid (from o) (size o) Writing) past next) h ↔ WritingHeld c t fid from size h
+  unfolding askBy answers answersFor bars
+  writing-exact fid from size past next h others =
+      transfer-exact fid 0 from size Writing h (λ o. write-bars (askBy c fid (from o) (size o) Writing)) (λ o l. refl) (λ o. cond past (refused NoSpace) (next o))
+      (λ o. cond-case (λ (g : Given). Names g h → ⊥) past (refused NoSpace) (next o) (λ _ e. never cc) (λ _. others o))
 
   write-exact : (f : WriteFields) (bytes : List ℕ) (h : Holder) → Names (doWrite c t memory f bytes) h ↔ WriteHeld c t f h
-  unfolding doWrite askBy answers answersFor bars
-  write-exact f bytes h =
-      transfer-exact 0 (askBy c (f .fid) (f .offset) (f .count) Writing) (write-bars (askBy c (f .fid) (f .offset) (f .count) Writing)) (λ l. refl) _ h
-      (λ o. cond-case (λ (g : Given). Names g h → ⊥) (endsPast (f .offset) (f .count)) (refused NoSpace) _ (λ _ e. never cc) (λ _ e. never cc))
+  unfolding doWrite
+  write-exact f bytes h = writing-exact (f .fid) (λ o. f .offset) (λ o. f .count) (endsPast (f .offset) (f .count)) _ h (λ o e. never cc)
 
   -- ---- LOCKING
 
@@ -203,28 +218,54 @@ module _ (c : Caller) (t : Tables) (memory : List ℕ) (ok : sound t ≡ true) w
           ∙ rw (released-is files (f .fid) (r .unlocked), fails (any rangePasses (locksIn c f area)) (λ z. r .within (past-means (locksIn c f area) z)), b),
     )
 
-  -- ---- all seven
+  -- ---- the core commands
+
+  -- another reply block, and no other refusal
+  core-names : (g : Given) (h : Holder) → Names (asCore g) h ↔ Names g h
+  unfolding asCore
+  core-names (refused why) h = (λ e. e, λ e. e)
+  core-names (done u m said) h = (λ e. never cc, λ e. never cc)
+
+  size-exact : (f : WriteFields) (h : Holder) → Names (doSetSize c t memory f) h ↔ SizeHeld c t f h
+  unfolding doSetSize betweenSizes
+  size-exact f h =
+      writing-exact (f .fid) (λ o. min (sizeOf t (o .file)) (f .offset)) (λ o. max (sizeOf t (o .file)) (f .offset) - min (sizeOf t (o .file)) (f .offset)) (ltb 4096 (f .offset)) _ h
+      (λ o e. never cc)
+
+  core-write-exact : (f : WriteFields) (bytes : List ℕ) (h : Holder) → Names (doCoreWrite c t memory f bytes) h ↔ CoreWriteHeld c t f h
+  unfolding doCoreWrite
+  core-write-exact f bytes h =
+      let size = size-exact f h in
+      let some = Iff·trans (core-names (doWrite c t memory f bytes) h) (write-exact f bytes h) in (
+        cond-case (λ (g : Given). Names g h → CoreWriteHeld c t f h) (eqb (f .count) 0) (doSetSize c t memory f) (asCore (doWrite c t memory f bytes))
+            (λ z e. size-held (eqb-true (f .count) 0 z) (size .0 e)) (λ z e. write-held (eqb-false (f .count) 0 z) (some .0 e)),
+        λ r. elim r [ write-held n x ↦ rw (ne-eqb (f .count) 0 n) (some .1 x) | size-held z x ↦ rw (eq-eqb (f .count) 0 z) (size .1 x) ],
+      )
+
+  -- LOCK_BYTE_RANGE and UNLOCK_BYTE_RANGE: the LOCKING of one range
+  one-range : (f : RangeFields) (unlocks locks : ℕ) → unlocks + locks ≡ 1 → (h : Holder)
+      → Names (doRange c t memory f unlocks locks) h ↔ LockHeld c t (oneRange f unlocks locks) (smallForm (rangeBy c f)) h
+  unfolding doRange oneRange smallForm rangeSize
+  one-range f unlocks locks one h =
+      let area = smallForm (rangeBy c f) in
+      Iff·trans (core-names (doLocking c t memory (oneRange f unlocks locks) area) h) (locking-exact (oneRange f unlocks locks) area (rw one refl) h)
+
+  -- ---- all eleven
 
   -- the commands that ask the list for nothing have no holder
   pub perform-held : (b : Body) (area bytes : List ℕ) → Announced b area → (h : Holder) → Names (perform c t memory b area bytes) h ↔ CommandHeld c t area b h
-  unfolding perform Announced
-  perform-held (LockingBody f) area bytes k h =
-      let q = locking-exact f area (k f refl) h in (λ e. held-lock .1 (q .0 e), λ r. q .1 (held-lock .0 r))
-  perform-held (ReadBody f) area bytes k h = let q = read-exact f h in (λ e. held-read .1 (q .0 e), λ r. q .1 (held-read .0 r))
-  perform-held (WriteBody f) area bytes k h = let q = write-exact f bytes h in (λ e. held-write .1 (q .0 e), λ r. q .1 (held-write .0 r))
+  unfolding perform Announced CommandHeld oneRange
+  perform-held (LockingBody f) area bytes k h = locking-exact f area (k f refl) h
+  perform-held (ReadBody f) area bytes k h = read-exact f h
+  perform-held (WriteBody f) area bytes k h = write-exact f bytes h
   perform-held (Close fid) area bytes k h = (
-    open-case (λ (g : Given). Names g h → CommandHeld c t area (Close fid) h) c t fid _ (λ e. never cc) (λ e. never cc) (λ e. never cc) (λ j _ e. never cc),
-    λ r. elim r [ read-held g e x ↦ never cc | write-held g e x ↦ never cc | lock-held g e x ↦ never cc ],
+    open-case (λ (g : Given). Names g h → ⊥) c t fid _ (λ e. never cc) (λ e. never cc) (λ e. never cc) (λ j _ e. never cc),
+    λ r. absurd r,
   )
-  perform-held Logoff area bytes k h = (
-    session-case (λ (g : Given). Names g h → CommandHeld c t area Logoff h) c t _ (λ e. never cc) (λ _ e. never cc),
-    λ r. elim r [ read-held g e x ↦ never cc | write-held g e x ↦ never cc | lock-held g e x ↦ never cc ],
-  )
-  perform-held TreeDisconnect area bytes k h = (
-    tree-case (λ (g : Given). Names g h → CommandHeld c t area TreeDisconnect h) c t _ (λ e. never cc) (λ e. never cc) (λ e. never cc),
-    λ r. elim r [ read-held g e x ↦ never cc | write-held g e x ↦ never cc | lock-held g e x ↦ never cc ],
-  )
-  perform-held ProcessExit area bytes k h = (
-    session-case (λ (g : Given). Names g h → CommandHeld c t area ProcessExit h) c t _ (λ e. never cc) (λ _ e. never cc),
-    λ r. elim r [ read-held g e x ↦ never cc | write-held g e x ↦ never cc | lock-held g e x ↦ never cc ],
-  )
+  perform-held Logoff area bytes k h = (session-case (λ (g : Given). Names g h → ⊥) c t _ (λ e. never cc) (λ _ e. never cc), λ r. absurd r)
+  perform-held TreeDisconnect area bytes k h = (tree-case (λ (g : Given). Names g h → ⊥) c t _ (λ e. never cc) (λ e. never cc) (λ e. never cc), λ r. absurd r)
+  perform-held ProcessExit area bytes k h = (session-case (λ (g : Given). Names g h → ⊥) c t _ (λ e. never cc) (λ _ e. never cc), λ r. absurd r)
+  perform-held (CoreReadBody f) area bytes k h = Iff·trans (core-names (doRead c t memory f) h) (read-exact f h)
+  perform-held (CoreWriteBody f) area bytes k h = core-write-exact f (drop 3 area) h
+  perform-held (LockByteRange f) area bytes k h = Iff·trans (one-range f 0 1 refl h) (range-held c t ok f h)
+  perform-held (UnlockByteRange f) area bytes k h = Iff·trans (one-range f 1 0 refl h) (λ r. let none : r .held .granted < 0 = r .held .fewer in omega arith, λ r. absurd r)

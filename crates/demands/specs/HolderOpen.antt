@@ -20,7 +20,6 @@ use Rattle.locks.specs.Request.{lockOf}
 use Rattle.locks.specs.declared.types.LockRange.{LockRange}
 use Rattle.locks.specs.declared.types.Holder.{Holder}
 use Rattle.chain.specs.declared.block.LockingFields.{LockingFields}
-use Rattle.chain.specs.declared.block.Body.{Body}
 use Rattle.invariants.specs.Numbered.{numbered-same}
 use Rattle.invariants.specs.SoundParts.{sound-says}
 use Rattle.invariants.specs.Sound.{Good}
@@ -32,8 +31,8 @@ use Rattle.demands.specs.LoneLock.{sharedIn}
 use Rattle.demands.specs.LockWords.{released-was, AllGranted, none-to-grant, grant-then}
 use Rattle.demands.specs.CommandReasons.{rangesBy}
 use Rattle.demands.specs.HolderExactly.{call, held-fit}
-use Rattle.demands.specs.HolderWords.{LockHeld, CommandHeld, read-held, write-held, lock-held}
-use Rattle.demands.specs.HolderStands.{holder-exact, held-then}
+use Rattle.demands.specs.HolderWords.{LockHeld, HeldWhere, one-range, many-ranges}
+use Rattle.demands.specs.HolderStands.{holder-exact, where-then}
 
 -- ---- an own earlier range
 
@@ -110,10 +109,9 @@ pub record HolderFound (t : Tables) (h : Holder) : Type 0 where
   pub no-other-session : (u : Session) → In u (sessionsOf t) → u .uid ≡ through .uid → u ≡ session
 
 -- a lock in the way is of the file, so that its FID is an open's
-held-open : {c : Caller} {t : Tables} {area : List ℕ} {body : Body} {h : Holder} → CommandHeld c t area body h → (o : Open) × In o (opensOf t) × (o .fid ≡ h .lock .fid)
-held-open (read-held f e r) = let p = r .first .of-file in (p .0, p .1, p .2)
-held-open (write-held f e r) = let p = r .first .of-file in (p .0, p .1, p .2)
-held-open (lock-held f e r) = let p = r .held .first .of-file in (p .0, p .1, p .2)
+held-open : {c : Caller} {t : Tables} {area : List ℕ} {h : Holder} → HeldWhere c t area h → (o : Open) × In o (opensOf t) × (o .fid ≡ h .lock .fid)
+held-open (one-range w) = let p = w .of-file in (p .0, p .1, p .2)
+held-open (many-ranges r) = let p = r .held .first .of-file in (p .0, p .1, p .2)
 
 -- of any call with a holder, on good tables: in the tables that it leaves
 pub holder-found : (connection : ℕ) (s : List ℕ) (t : Tables) (memory room : List ℕ) → Good t → (h : Holder) → call connection s t memory room .holder ≡ held-by h
@@ -122,7 +120,7 @@ holder-found connection s t memory room g h e =
     let u = call connection s t memory room .tables in
     let ok = take-message-good connection s t memory room g .sound in
     let fit = held-fit connection s t memory room h e in
-    let o = held-open (held-then connection s t memory room g fit h (holder-exact connection s t memory room g fit h .0 e)) in
+    let o = held-open (where-then connection s t memory room g fit h (holder-exact connection s t memory room g fit h .0 e)) in
     let w = sound-plain u .0 ok .open-session (o .0) (o .1) in
     record {
       through = o .0;

@@ -27,7 +27,8 @@ use Rattle.demands.specs.Calls.{sentence-answered}
 use Rattle.demands.specs.RefusedCall.{gives, step-done, step-refused}
 use Rattle.demands.specs.ChainReasons.{AllAnnounced, none-left, next-announced, chained-announced, refusal-not-zero, left-good}
 use Rattle.demands.specs.HolderExactly.{call, holder-answered}
-use Rattle.demands.specs.HolderWords.{CommandHeld, never}
+use Rattle.demands.specs.LockWords.{never}
+use Rattle.demands.specs.HolderWords.{CommandHeld, HeldWhere, held-where}
 use Rattle.demands.specs.HolderCommand.{Names, perform-held}
 
 -- only a conflict has a holder
@@ -182,5 +183,8 @@ module _ (connection : ℕ) (s : List ℕ) (t : Tables) (memory room : List ℕ)
         ap (λ (k : Taken). k .tables) (fit-answered connection s t memory room fit)
         ∙ ap (λ (r : Ran). r .tables) (sentence-answered connection s t memory (m .front ++ (m .command ∷ m .later)) (m .read)) ∙ met-named m .tables-left
 
-    pub held-then : CommandHeld c (call connection s t memory room .tables) (areaOf s (m .command)) (m .command .body) h
+    held-then : CommandHeld c (call connection s t memory room .tables) (areaOf s (m .command)) (m .command .body) h
     held-then = rw tables-then (m .held)
+
+    pub where-then : HeldWhere c (call connection s t memory room .tables) (areaOf s (m .command)) h
+    where-then = held-where c (call connection s t memory room .tables) (areaOf s (m .command)) (m .command .body) h held-then

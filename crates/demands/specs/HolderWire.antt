@@ -1,7 +1,7 @@
 -- The holder of a LOCKING that is the first command of its message, by the message's bytes: ranges are where the message has them, and each lock is told by its fields
--- (document 02, CR 2: "in the list as it then stands"; "A lock granted earlier in the same request may be the answer"). Assumes nothing.
+-- (document 02, CR 2: "in the list as it then stands"; "A lock granted earlier in the same request may be the answer"); of a LOCK_BYTE_RANGE likewise. Assumes nothing.
 use mathlib.Core.Path.{_≡_, sym, subst, _∙_}
-use mathlib.Core.Logic.{_↔_}
+use mathlib.Core.Logic.{_↔_, Iff·trans}
 use Prim.Native.Nat.{ℕ, _+_, _*_, _%_, _≤_, _<_}
 use native.Mathlib.Omega.{arith}
 use mathlib.Core.Bool.{true}
@@ -16,8 +16,9 @@ use Rattle.locks.specs.Wire.{rangeSize}
 use Rattle.locks.specs.Request.{lockOf, ofHeader}
 use Rattle.locks.specs.declared.types.LockRange.{LockRange}
 use Rattle.locks.specs.declared.types.Holder.{Holder}
-use Rattle.chain.specs.Layout.{LOCKING, headerCommand, FIRST, byteCount, fidAfterAndx, lockType, unlockCount, lockCount}
+use Rattle.chain.specs.Layout.{LOCKING, LOCK_BYTE_RANGE, headerCommand, FIRST, byteCount, fidAfterAndx, lockType, unlockCount, lockCount}
 use Rattle.chain.specs.Grammar.{Span, Reading}
+use Rattle.chain.specs.Parse.{rangeFields}
 use Rattle.invariants.specs.BlockParse.{bodyAt}
 use Rattle.invariants.specs.Fit.{Fit}
 use Rattle.message.specs.Caller.{callerOf}
@@ -25,12 +26,12 @@ use Rattle.demands.specs.Admitted.{Admitted}
 use Rattle.demands.specs.LoneLock.{sharedIn}
 use Rattle.demands.specs.LoneCall.{lockingFields, lockingArea}
 use Rattle.demands.specs.CommandReasons.{OnlyTwoBits}
-use Rattle.demands.specs.WireFields.{reading-first, first-body, first-area}
+use Rattle.demands.specs.WireFields.{reading-first}
 use Rattle.demands.specs.LockEffects.{RangeOn, GrantedLock, Unlocked, Locked, large, range-on, unlocked-from, granted-lock, locked-from, locking-fits, rangeIn}
 use Rattle.demands.specs.LockReasons.{PassesOn, lock-is, released-from, ranges-in, passes-from, past-from, granted-from}
-use Rattle.demands.specs.HolderWords.{FirstInWay, LockHeld, held-lock}
+use Rattle.demands.specs.HolderWords.{FirstInWay, LockHeld, RangeLockHeld, CommandHeld}
 use Rattle.demands.specs.HolderExactly.{call}
-use Rattle.demands.specs.HolderFirst.{FirstMeets, first-held}
+use Rattle.demands.specs.HolderFirst.{FirstMeets, first-by}
 use Rattle.demands.specs.HolderOpen.{holder-own, holder-listed}
 
 -- ---- the plain words
@@ -153,12 +154,10 @@ module _ (connection : ℕ) (s : List ℕ) {spans : List Span} (r : Reading s sp
     (h : Holder) where
   -- the host gets as holder the lock in the way of one of its ranges, whatever commands follow
   pub lock-first : FirstMeets (call connection s t memory room) h ↔ LockHeldOn connection s t h
-  unfolding bodyAt
+  unfolding bodyAt CommandHeld
   lock-first =
-      let q = reading-first r in
-      let fits = locking-fits (q .1) e in
-      let w = rw (first-area (q .1), first-body (q .1) LOCKING e) at (first-held connection s t memory room fit h (q .1 .block) (q .0) (q .1 .is-read)) in
-      (λ n. to-wire connection s t h fits (held-lock .0 (w .0 n)), λ k. w .1 (held-lock .1 (from-wire connection s t h fits k)))
+      let fits = locking-fits (reading-first r .1) e in
+      Iff·trans (first-by connection s r t memory room fit h LOCKING e) (to-wire connection s t h fits, from-wire connection s t h fits)
 
   -- an own earlier range as holder: the request's FID and that range's process
   pub lock-own : (k : LockHeldOn connection s t h) → length (k .left) ≤ h .place → OwnRangeOn s (unlockCount s FIRST) (k .granted) (h .lock)
@@ -167,3 +166,10 @@ module _ (connection : ℕ) (s : List ℕ) {spans : List Span} (r : Reading s sp
   -- any other is one of the locks held
   pub lock-listed : (k : LockHeldOn connection s t h) → h .place < length (k .left) → In (h .lock) (locksOf t)
   lock-listed = listed-on connection s t h (locking-fits (reading-first r .1) e)
+
+-- ---- of any reading that begins with a LOCK_BYTE_RANGE (document 02, CR 3): its one range is where the message has it
+
+pub range-first : (connection : ℕ) (s : List ℕ) {spans : List Span} → Reading s spans → (t : Tables) (memory room : List ℕ) → Fit s t memory room → headerCommand s ≡ LOCK_BYTE_RANGE
+    → (h : Holder) → FirstMeets (call connection s t memory room) h ↔ RangeLockHeld (callerOf connection s) t (rangeFields s FIRST) h
+unfolding bodyAt CommandHeld
+range-first connection s r t memory room fit e h = first-by connection s r t memory room fit h LOCK_BYTE_RANGE e

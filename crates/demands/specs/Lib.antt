@@ -53,6 +53,7 @@ pub mod DataBlock
 pub mod ReplyHeader
 pub mod HolderExactly
 pub mod HolderWords
+pub mod HolderLone
 pub mod HolderWalk
 pub mod HolderCommand
 pub mod HolderStands
