@@ -1,5 +1,5 @@
 -- Document 02, CR 4, "Two processes taken for one": the sender's process, that of a range, who owns a lock, who sends the messages of a chain's commands, and what
--- PROCESS_EXIT leaves; said of the message's bytes. Assumes nothing.
+-- PROCESS_EXIT leaves; said of the message's bytes, of the core commands too (CR 3: "the process from the header"). Assumes nothing.
 use mathlib.Core.Path.{_≡_, refl, sym, ap, _∙_}
 use mathlib.Core.Logic.{_↔_}
 use Prim.Native.Nat.{ℕ, suc, _+_, _-_, _*_, _/_, _%_, _^_, _≤_, _<_}
@@ -11,7 +11,7 @@ use lib.Dec.{eqb}
 use borrow.Author.Tests.{eqb-true, eq-eqb, not-true}
 use Rattle.lists.specs.Truth.{both-hold, hold-both, fails, not-decided-twice, not-holds}
 use Rattle.lists.specs.Members.{kept-was, was-kept}
-use Rattle.wire.specs.LittleEndian.{le16At, le16-below}
+use Rattle.wire.specs.LittleEndian.{le16At, le32At, le16-below}
 use Rattle.records.specs.declared.Open.{Open}
 use Rattle.records.specs.declared.Lock.{Lock}
 use Rattle.records.specs.declared.Tables.{Tables}
@@ -20,8 +20,9 @@ use Rattle.numbers.specs.Number.{contains}
 use Rattle.numbers.specs.Column.{fidOf}
 use Rattle.locks.specs.Range.{Overlap}
 use Rattle.locks.specs.declared.types.LockRange.{LockRange}
-use Rattle.chain.specs.Layout.{LOCKING, READ, WRITE, headerCommand, FIRST, fidAfterAndx, readMax, dataLength, lockType, unlockCount, lockCount}
+use Rattle.chain.specs.Layout.{LOCKING, READ, WRITE, CORE-READ, CORE-WRITE, UNLOCK_BYTE_RANGE, headerCommand, FIRST, fidAfterAndx, readMax, dataLength, lockType, unlockCount, lockCount, firstFid, coreCount, coreOffset, rangeCount, rangeOffset}
 use Rattle.chain.specs.Grammar.{Span, ReadingFrom, plain-end, andx-end, andx-next, Reading}
+use Rattle.chain.specs.Parse.{rangeFields}
 use Rattle.chain.specs.declared.block.Body.the-variants.{Logoff}
 use Rattle.chain.specs.declared.block.Next.the-variants.{End}
 use Rattle.chain.specs.declared.block.Block.{Block}
@@ -40,13 +41,14 @@ use Rattle.demands.specs.Calls.{statusRead}
 use Rattle.demands.specs.Admitted.{Admitted}
 use Rattle.demands.specs.OneByOne.{alone-caller}
 use Rattle.demands.specs.SpansOneByOne.{aloneSpan, alone-span}
-use Rattle.demands.specs.LoneLock.{Owner}
+use Rattle.demands.specs.LoneLock.{Owner, coreRange}
 use Rattle.demands.specs.LoneCall.{FirstConflict}
 use Rattle.demands.specs.LockWords.{Named}
+use Rattle.demands.specs.CoreReasons.{unlock-unnamed}
 use Rattle.demands.specs.CommandReasons.{OnlyTwoBits}
 use Rattle.demands.specs.WireFields.{senderProcess, upperHalf, readFrom, writeFrom, one-first}
 use Rattle.demands.specs.LockEffects.{shortAt, longAt, RangeOn, short-range, long-range, GrantedLock, Unlocked, none-to-unlock, unlock-then, Locked, none-to-lock, lock-then, LockingDone, rangeIn, range-on, locking-fits}
-use Rattle.demands.specs.FirstReadings.{first-read-reading, first-write-reading}
+use Rattle.demands.specs.FirstReadings.{first-read-reading, first-write-reading, first-core-read-reading, first-core-write-reading, unlock-exact}
 use Rattle.demands.specs.LockReasons.{unlock-none, reason-unnamed, locking-reason-exact}
 
 -- ---- the plain words
@@ -91,6 +93,17 @@ module _ (s : List ℕ) (b : Bytes s) where
   pub range-process : {k : ℕ} {r : LockRange} → RangeOn s k r → RangeProcess s k r
   range-process (short-range z e _ _) = record { short-form = λ _. rw (← upper-half) e; long-form = λ n. absurd (let no : ⊥ = omega arith in no) }
   range-process (long-range z e _ _) = record { short-form = λ n. absurd (let no : ⊥ = omega arith in no); long-form = λ _. rw (← upper-half) e }
+
+  -- four bytes make 32 bits
+  whole-32 : (at : ℕ) → le32At s at % 4294967296 ≡ le32At s at
+  unfolding le32At
+  whole-32 at = let low = half at in let high = half (at + 2) in omega arith
+
+  -- of a message of bytes the range of a LOCK_BYTE_RANGE or an UNLOCK_BYTE_RANGE is the one of its fields: offset and count, and the sender's process with both halves
+  pub range-whole : (connection : ℕ)
+      → coreRange (callerOf connection s) (rangeFields s FIRST) ≡ record { process = senderProcess s; offset = rangeOffset s FIRST; length = rangeCount s FIRST }
+  unfolding callerOf
+  range-whole connection = rw (whole-32 (FIRST + 7), whole-32 (FIRST + 3))
 
 -- "a request's process is PIDHigh × 65,536 + PIDLow"
 pub sender-process : (connection : ℕ) (s : List ℕ) → callerOf connection s .process ≡ 65536 * le16At s 12 + le16At s 26
@@ -146,6 +159,34 @@ module _ (connection : ℕ) (s other : List ℕ) (b : Bytes s) (d : Bytes other)
         clash = λ h. not-own other s d b u (fidAfterAndx s FIRST) l owner (h .1);
       })
 
+-- and its core read or write over it
+module _ (connection : ℕ) (s other : List ℕ) (b : Bytes s) (d : Bytes other) (u : UpperHalvesDiffer other s) {spans : List Span} (r : Reading s spans) (t : Tables) (memory room : List ℕ)
+    (fit : Fit s t memory room) (o : Open) (valid : Admitted (callerOf connection s) t (firstFid s FIRST) o) (l : Lock) (listed : In l (locksOf t))
+    (owner : Owner (firstFid s FIRST) (senderProcess other) l) (exclusive : l .shared ≡ false) where
+  pub bars-core-read : headerCommand s ≡ CORE-READ → (o .access ≡ 1 → ⊥) → Overlap (l .offset) (l .length) (coreOffset s FIRST) (coreCount s FIRST)
+      → FirstConflict (take-message connection s t memory room)
+  bars-core-read e access over =
+      first-core-read-reading connection s r t memory room fit o valid e access .1
+      (record {
+        lock = l;
+        listed = listed;
+        of-file = (o, valid .opened .listed, valid .opened .of-fid ∙ sym (owner .0), refl);
+        overlap = over;
+        clash = (exclusive, not-own other s d b u (firstFid s FIRST) l owner);
+      })
+
+  pub bars-core-write : headerCommand s ≡ CORE-WRITE → (coreCount s FIRST ≡ 0 → ⊥) → (o .access ≡ 0 → ⊥) → Overlap (l .offset) (l .length) (coreOffset s FIRST) (coreCount s FIRST)
+      → FirstConflict (take-message connection s t memory room)
+  bars-core-write e more access over =
+      first-core-write-reading connection s r t memory room fit o valid e more access .1
+      (record {
+        lock = l;
+        listed = listed;
+        of-file = (o, valid .opened .listed, valid .opened .of-fid ∙ sym (owner .0), refl);
+        overlap = over;
+        clash = λ h. not-own other s d b u (firstFid s FIRST) l owner (h .1);
+      })
+
 -- a range of another upper half names no lock that was granted for a range of the one, however equal they are else
 pub names-not : (s t : List ℕ) → Bytes s → Bytes t → (le16At s 12 ≡ le16At t 12 → ⊥) → {j k : ℕ} {q r : LockRange} {l : Lock} → RangeOn s j q → GrantedLock s q l
     → RangeOn t k r → (fid : ℕ) → Named fid r l → ⊥
@@ -167,6 +208,15 @@ unlock-refused connection s b r t memory room fit e some bits o valid others =
     locking-reason-exact connection s r t memory room fit e (status 1 158) .1
     (reason-unnamed valid bits
     (rw more (unlock-none on (λ l i named. others l i (ap (λ (p : ℕ). p / 65536) (named .of-process) ∙ range-upper s b on)))))
+
+-- nor does an UNLOCK_BYTE_RANGE
+pub core-unlock-refused : (connection : ℕ) (s : List ℕ) → Bytes s → {span : Span} → Reading s (span ∷ []) → (t : Tables) (memory room : List ℕ) → Fit s t memory room
+    → headerCommand s ≡ UNLOCK_BYTE_RANGE → (o : Open) → Admitted (callerOf connection s) t (firstFid s FIRST) o
+    → ((l : Lock) → In l (locksOf t) → l .process / 65536 ≡ le16At s 12 → ⊥) → statusRead (take-message connection s t memory room .room) ≡ status 1 158
+unfolding callerOf
+core-unlock-refused connection s b r t memory room fit e o valid others =
+    unlock-exact connection s r t memory room fit e (status 1 158) .1
+    (unlock-unnamed valid (λ w. others (w .lock) (w .listed) (ap (λ (p : ℕ). p / 65536) (w .named .of-process) ∙ upper-half s b)))
 
 -- ---- a lock alone that is done
 
