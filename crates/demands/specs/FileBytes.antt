@@ -55,6 +55,10 @@ contents-same t u memory other file inside long size bytes =
     let few′ : i < sizeOf t file = omega arith in
     contents-byte u other file i few ∙ bytes i few′ ∙ sym (contents-byte t memory file i few′))
 
+-- a file of sound tables lies in the file memory
+pub file-inside : (t : Tables) (memory : List ℕ) (file : ℕ) → sound t ≡ true → length memory ≡ 65536 → file ≤ 15 → file * 4096 + sizeOf t file ≤ length memory
+file-inside t memory file ok full low = let most = size-most t file (sound-says t ok) in omega arith
+
 -- another file's bytes lie in front of a file's 4,096 or behind them
 pub beside : (other file i : ℕ) → (other ≡ file → ⊥) → i < 4096 → (other * 4096 + i < file * 4096) ⊎ (file * 4096 + 4096 ≤ other * 4096 + i)
 beside other file i different h =
@@ -76,7 +80,7 @@ pub record Grew (file z end : ℕ) (memory after : List ℕ) : Type 0 where
   pub same-length : length after ≡ length memory
   pub the-zeros : (k : ℕ) → file * 4096 + z ≤ k → k < file * 4096 + end → getD after k 0 ≡ 0
   pub in-front : (k : ℕ) → k < file * 4096 + z → getD after k 0 ≡ getD memory k 0
-  pub behind : (k : ℕ) → file * 4096 + z ≤ k → file * 4096 + end ≤ k → getD after k 0 ≡ getD memory k 0
+  pub behind : (k : ℕ) → file * 4096 + end ≤ k → getD after k 0 ≡ getD memory k 0
   pub other-files : (other i : ℕ) → (other ≡ file → ⊥) → i < 4096 → getD after (other * 4096 + i) 0 ≡ getD memory (other * 4096 + i) 0
 
 -- the file memory after a write of those bytes at the offset, the file's size having been z: the bytes, zeros "between the old size and the write", and every
@@ -92,9 +96,6 @@ pub record Wrote (file z offset : ℕ) (bytes memory after : List ℕ) : Type 0 
 module _ (t : Tables) (memory : List ℕ) (file offset : ℕ) (ok : sound t ≡ true) (full : length memory ≡ 65536) (low : file ≤ 15) where
   most : sizeOf t file ≤ 4096
   most = size-most t file (sound-says t ok)
-
-  pub file-inside : file * 4096 + sizeOf t file ≤ length memory
-  file-inside = let s = most in omega arith
 
   -- the zeros up to the offset
   abbrev zeros : List ℕ
@@ -123,10 +124,15 @@ module _ (t : Tables) (memory : List ℕ) (file offset : ℕ) (ok : sound t ≡ 
     grown-front k h = put-front memory zeros (file * 4096 + sizeOf t file) zeros-fit k 0 h
 
     -- behind them, and where there are none
-    grown-behind : (k : ℕ) → file * 4096 + sizeOf t file ≤ k → file * 4096 + offset ≤ k → getD (grown t memory file offset) k 0 ≡ getD memory k 0
-    grown-behind k h l =
-        let n = long-zeros in
-        put-behind memory zeros (file * 4096 + sizeOf t file) zeros-fit k 0 (let m : file * 4096 + sizeOf t file + length zeros ≤ k = omega arith in m)
+    grown-behind : (k : ℕ) → file * 4096 + offset ≤ k → getD (grown t memory file offset) k 0 ≡ getD memory k 0
+    grown-behind k h =
+        elim (decided (ltb k (file * 4096 + sizeOf t file))) [
+          | inl e ↦ grown-front k (ltb-true k (file * 4096 + sizeOf t file) e)
+          | inr e ↦
+              let above : file * 4096 + sizeOf t file ≤ k = ltb-false k (file * 4096 + sizeOf t file) e in
+              let n = long-zeros in
+              put-behind memory zeros (file * 4096 + sizeOf t file) zeros-fit k 0 (let m : file * 4096 + sizeOf t file + length zeros ≤ k = omega arith in m)
+        ]
 
     -- document 02, CR 3: "with zeros where it grows"
     pub grown-bytes : Grew file (sizeOf t file) offset memory (grown t memory file offset)
@@ -140,7 +146,7 @@ module _ (t : Tables) (memory : List ℕ) (file offset : ℕ) (ok : sound t ≡ 
               let s = most in
               elim (beside other file i different h) [
                 | inl l ↦ grown-front (other * 4096 + i) (omega arith)
-                | inr l ↦ grown-behind (other * 4096 + i) (omega arith) (omega arith)
+                | inr l ↦ grown-behind (other * 4096 + i) (omega arith)
               ];
         }
 
@@ -157,12 +163,7 @@ module _ (t : Tables) (memory : List ℕ) (file offset : ℕ) (ok : sound t ≡ 
 
     -- behind the write
     past-write : (k : ℕ) → file * 4096 + offset + length bytes ≤ k → getD (put (grown t memory file offset) (file * 4096 + offset) bytes) k 0 ≡ getD memory k 0
-    past-write k h =
-        put-behind (grown t memory file offset) bytes (file * 4096 + offset) bytes-fit k 0 h
-        ∙ elim (decided (ltb k (file * 4096 + sizeOf t file))) [
-          | inl e ↦ grew .in-front k (ltb-true k (file * 4096 + sizeOf t file) e)
-          | inr e ↦ grew .behind k (ltb-false k (file * 4096 + sizeOf t file) e) (omega arith)
-        ]
+    past-write k h = put-behind (grown t memory file offset) bytes (file * 4096 + offset) bytes-fit k 0 h ∙ grew .behind k (omega arith)
 
     -- in front of it and of the old size
     before-write : (k : ℕ) → k < file * 4096 + sizeOf t file → k < file * 4096 + offset

@@ -114,7 +114,7 @@ pub record LockingDone (connection : ℕ) (s : List ℕ) (t : Tables) (memory : 
 pub record LockRangeDone (connection : ℕ) (s : List ℕ) (t : Tables) (memory : List ℕ) (call : Taken) : Type 0 where
   pub through : Open
   pub admitted : Admitted (callerOf connection s) t (firstFid s FIRST) through
-  -- "the process from the header; the lock is exclusive". In a message of bytes offset and count are below 2^32.
+  -- "the process from the header; the lock is exclusive". Of a message of bytes offset and count are the fields (Processes.antt: `range-whole`).
   pub lock : Lock
   pub of-fid : lock .fid ≡ firstFid s FIRST
   pub of-process : lock .process ≡ senderProcess s

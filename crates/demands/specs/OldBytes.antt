@@ -191,9 +191,33 @@ call-asked (load file bytes) = (ask-load file bytes, refl, refl)
 call-asked (drop-one connection) = (ask-drop connection, refl, refl)
 call-asked (message connection s room) = (ask-message connection s room, refl, refl)
 
-module _ (t : Tables) (memory other : List ℕ) (g : Good t) (s : Shown t memory other) where
-  -- ---- a load: it writes all the 4,096 bytes of its file
+-- a call that loads no file leaves the sizes
+module _ (t : Tables) where
+  Stands : Returned → Type 0
+  Stands a = a .tables .files ≡ t .files
 
+  no-stands : (n : ℕ) → 1 ≤ n → Stands (hostRefused n t)
+  unfolding Stands hostRefused
+  no-stands n h = refl
+
+  session-stands : (connection : ℕ) → Stands (addSession t connection)
+  unfolding Stands hostDone withSessions
+  session-stands connection = addSession-either t Stands no-stands connection (λ _ _. refl)
+
+  tree-stands : (uid right : ℕ) → Stands (addTree t uid right)
+  unfolding Stands hostDone withTrees
+  tree-stands uid right = addTree-either t Stands no-stands uid right (λ _ _ _ _. refl)
+
+  open-stands : (uid tid process file access : ℕ) → Stands (addOpen t uid tid process file access)
+  unfolding Stands hostDone withOpens
+  open-stands uid tid process file access = addOpen-either t Stands no-stands uid tid process file access (λ _. refl)
+
+  drop-stands : (connection : ℕ) → Stands (dropConnection t connection)
+  unfolding Stands hostDone
+  drop-stands connection = dropConnection-either t Stands no-stands connection (λ _. files-stand _ t)
+
+module _ (t : Tables) (memory other : List ℕ) (g : Good t) (s : Shown t memory other) where
+  -- a load looks at the file memory's length, and writes all the 4,096 bytes of its file
   load-same : (file : ℕ) (bytes : List ℕ) → loadFile t file bytes memory ≡ loadFile t file bytes other
   unfolding loadFile
   load-same file bytes = rw (s .whole, s .other-whole)
@@ -223,39 +247,14 @@ module _ (t : Tables) (memory other : List ℕ) (g : Good t) (s : Shown t memory
             rw (loadFile-refused t file bytes memory n .same-tables, loadMemory-refused t file bytes memory n, loadMemory-refused t file bytes other n′) s
       ]
 
-  -- ---- the others leave the sizes
-
-  Stands : Returned → Type 0
-  Stands a = a .tables .files ≡ t .files
-
-  no-stands : (n : ℕ) → 1 ≤ n → Stands (hostRefused n t)
-  unfolding Stands hostRefused
-  no-stands n h = refl
-
-  session-stands : (connection : ℕ) → Stands (addSession t connection)
-  unfolding Stands hostDone withSessions
-  session-stands connection = addSession-either t Stands no-stands connection (λ _ _. refl)
-
-  tree-stands : (uid right : ℕ) → Stands (addTree t uid right)
-  unfolding Stands hostDone withTrees
-  tree-stands uid right = addTree-either t Stands no-stands uid right (λ _ _ _ _. refl)
-
-  open-stands : (uid tid process file access : ℕ) → Stands (addOpen t uid tid process file access)
-  unfolding Stands hostDone withOpens
-  open-stands uid tid process file access = addOpen-either t Stands no-stands uid tid process file access (λ _. refl)
-
-  drop-stands : (connection : ℕ) → Stands (dropConnection t connection)
-  unfolding Stands hostDone
-  drop-stands connection = dropConnection-either t Stands no-stands connection (λ _. files-stand _ t)
-
   -- one call: the host is told the same, and what is left shows the same
   pub call-alike : (a : Asked) → (told a t memory ≡ told a t other) × Shown (told a t memory .tables) (memoryLeft a t memory) (memoryLeft a t other)
   unfolding told hostTold messageTold memoryLeft Stands
-  call-alike (ask-session connection) = (refl, files-shown (session-stands connection) s)
-  call-alike (ask-tree uid right) = (refl, files-shown (tree-stands uid right) s)
-  call-alike (ask-open uid tid process file access) = (refl, files-shown (open-stands uid tid process file access) s)
+  call-alike (ask-session connection) = (refl, files-shown (session-stands t connection) s)
+  call-alike (ask-tree uid right) = (refl, files-shown (tree-stands t uid right) s)
+  call-alike (ask-open uid tid process file access) = (refl, files-shown (open-stands t uid tid process file access) s)
   call-alike (ask-load file bytes) = (ap hostTold (load-same file bytes), load-alike file bytes)
-  call-alike (ask-drop connection) = (refl, files-shown (drop-stands connection) s)
+  call-alike (ask-drop connection) = (refl, files-shown (drop-stands t connection) s)
   call-alike (ask-message connection m room) =
       let r = take-message-alike connection m t memory other room g s in
       (λ i. record { number = r .same-number i; beside = r .same-length i; holder = r .same-holder i; tables = r .same-tables i; room = r .same-room i }, r .shown)
@@ -310,8 +309,7 @@ start-shown memory other full full′ =
 pub first-never-shows : (memory other : List ℕ) → length memory ≡ 65536 → length other ≡ 65536 → (calls : List Asked) → history calls noTables memory ≡ history calls noTables other
 first-never-shows memory other full full′ calls = history-alike calls noTables memory other start-good (start-shown memory other full full′)
 
--- said of the tables that a host comes to (Reached.antt): had it lent another file memory first, it would have come to the same tables by the same calls, with every file
--- showing the same bytes
+-- said of the tables that a host comes to (Reached.antt): lending another file memory first it can come to the same tables, with every file showing the same bytes
 pub lending-alike : {lent memory : List ℕ} {t : Tables} (instead : List ℕ) → length lent ≡ 65536 → length instead ≡ 65536 → ReachedLending lent t memory
     → (other : List ℕ) × ReachedLending instead t other × Shown t memory other
 lending-alike {lent} instead full full′ lending-start = (instead, lending-start, start-shown lent instead full full′)

@@ -73,7 +73,7 @@ module _ (t : Tables) (memory : List ℕ) (file size : ℕ) (g : Good t) (full :
   filled = contents t memory file ++ replicate (size - sizeOf t file) 0
 
   old-length : length (contents t memory file) ≡ sizeOf t file
-  old-length = contents-length t memory file (file-inside t memory file 0 (g .sound) full low)
+  old-length = contents-length t memory file (file-inside t memory file (g .sound) full low)
 
   filled-length : length (take size filled) ≡ size
   filled-length =
@@ -114,7 +114,7 @@ module _ (t : Tables) (memory : List ℕ) (file size : ℕ) (g : Good t) (full :
   others-stand : (x : ℕ) → x ≤ 15 → (x ≡ file → ⊥) → contents (withSize t file size) (grown t memory file size) x ≡ contents t memory x
   others-stand x h different =
       let most : sizeOf t x ≤ 4096 = size-most t x (sound-says t (g .sound)) in
-      contents-same t (withSize t file size) memory (grown t memory file size) x (file-inside t memory x 0 (g .sound) full h) (grew .same-length)
+      contents-same t (withSize t file size) memory (grown t memory file size) x (file-inside t memory x (g .sound) full h) (grew .same-length)
       (sized-others t file size x different) (λ i few. grew .other-files x i different (omega arith))
 
   shrunk : size ≤ sizeOf t file → grown t memory file size ≡ memory
