@@ -40,11 +40,11 @@ use Rattle.literals.specs.Replies.{message, lockBlock, lock100, range100
 
 -- ---- requests, of FID 4 where none is named
 
--- READ of that FID: that many bytes from that offset on. The last word, "count left", is not looked at.
+-- the core READ of that FID: that many bytes from that offset on. The last word, "count left", is not looked at.
 unfoldable pub coreRead : ℕ → ℕ → ℕ → List ℕ
 coreRead fid count offset = 5 ∷ fid ∷ 0 ∷ count ∷ 0 ∷ offset ∷ 0 ∷ 0 ∷ 0 ∷ 0x29 ∷ 0x2A ∷ 0 ∷ 0 ∷ []
 
--- WRITE with that count, offset (its two lower bytes), ByteCount, mark and length of its data block, and data
+-- the core WRITE with that count, offset (its two lower bytes), ByteCount, mark and length of its data block, and data
 unfoldable pub coreWrite : ℕ → ℕ → ℕ → ℕ → ℕ → ℕ → List ℕ → List ℕ
 coreWrite count low high bytes mark size data′ =
     (5 ∷ 4 ∷ 0 ∷ count ∷ 0 ∷ low ∷ high ∷ 0 ∷ 0 ∷ 0x29 ∷ 0x2A ∷ bytes ∷ 0 ∷ mark ∷ size ∷ 0 ∷ []) ++ data′
@@ -53,7 +53,7 @@ coreWrite count low high bytes mark size data′ =
 unfoldable pub writeTo : ℕ → ℕ → List ℕ
 writeTo low high = coreWrite 2 low high 5 1 2 (0xBB ∷ 0xCC ∷ [])
 
--- of 258 bytes DD (0x0102) to 0, and a READ of as many
+-- of 258 bytes DD (0x0102) to 0, and a core READ of as many
 unfoldable pub longWrite : List ℕ
 longWrite = (5 ∷ 4 ∷ 0 ∷ 2 ∷ 1 ∷ 0 ∷ 0 ∷ 0 ∷ 0 ∷ 0x29 ∷ 0x2A ∷ 5 ∷ 1 ∷ 1 ∷ 2 ∷ 1 ∷ []) ++ replicate 258 0xDD
 
@@ -63,6 +63,10 @@ longRead = 5 ∷ 4 ∷ 0 ∷ 2 ∷ 1 ∷ 0 ∷ 0 ∷ 0 ∷ 0 ∷ 0x29 ∷ 0x2A �
 -- of count 0
 unfoldable pub sizeTo : ℕ → ℕ → List ℕ
 sizeTo low high = coreWrite 0 low high 3 1 0 []
+
+-- of count 0 to 0x00010004
+unfoldable pub farSize : List ℕ
+farSize = 5 ∷ 4 ∷ 0 ∷ 0 ∷ 0 ∷ 4 ∷ 0 ∷ 1 ∷ 0 ∷ 0x29 ∷ 0x2A ∷ 3 ∷ 0 ∷ 1 ∷ 0 ∷ 0 ∷ []
 
 -- LOCK_BYTE_RANGE or UNLOCK_BYTE_RANGE of that FID: that many bytes from that offset on
 unfoldable pub byteRange : ℕ → ℕ → ℕ → List ℕ
@@ -78,7 +82,7 @@ sent command block = message command 0x7F 0xFF block
 
 -- ---- "a data block not marked 0x01 or whose lengths disagree is 2/1"
 
--- as it should be it is a sentence: a WRITE of 2 bytes, 18 bytes long
+-- as it should be it is a sentence: a core WRITE of 2 bytes, 18 bytes long
 written-whole : blocks (sent 0x0B (writeTo 2 0))
     ≡ some (record { command = 0x0B; at = 32; length = 18; body = CoreWrite (record { fid = 4; offset = 2; count = 2; from = 48 }); next = End } ∷ [])
 unfolding sent writeTo coreWrite message blocks blocksFrom blocksWithin afterParse afterBlock parse parseCoreWrite answer coreWriteFits shaped le16At le32At
@@ -111,6 +115,10 @@ noBlock = coreWrite 0 2 0 0 1 0 []
 unfoldable pub halfBlock : List ℕ
 halfBlock = coreWrite 0 2 0 2 1 0 []
 
+-- count and length 0xFFFD with ByteCount 0: 3 more than the count has 17 bits
+unfoldable pub roundAbout : List ℕ
+roundAbout = 5 ∷ 4 ∷ 0 ∷ 0xFD ∷ 0xFF ∷ 2 ∷ 0 ∷ 0 ∷ 0 ∷ 0x29 ∷ 0x2A ∷ 0 ∷ 0 ∷ 1 ∷ 0xFD ∷ 0xFF ∷ []
+
 pub data-block-none : (Sentence (sent 0x0B wrongMark) → ⊥)
     × (Sentence (sent 0x0B wrongCount) → ⊥)
     × (Sentence (sent 0x0B wrongLength) → ⊥)
@@ -118,7 +126,8 @@ pub data-block-none : (Sentence (sent 0x0B wrongMark) → ⊥)
     × (Sentence (sent 0x0B byteMore) → ⊥)
     × (Sentence (sent 0x0B noBlock) → ⊥)
     × (Sentence (sent 0x0B halfBlock) → ⊥)
-unfolding wrongMark wrongCount wrongLength byteLess byteMore noBlock halfBlock sent coreWrite message blocks blocksFrom blocksWithin afterParse afterBlock parse parseCoreWrite answer coreWriteFits shaped le16At le32At
+    × (Sentence (sent 0x0B roundAbout) → ⊥)
+unfolding wrongMark wrongCount wrongLength byteLess byteMore noBlock halfBlock roundAbout sent coreWrite message blocks blocksFrom blocksWithin afterParse afterBlock parse parseCoreWrite answer coreWriteFits shaped le16At le32At
 data-block-none = (
   no-sentence (sent 0x0B wrongMark) .0 refl,
   no-sentence (sent 0x0B wrongCount) .0 refl,
@@ -127,6 +136,7 @@ data-block-none = (
   no-sentence (sent 0x0B byteMore) .0 refl,
   no-sentence (sent 0x0B noBlock) .0 refl,
   no-sentence (sent 0x0B halfBlock) .0 refl,
+  no-sentence (sent 0x0B roundAbout) .0 refl,
 )
 
 -- the message with that block, and what is to come of it
@@ -137,21 +147,21 @@ row t command block said = record { tables = t; request = sent command block; sa
 unfoldable pub malformed : List Row
 malformed =
     map (λ block. row fewRecords 0x0B block (refusal 0x0B 2 0x01 0x00))
-    (wrongMark ∷ wrongCount ∷ wrongLength ∷ byteLess ∷ byteMore ∷ noBlock ∷ halfBlock ∷ [])
+    (wrongMark ∷ wrongCount ∷ wrongLength ∷ byteLess ∷ byteMore ∷ noBlock ∷ halfBlock ∷ roundAbout ∷ [])
 
 pub malformed-replies : map (λ r. given (r .tables) (r .request)) malformed ≡ map (λ r. r .said) malformed
-unfolding malformed wrongMark wrongCount wrongLength byteLess byteMore noBlock halfBlock row sent coreWrite message fewRecords tablesWith session tree open-of sizes memory given taken take-message dropped startsSmb isReply answered served replied replyOf replyHeader put runChain onlyStatus blocks blocksFrom blocksWithin afterParse afterBlock parse parseCoreWrite answer coreWriteFits shaped le16At le32At statusOf status refusedBlock refusal reply two sound withinRoom fileOk treeOk permits holdsOpen openOk soundRecords lockOk agree agreeAll soundLocks fileOf isTree contains numberOk numbered any all allTails overlaps passesEnd
+unfolding malformed wrongMark wrongCount wrongLength byteLess byteMore noBlock halfBlock roundAbout row sent coreWrite message fewRecords tablesWith session tree open-of sizes memory given taken take-message dropped startsSmb isReply answered served replied replyOf replyHeader put runChain onlyStatus blocks blocksFrom blocksWithin afterParse afterBlock parse parseCoreWrite answer coreWriteFits shaped le16At le32At statusOf status refusedBlock refusal reply two sound withinRoom fileOk treeOk permits holdsOpen openOk soundRecords lockOk agree agreeAll soundLocks fileOf isTree contains numberOk numbered any all allTails overlaps passesEnd
 malformed-replies = refl
 
 -- ---- replies
 
--- of a READ that yields nothing
+-- of a core READ that yields nothing
 unfoldable pub emptyReply : Given
 emptyReply = success 48 0x0A ((0x05 ∷ 0x00 ∷ 0x00 ∷ 0x00 ∷ 0x00 ∷ 0x00 ∷ 0x00 ∷ 0x00 ∷ 0x00 ∷ 0x00 ∷ 0x00 ∷ []) ++ (0x03 ∷ 0x00 ∷ 0x01 ∷ 0x00 ∷ 0x00 ∷ []))
 
--- READ (source document 000): 5 words: "count; reserved (MBZ)", which is eight zero bytes; "length of data + 3" bytes: "Data Block -- 01; length of data; data". File 1
+-- the core READ (source document 000): 5 words: "count; reserved (MBZ)", which is eight zero bytes; "length of data + 3" bytes: "Data Block -- 01; length of data; data". File 1
 -- has 6 bytes: 3 of them from 2 on; 9 from 4 on, of which there are 2; "A read completely beyond the end of file will result in a response of length zero", whose bytes
--- are the mark and the length alone; none asked; and 258 where that is the size
+-- are the mark and the length alone; none asked, also under another's lock; and 258 where that is the size
 unfoldable pub readReplies : List Row
 readReplies =
     row fewRecords 0x0A (coreRead 4 3 2)
@@ -160,11 +170,12 @@ readReplies =
     (success 50 0x0A ((0x05 ∷ 0x02 ∷ 0x00 ∷ 0x00 ∷ 0x00 ∷ 0x00 ∷ 0x00 ∷ 0x00 ∷ 0x00 ∷ 0x00 ∷ 0x00 ∷ []) ++ (0x05 ∷ 0x00 ∷ 0x01 ∷ 0x02 ∷ 0x00 ∷ 0xA4 ∷ 0xA5 ∷ [])))
     ∷ row fewRecords 0x0A (coreRead 4 3 6) emptyReply
     ∷ row fewRecords 0x0A (coreRead 4 0 2) emptyReply
+    ∷ row (opened 2 (lock 7 0 6 ∷ [])) 0x0A (coreRead 4 0 2) emptyReply
     ∷ row (taken fewRecords (sent 0x0B longWrite) .tables) 0x0A longRead
     (success 306 0x0A ((0x05 ∷ 0x02 ∷ 0x01 ∷ 0x00 ∷ 0x00 ∷ 0x00 ∷ 0x00 ∷ 0x00 ∷ 0x00 ∷ 0x00 ∷ 0x00 ∷ []) ++ ((0x05 ∷ 0x01 ∷ 0x01 ∷ 0x02 ∷ 0x01 ∷ 0xA0 ∷ 0xA1 ∷ 0xA2 ∷ 0xA3 ∷ 0xA4 ∷ 0xA5 ∷ []) ++ replicate 252 0x00)))
     ∷ []
 
--- WRITE: 1 word, the count; no byte. 2 bytes at 2, and at 4,094, which is 0x0FFE; 258 bytes
+-- the core WRITE: 1 word, the count; no byte. 2 bytes at 2, and at 4,094, which is 0x0FFE; 258 bytes
 unfoldable pub writeReplies : List Row
 writeReplies =
     row fewRecords 0x0B (writeTo 2 0) (success 37 0x0B (0x01 ∷ 0x02 ∷ 0x00 ∷ 0x00 ∷ 0x00 ∷ []))
@@ -172,12 +183,12 @@ writeReplies =
     ∷ row fewRecords 0x0B longWrite (success 37 0x0B (0x01 ∷ 0x02 ∷ 0x01 ∷ 0x00 ∷ 0x00 ∷ []))
     ∷ []
 
--- where a WRITE of count 0 is done
+-- where a core WRITE of count 0 is done
 unfoldable pub resizedReply : Given
 resizedReply = success 37 0x0B (0x01 ∷ 0x00 ∷ 0x00 ∷ 0x00 ∷ 0x00 ∷ [])
 
--- "A core WRITE of count 0 sets the file's size to the offset (past 4,096 is 3/39)": from 6 to 9, to 4, to 6, to 4,096, which is 0x1000; 4,097 is past it. Of a WRITE of 2
--- bytes 4,095 is.
+-- "A core WRITE of count 0 sets the file's size to the offset (past 4,096 is 3/39)": from 6 to 9, to 4, to 6, to 4,096, which is 0x1000; 4,097 is past it, and 0x10004. Of a core WRITE
+-- of 2 bytes 4,095 is.
 unfoldable pub sizeReplies : List Row
 sizeReplies =
     row fewRecords 0x0B (sizeTo 9 0) resizedReply
@@ -185,11 +196,17 @@ sizeReplies =
     ∷ row fewRecords 0x0B (sizeTo 6 0) resizedReply
     ∷ row fewRecords 0x0B (sizeTo 0x00 0x10) resizedReply
     ∷ row fewRecords 0x0B (sizeTo 0x01 0x10) (refusal 0x0B 3 0x27 0x00)
+    ∷ row fewRecords 0x0B farSize (refusal 0x0B 3 0x27 0x00)
     ∷ row fewRecords 0x0B (writeTo 0xFF 0x0F) (refusal 0x0B 3 0x27 0x00)
     ∷ []
 
+-- a shared lock of the sender, of one byte
+unfoldable pub ownShared : ℕ → Lock
+ownShared offset = record { fid = 4; process = 0x0D0C1B1A; offset = offset; length = 1; shared = true }
+
 -- LOCK_BYTE_RANGE and UNLOCK_BYTE_RANGE: no word, no byte. 10 bytes from 100 on, locked; unlocked where they are, 1/158 where not: nothing is, another length, or a process
--- with another upper half. With 128 locks held, 1/8. 1/87 cannot arise: the top range does not pass 2^64.
+-- with another upper half. With 128 locks held, 1/8. 1/87 cannot arise: the top range does not pass 2^64. A
+-- lock of no byte is granted beside one that is there, and released by its offset and length; a shared one is released like any other.
 unfoldable pub rangeReplies : List Row
 rangeReplies =
     row fewRecords 0x0C (byteRange 4 10 100) (success 35 0x0C (0x00 ∷ 0x00 ∷ 0x00 ∷ []))
@@ -198,6 +215,9 @@ rangeReplies =
     ∷ row (opened 2 (lock 0x0D0C1B1A 100 9 ∷ [])) 0x0D (byteRange 4 10 100) (refusal 0x0D 1 0x9E 0x00)
     ∷ row (opened 2 (lock 0x1B1A 100 10 ∷ [])) 0x0D (byteRange 4 10 100) (refusal 0x0D 1 0x9E 0x00)
     ∷ row (opened 2 (replicate 128 (lock 7 0 0))) 0x0C (byteRange 4 10 100) (refusal 0x0C 1 0x08 0x00)
+    ∷ row (opened 2 (lock 7 100 10 ∷ [])) 0x0C (byteRange 4 0 105) (success 35 0x0C (0x00 ∷ 0x00 ∷ 0x00 ∷ []))
+    ∷ row (opened 2 (lock 0x0D0C1B1A 105 0 ∷ [])) 0x0D (byteRange 4 0 105) (success 35 0x0D (0x00 ∷ 0x00 ∷ 0x00 ∷ []))
+    ∷ row (opened 2 (ownShared 7 ∷ [])) 0x0D (byteRange 4 1 7) (success 35 0x0D (0x00 ∷ 0x00 ∷ 0x00 ∷ []))
     ∷ row fewRecords 0x0C topRange (success 35 0x0C (0x00 ∷ 0x00 ∷ 0x00 ∷ []))
     ∷ []
 
@@ -219,11 +239,7 @@ whoMayAsk =
 
 -- ---- "1/33 lock conflict", and the holder
 
--- a shared lock of the sender, of one byte
-unfoldable pub ownShared : ℕ → Lock
-ownShared offset = record { fid = 4; process = 0x0D0C1B1A; offset = offset; length = 1; shared = true }
-
--- READ of 2 to 5, WRITE to 2 to 4 and LOCK_BYTE_RANGE of 100 to 110 meet what their counterparts meet (Replies.antt)
+-- the core READ of 2 to 5, WRITE to 2 to 4 and LOCK_BYTE_RANGE of 100 to 110 meet what their counterparts meet (Replies.antt)
 unfoldable pub conflicts : List Row
 conflicts =
     row contested 0x0A (coreRead 4 3 2) (heldAt 9 8 3 4 6 false (refusal 0x0A 1 0x21 0x00))
@@ -232,12 +248,14 @@ conflicts =
     ∷ []
 
 -- "for locks it covers the bytes between the old and the new size", under the write's rule. The size is 6. To 4 or to 5: a lock of 4 to 5 is between in the one case, not in
--- the other. To 9: a lock of 8 to 9 is between, of 9 to 10 not. To 6: none is. The sender's own lock is in the way where it is shared. "Order: as written": 1/33 stands
+-- the other, and of 6 to 7 in neither. To 9: a lock of 8 to 9 is between, of 5 to 6 and of 9 to 10 not. To 6: none is. The sender's own lock is in the way where it is shared. "Order: as written": 1/33 stands
 -- before 3/39.
 unfoldable pub sizeConflicts : List Row
 sizeConflicts =
     row (opened 2 (lock 7 4 1 ∷ [])) 0x0B (sizeTo 4 0) (heldAt 4 7 0 4 1 false (refusal 0x0B 1 0x21 0x00))
     ∷ row (opened 2 (lock 7 4 1 ∷ [])) 0x0B (sizeTo 5 0) resizedReply
+    ∷ row (opened 2 (lock 7 6 1 ∷ [])) 0x0B (sizeTo 4 0) resizedReply
+    ∷ row (opened 2 (lock 7 5 1 ∷ [])) 0x0B (sizeTo 9 0) resizedReply
     ∷ row (opened 2 (lock 7 8 1 ∷ [])) 0x0B (sizeTo 9 0) (heldAt 4 7 0 8 1 false (refusal 0x0B 1 0x21 0x00))
     ∷ row (opened 2 (lock 7 9 1 ∷ [])) 0x0B (sizeTo 9 0) resizedReply
     ∷ row (opened 2 (lock 7 0 200 ∷ [])) 0x0B (sizeTo 6 0) resizedReply
@@ -249,7 +267,7 @@ sizeConflicts =
 -- ---- chains
 
 -- "READ and WRITE may end a chain after LOCKING_ANDX": its reply block names 0x0A or 0x0B at 39, where the other stands. Refused there: 1/6, 3/39, and 1/33 by the lock
--- just granted, of process 0x0D0C0051 on 2 to 12. LOCK_BYTE_RANGE and UNLOCK_BYTE_RANGE may not follow, nor READ after WRITE_ANDX: 2/1.
+-- just granted, of process 0x0D0C0051 on 2 to 12. LOCK_BYTE_RANGE and UNLOCK_BYTE_RANGE may not follow, nor the core READ after WRITE_ANDX: 2/1.
 unfoldable pub chains : List Row
 chains =
     row fewRecords 0x24 (lock100 0x0A ++ coreRead 4 3 2)
@@ -274,7 +292,7 @@ table = readReplies ++ (writeReplies ++ (sizeReplies ++ (rangeReplies ++ (whoMay
 
 -- what the definitions give is what the documents say, in every row
 pub core-replies : map (λ r. given (r .tables) (r .request)) table ≡ map (λ r. r .said) table
-unfolding table longWrite longRead topRange emptyReply readReplies writeReplies resizedReply sizeReplies rangeReplies whoMayAsk ownShared conflicts sizeConflicts chains row sent coreRead coreWrite writeTo sizeTo byteRange holderOf message fewRecords tablesWith session tree open-of sizes memory given taken take-message dropped startsSmb isReply answered served replied replyOf replyHeader put runChain onlyStatus blocks blocksFrom blocksWithin afterParse afterBlock before parse answer linkFits linkAt mayFollow shaped bare le16At le32At callerOf run afterGiven after linkTo perform areaOf dataOf status statusOf replyBlock refusedBlock replySize linkWords two withSession isSession withTree withOpen isOpen openAt found foundFrom sound withinRoom fileOk treeOk permits holdsOpen openOk soundRecords lockOk agree agreeAll soundLocks fileOf isTree contains numberOk numbered any all allTails overlaps passesEnd reply success lock100 lockBlock range100 parseLocking lockingFits isLarge rangeSize doLocking servedType requestOf locking request releaseAll afterFind removeAt named afterReleases grantAll afterWalk afterGrants settle rangesOf ofHeader rangesAt rangeAt rangeFrom numberAt rangePasses askOf lockOf answers answersFor inWay bars owns lockingAfter lockingEnd withLockList stored wideOffset doRead unlessBarred barring askBy readBytes contents sizeOf writeBlock parseWrite writeFits dataInside doWrite endsPast resized written withFiles parseBare withLocks refusal opened lock heldAt contested rangeOf holderAt parseCoreWrite coreWriteFits coreSaid asCore rangeBy oneRange doRange smallForm betweenSizes doSetSize doCoreWrite
+unfolding table longWrite longRead topRange farSize emptyReply readReplies writeReplies resizedReply sizeReplies rangeReplies whoMayAsk ownShared conflicts sizeConflicts chains row sent coreRead coreWrite writeTo sizeTo byteRange holderOf message fewRecords tablesWith session tree open-of sizes memory given taken take-message dropped startsSmb isReply answered served replied replyOf replyHeader put runChain onlyStatus blocks blocksFrom blocksWithin afterParse afterBlock before parse answer linkFits linkAt mayFollow shaped bare le16At le32At callerOf run afterGiven after linkTo perform areaOf dataOf status statusOf replyBlock refusedBlock replySize linkWords two withSession isSession withTree withOpen isOpen openAt found foundFrom sound withinRoom fileOk treeOk permits holdsOpen openOk soundRecords lockOk agree agreeAll soundLocks fileOf isTree contains numberOk numbered any all allTails overlaps passesEnd reply success lock100 lockBlock range100 parseLocking lockingFits isLarge rangeSize doLocking servedType requestOf locking request releaseAll afterFind removeAt named afterReleases grantAll afterWalk afterGrants settle rangesOf ofHeader rangesAt rangeAt rangeFrom numberAt rangePasses askOf lockOf answers answersFor inWay bars owns lockingAfter lockingEnd withLockList stored wideOffset doRead unlessBarred barring askBy readBytes contents sizeOf writeBlock parseWrite writeFits dataInside doWrite endsPast resized written withFiles parseBare withLocks refusal opened lock heldAt contested rangeOf holderAt parseCoreWrite coreWriteFits coreSaid asCore rangeBy oneRange doRange smallForm betweenSizes doSetSize doCoreWrite
 core-replies = refl
 
 -- ---- what else the call leaves
