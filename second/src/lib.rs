@@ -1,6 +1,6 @@
 //! The independent second program: the gateway's message core written from
-//! documents 01 and 02 alone, to compare the first program with. It shares no
-//! code with it.
+//! the papers alone (documents 01 and 02, the readings of 02, the sources), to
+//! compare the first program with. It shares no code with it.
 //!
 //! The state is [`tables::Tables`] and a slice of file memory. [`host`] has
 //! the host's calls, [`message::take_message`] takes a message, and [`words`]

@@ -15,7 +15,8 @@ pub struct ReadFields {
     pub max: u16,
 }
 
-// What a WRITE block asks: `count` bytes of the message, from place `from` on, go to the offset.
+// What a WRITE block asks: `count` bytes of the message, from place `from` on, go to the offset. A core WRITE of
+// count 0 sets the file's size to the offset.
 pub struct WriteFields {
     pub fid: u16,
     pub offset: u64,

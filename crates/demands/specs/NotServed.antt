@@ -1,5 +1,5 @@
 -- "2/22 header command not served" (document 01, "Refusals on the wire"), exactly: of the messages fit to be answered those, and only those, whose header's
--- command is none of the seven. Assumes nothing.
+-- command is none of the eleven. Assumes nothing.
 use mathlib.Core.Path.{_≡_, refl, sym, ap, _∙_}
 use mathlib.Core.Logic.{_↔_, inl, inr}
 use Prim.Native.Nat.{ℕ, _+_, _*_}

@@ -74,11 +74,12 @@ sendAll connection s (b ∷ bs) t memory =
 
 -- ---- comparing
 
--- a block's AndX words (bytes 1 to 4, where it has them: LOCKING's and LOGOFF's 2 words, WRITE's 6 and READ's 12 begin with them) and a READ's data offset
--- (bytes 13 and 14 of a block of 12 words) "set by Reply blocks"
+-- a READ's data offset, bytes 13 and 14 of a block of 12 words, "set by Reply blocks"
 unfoldable pub placed : ℕ → List ℕ → List ℕ
 placed place block = cond (eqb (byteAt block 0) 12) (put block 13 (two (place + 27))) block
 
+-- and the AndX words, bytes 1 to 4, where a block has them: LOCKING's and LOGOFF's 2 words, WRITE's 6 and READ's 12 begin with them; a core READ's 5 and a core WRITE's 1
+-- do not, and a block of 0 words has none
 unfoldable pub hasLink : ℕ → Bool
 hasLink words = eqb words 2 || (eqb words 6 || eqb words 12)
 

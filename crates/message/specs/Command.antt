@@ -154,7 +154,8 @@ doRead c t memory f =
     (unlessBarred t (barring t (askBy c (f .fid) (f .offset) (f .max) Reading))
     (done t memory (read (readBytes t memory (o .file) (f .offset) (f .max))))))
 
--- what every write is refused for, in this order, and what it gives otherwise: "or a write on access 0"; 1/33 for what it asks of the locks; 3/39
+-- what every write is refused for, and what it gives otherwise: through an open (2/91, 2/5, 1/6), "1/5 is .. a write on access 0", 1/33 for what it asks of the locks, 3/39 where
+-- it is past the file's room
 abbrev pub writing : Caller → Tables → ℕ → (Open → Ask) → Bool → (Open → Given) → Given
 writing c t fid ask past next =
     withOpen c t fid

@@ -24,7 +24,7 @@ use Rattle.message.specs.declared.link.Link.{Link}
 use Rattle.message.specs.declared.link.Link.the-variants.{None as noLink, Next as next}
 use Rattle.message.specs.declared.refusal.Refusal.the-variants.{NotServed, NotSentence}
 
--- a block's byte area, and a write's data, as parts of the message
+-- a block's byte area, and a WRITE_ANDX's data, as parts of the message; of another command's block nobody looks at the latter
 unfoldable pub areaOf : List ℕ → Block → List ℕ
 areaOf s b = take (byteCount s (b .at)) (drop (byteArea s (b .at)) s)
 

@@ -29,7 +29,7 @@ linkWords (next command place) = command ∷ 0 ∷ two place
 -- "LOCKING and LOGOFF: 2 words. READ: 12 words: AndX, 0xFFFF, 0, 0, length, data offset, ten zero bytes; the bytes are the
 -- data. WRITE: 6 words: AndX, count, 0xFFFF, four zero bytes. Others: 0 words." The block stands at `place`; a READ's data
 -- stand behind its 27 bytes before them. The core READ (source document 000): 5 words: count, eight zero bytes; the bytes are a data block, 0x01,
--- length, data. The core WRITE: 1 word, the count.
+-- length, data. The core WRITE: 1 word, the count. LOCK_BYTE_RANGE and UNLOCK_BYTE_RANGE are among the others.
 unfoldable pub replyBlock : Said → ℕ → Link → List ℕ
 replyBlock locked place link = 2 ∷ (linkWords link ++ (0 ∷ 0 ∷ []))
 replyBlock loggedOff place link = 2 ∷ (linkWords link ++ (0 ∷ 0 ∷ []))

@@ -16,7 +16,7 @@ pub data UnreadWord (command k : ℕ) : Type 0 where
   write-word : command ≡ WRITE → 11 ≤ k → k < 21 → UnreadWord command k
   -- "CLOSE: FID 2, time 4": time
   close-word : command ≡ CLOSE → 3 ≤ k → k < 7 → UnreadWord command k
-  -- the core READ and WRITE: "FID, count 2, offset 4, remaining 2": remaining
+  -- the core READ and WRITE (source document 000): FID 2, count 2, offset 4, and the bytes that remain, 2, which are "advisory"
   core-read-word : command ≡ CORE-READ → 9 ≤ k → k < 11 → UnreadWord command k
   core-write-word : command ≡ CORE-WRITE → 9 ≤ k → k < 11 → UnreadWord command k
 
