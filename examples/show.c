@@ -7,6 +7,8 @@
 
 #define FIRST_BLOCK 32 /* the first block stands behind the header */
 #define NO_COMMAND 0xFF /* an AndXCommand that ends the chain */
+#define CORE_READ 0x0A
+#define DATA_BLOCK 3 /* bytes before a core READ's data: a mark, and the length in two bytes */
 #define DUMP_WIDTH 16
 
 /* A status as it stands in a header: class at 5, 0, code at 7. */
@@ -34,12 +36,24 @@ static const struct status statuses[] = {
 struct command {
     unsigned number;
     const char *name;
+    bool andx; /* whether the words of its reply begin with AndX, which name the next block's command and place */
 };
 
 static const struct command commands[] = {
-    {0x04, "CLOSE"},      {0x11, "PROCESS_EXIT"},    {0x24, "LOCKING_ANDX"}, {0x2E, "READ_ANDX"},
-    {0x2F, "WRITE_ANDX"}, {0x71, "TREE_DISCONNECT"}, {0x74, "LOGOFF_ANDX"},
+    {0x04, "CLOSE", false},
+    {CORE_READ, "READ", false},
+    {0x0B, "WRITE", false},
+    {0x0C, "LOCK_BYTE_RANGE", false},
+    {0x0D, "UNLOCK_BYTE_RANGE", false},
+    {0x11, "PROCESS_EXIT", false},
+    {0x24, "LOCKING_ANDX", true},
+    {0x2E, "READ_ANDX", true},
+    {0x2F, "WRITE_ANDX", true},
+    {0x71, "TREE_DISCONNECT", false},
+    {0x74, "LOGOFF_ANDX", true},
 };
+
+static const struct command not_served = {0, "a command that is not served", false};
 
 const char *number_in_words(uint8_t number)
 {
@@ -91,12 +105,12 @@ static const char *status_in_words(unsigned class, unsigned code)
     return "a status that is not defined";
 }
 
-static const char *command_name(unsigned number)
+static const struct command *find_command(unsigned number)
 {
     for (size_t place = 0; place < sizeof commands / sizeof commands[0]; place++)
         if (commands[place].number == number)
-            return commands[place].name;
-    return "a command that is not served";
+            return &commands[place];
+    return &not_served;
 }
 
 static unsigned get_word(const uint8_t *bytes)
@@ -128,9 +142,30 @@ static void show_dump(const uint8_t *bytes, size_t length)
     }
 }
 
+static const char *plural(size_t number)
+{
+    return number == 1 ? "" : "s";
+}
+
+/* The bytes of a block. A core READ's are a data block. */
+static void show_bytes(const uint8_t *reply, size_t start, size_t length, unsigned command)
+{
+    if (command == CORE_READ && length >= DATA_BLOCK) {
+        printf("    data block at %zu: mark %u, length %u\n", start, reply[start], get_word(reply + start + 1));
+        start += DATA_BLOCK;
+        length -= DATA_BLOCK;
+    }
+    if (length == 0)
+        return;
+    printf("    data at %zu: \"", start);
+    put_text(reply + start, length);
+    printf("\"\n");
+}
+
 /* Shows a block and answers where the next one stands: 0 if there is none. A block is WordCount, words, ByteCount, bytes. */
 static size_t show_block(const uint8_t *reply, size_t length, size_t start, unsigned command)
 {
+    const struct command *served = find_command(command);
     size_t words = start < length ? reply[start] : 0;
     size_t data = start + 1 + 2 * words + 2;
     size_t bytes = data <= length ? get_word(reply + data - 2) : 0;
@@ -138,22 +173,21 @@ static size_t show_block(const uint8_t *reply, size_t length, size_t start, unsi
         printf("  block at %zu: passes the end of the reply\n", start);
         return 0;
     }
-    printf("  block at %zu: %s (%02X), %zu words, %zu bytes\n", start, command_name(command), command, words, bytes);
+    printf("  block at %zu: %s (%02X), %zu word%s, %zu byte%s\n", start, served->name, command, words, plural(words), bytes,
+           plural(bytes));
     if (words == 0)
         return 0;
     printf("    words");
     put_hex(reply + start + 1, 2 * words);
     putchar('\n');
-    if (bytes > 0) {
-        printf("    data at %zu: \"", data);
-        put_text(reply + data, bytes);
-        printf("\"\n");
-    }
+    show_bytes(reply, data, bytes, command);
+    if (!served->andx)
+        return 0;
     size_t next = get_word(reply + start + 3);
     return reply[start + 1] != NO_COMMAND && next > start ? next : 0;
 }
 
-/* In a reply every block with words has AndX words, which name the next block's command and place. */
+/* The first block is the header's command's; each AndX block names the next one. */
 static void show_blocks(const uint8_t *reply, size_t length)
 {
     unsigned command = reply[4];
