@@ -1,5 +1,8 @@
 /*
- * The SMB1 message core as a C library (libgateway.a).
+ * The SMB1 message core as a C library (libgateway.a). It answers eleven requests: CLOSE 0x04, READ 0x0A, WRITE 0x0B,
+ * LOCK_BYTE_RANGE 0x0C, UNLOCK_BYTE_RANGE 0x0D, PROCESS_EXIT 0x11, LOCKING_ANDX 0x24, READ_ANDX 0x2E, WRITE_ANDX 0x2F,
+ * TREE_DISCONNECT 0x71 and LOGOFF_ANDX 0x74. READ, WRITE, LOCK_BYTE_RANGE and UNLOCK_BYTE_RANGE are the core commands of the
+ * oldest benches: like their ANDX counterparts, but for what docs/HOST.md says of them.
  *
  * The host owns all memory. The tables are one struct of 64-bit words that the host keeps between calls, as it does the
  * file memory; the library keeps nothing. Start with gateway_empty. Calls on the same tables or the same file memory must
@@ -73,14 +76,15 @@ struct gateway_open {
 
 struct gateway_lock {
     uint64_t fid;     /* its open's; fits up to 65,535 */
-    uint64_t process; /* its range's 16 bits, above them PIDHigh of the request that took it; fits up to 4,294,967,295 */
+    uint64_t process; /* its range's 16 bits (a LOCK_BYTE_RANGE's PIDLow), above them PIDHigh of the request that took it;
+                         fits up to 4,294,967,295 */
     uint64_t offset;  /* the first byte locked */
     uint64_t length;  /* how many bytes */
-    uint64_t shared;  /* 1 shared, 0 exclusive; nothing else fits */
+    uint64_t shared;  /* 1 shared, 0 exclusive, as a LOCK_BYTE_RANGE's always is; nothing else fits */
 };
 
 struct gateway_file {
-    uint64_t size; /* how many of the file's bytes in the file memory count, up to 4,096 */
+    uint64_t size; /* how many of the file's bytes in the file memory count, up to 4,096; those behind are never sent */
 };
 
 /* The tables. In each the records in use stand first, as many as the count says; locks in order of grant. */
@@ -158,6 +162,10 @@ uint8_t gateway_drop_connection(struct gateway_tables *tables, uint32_t connecti
  * Carries out one request message of a connection. On GATEWAY_DONE the reply is the first *reply_length bytes of the
  * room, the bytes behind it are as they were, and *holder says whose lock is in the way, or is all 0 if the message was not
  * refused 1/33; the reply does not tell it. memory_length must be GATEWAY_MEMORY and room_length at least GATEWAY_ROOM.
+ *
+ * A file's size grows by a write that ends behind it. It becomes smaller, or larger with no byte written, by a core WRITE of
+ * count 0, which sets it to the offset: where it grows zeros are put behind the old size; where it shrinks the bytes stay in
+ * the file memory, but a later growth puts zeros over them, so they are not sent again.
  */
 uint8_t gateway_take_message(struct gateway_tables *tables, uint32_t connection, const uint8_t *message,
                              size_t message_length, uint8_t *memory, size_t memory_length, uint8_t *room,
