@@ -163,9 +163,9 @@ uint8_t gateway_drop_connection(struct gateway_tables *tables, uint32_t connecti
  * room, the bytes behind it are as they were, and *holder says whose lock is in the way, or is all 0 if the message was not
  * refused 1/33; the reply does not tell it. memory_length must be GATEWAY_MEMORY and room_length at least GATEWAY_ROOM.
  *
- * A file's size grows by a write that ends behind it. It becomes smaller, or larger with no byte written, by a core WRITE of
- * count 0, which sets it to the offset: where it grows zeros are put behind the old size; where it shrinks the bytes stay in
- * the file memory, but a later growth puts zeros over them, so they are not sent again.
+ * A file's size grows by a write that ends behind it. A core WRITE of count 0 sets it to the offset, at most 4,096: where the
+ * file grows zeros are put behind the old size; where it shrinks the bytes stay in the file memory, but are not sent again,
+ * since what lets the file grow later puts zeros or its own bytes over them.
  */
 uint8_t gateway_take_message(struct gateway_tables *tables, uint32_t connection, const uint8_t *message,
                              size_t message_length, uint8_t *memory, size_t memory_length, uint8_t *room,
