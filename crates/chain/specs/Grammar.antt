@@ -32,7 +32,7 @@ pub record Data (s : List ℕ) (at words : ℕ) : Type 0 where
 pub record MarkedData (s : List ℕ) (at : ℕ) : Type 0 where
   pub shape : Shape s at 5
   pub marked : dataMark s at ≡ 1
-  pub counted : markedLength s at ≡ coreCount s at
+  pub agreed : markedLength s at ≡ coreCount s at
   pub filled : byteCount s at ≡ 3 + coreCount s at
 
 -- The rows of the table: the block at a place, by its command. Type bit 0x10 makes a range 20 bytes long.

@@ -127,8 +127,8 @@ abbrev pub markedData : List ℕ → ℕ → ℕ
 markedData s at = byteArea s at + 3
 
 -- LOCK_BYTE_RANGE and UNLOCK_BYTE_RANGE: FID 2, count 4, offset 4
-abbrev pub rangeCount : List ℕ → ℕ → ℕ
-rangeCount s at = le32At s (at + 3)
+abbrev pub rangeLength : List ℕ → ℕ → ℕ
+rangeLength s at = le32At s (at + 3)
 
 abbrev pub rangeOffset : List ℕ → ℕ → ℕ
 rangeOffset s at = le32At s (at + 7)

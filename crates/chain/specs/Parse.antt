@@ -6,7 +6,7 @@ use mathlib.Core.List.{List}
 use lib.ListN.{length}
 use lib.Dec.{leb, eqb}
 use Rattle.locks.specs.Wire.{rangeSize}
-use Rattle.chain.specs.Layout.{CLOSE, PROCESS_EXIT, LOCKING, READ, WRITE, TREE_DISCONNECT, LOGOFF, CORE-READ, CORE-WRITE, LOCK_BYTE_RANGE, UNLOCK_BYTE_RANGE, NO_COMMAND, wordCount, byteArea, byteCount, blockEnd, andxCommand, andxOffset, fidAfterAndx, lockType, unlockCount, lockCount, offsetLow, readMax, readOffsetHigh, dataLength, dataOffset, writeOffsetHigh, firstFid, coreCount, coreOffset, dataMark, markedLength, markedData, rangeCount, rangeOffset}
+use Rattle.chain.specs.Layout.{CLOSE, PROCESS_EXIT, LOCKING, READ, WRITE, TREE_DISCONNECT, LOGOFF, CORE-READ, CORE-WRITE, LOCK_BYTE_RANGE, UNLOCK_BYTE_RANGE, NO_COMMAND, wordCount, byteArea, byteCount, blockEnd, andxCommand, andxOffset, fidAfterAndx, lockType, unlockCount, lockCount, offsetLow, readMax, readOffsetHigh, dataLength, dataOffset, writeOffsetHigh, firstFid, coreCount, coreOffset, dataMark, markedLength, markedData, rangeLength, rangeOffset}
 use Rattle.chain.specs.declared.block.Body.{Body}
 use Rattle.chain.specs.declared.block.Body.the-variants.{Locking, Read, Write, Close, Logoff, TreeDisconnect, ProcessExit, CoreRead, CoreWrite, LockByteRange, UnlockByteRange}
 use Rattle.chain.specs.declared.block.RangeFields.{RangeFields}
@@ -103,7 +103,7 @@ unfoldable pub parseCoreWrite : List ℕ → ℕ → Parsed
 parseCoreWrite s at = answer s CORE-WRITE at (coreWriteFits s at) (coreWriteAt s at) End
 
 abbrev pub rangeFields : List ℕ → ℕ → RangeFields
-rangeFields s at = record { fid = firstFid s at; offset = rangeOffset s at; length = rangeCount s at }
+rangeFields s at = record { fid = firstFid s at; offset = rangeOffset s at; length = rangeLength s at }
 
 -- the block at a place, by its command; no other request is served
 unfoldable pub parse : List ℕ → ℕ → ℕ → Parsed

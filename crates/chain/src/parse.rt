@@ -18,7 +18,7 @@ use crate::place::LOCK_TYPE;
 use crate::place::LOCKS;
 use crate::place::MARKED_DATA;
 use crate::place::OFFSET;
-use crate::place::RANGE_COUNT;
+use crate::place::RANGE_LENGTH;
 use crate::place::RANGE_OFFSET;
 use crate::place::READ_MAX;
 use crate::place::READ_OFFSET_HIGH;
@@ -138,7 +138,7 @@ fn range_fields(s: &[u8], at: usize) -> RangeFields
 {
     let fid = wire::le16_at(s, at + FIRST_FID);
     let offset = wire::le32_at(s, at + RANGE_OFFSET);
-    let length = wire::le32_at(s, at + RANGE_COUNT);
+    let length = wire::le32_at(s, at + RANGE_LENGTH);
     RangeFields {
         fid,
         offset,

@@ -39,6 +39,6 @@ pub(crate) const MARKED_LENGTH: usize = 14;
 pub(crate) const MARKED_DATA: usize = 16;
 
 // LOCK_BYTE_RANGE and UNLOCK_BYTE_RANGE.
-pub(crate) const RANGE_COUNT: usize = 3;
+pub(crate) const RANGE_LENGTH: usize = 3;
 
 pub(crate) const RANGE_OFFSET: usize = 7;

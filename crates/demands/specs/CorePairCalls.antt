@@ -17,7 +17,7 @@ use Rattle.records.specs.declared.Tables.{Tables}
 use Rattle.locks.specs.Wire.{rangeSize, rangeAt}
 use Rattle.locks.specs.Request.{ofHeader}
 use Rattle.locks.specs.declared.types.LockRange.{LockRange}
-use Rattle.chain.specs.Layout.{LOCKING, READ, WRITE, CORE-READ, CORE-WRITE, LOCK_BYTE_RANGE, UNLOCK_BYTE_RANGE, headerCommand, FIRST, wordCount, byteArea, byteCount, andxCommand, andxOffset, fidAfterAndx, lockType, unlockCount, lockCount, offsetLow, readMax, readOffsetHigh, dataLength, dataOffset, writeOffsetHigh, firstFid, coreCount, coreOffset, markedData, rangeCount, rangeOffset}
+use Rattle.chain.specs.Layout.{LOCKING, READ, WRITE, CORE-READ, CORE-WRITE, LOCK_BYTE_RANGE, UNLOCK_BYTE_RANGE, headerCommand, FIRST, wordCount, byteArea, byteCount, andxCommand, andxOffset, fidAfterAndx, lockType, unlockCount, lockCount, offsetLow, readMax, readOffsetHigh, dataLength, dataOffset, writeOffsetHigh, firstFid, coreCount, coreOffset, markedData, rangeLength, rangeOffset}
 use Rattle.chain.specs.Grammar.{IsBlock, Span, ReadingFrom, plain-end, andx-end, andx-next, Reading}
 use Rattle.chain.specs.Parse.{shaped, isLarge, lockingFits, wideOffset, rangeFields}
 use Rattle.chain.specs.Chain.{blocksFrom, blocks}
@@ -59,7 +59,7 @@ pub data EqualReadWrite (s : List ℕ) (at : ℕ) (t : List ℕ) (to : ℕ) : �
 
 -- the range of a LOCK_BYTE_RANGE or an UNLOCK_BYTE_RANGE: "the process from the header"
 abbrev pub coreRange : List ℕ → LockRange
-coreRange s = record { process = senderProcess s; offset = rangeOffset s FIRST; length = rangeCount s FIRST }
+coreRange s = record { process = senderProcess s; offset = rangeOffset s FIRST; length = rangeLength s FIRST }
 
 -- a core command's block at 32 in s and its counterpart's at 32 in t have equal fields. LOCK_BYTE_RANGE: "the lock is exclusive", and the LOCKING locks that one range
 -- and unlocks none; UNLOCK_BYTE_RANGE: it unlocks that one range and locks none. Its range is in either form (LockEffects.antt: `RangeOn`).

@@ -48,7 +48,7 @@ marked-block {s} {at} h = core-write-exact s at .0 (fits-complete s at h)
 
 bad-no-block : {s : List ℕ} {at : ℕ} → BadDataBlock s at → IsBlock s at CORE-WRITE → ⊥
 bad-no-block (not-marked n) h = n (marked-block h .marked)
-bad-no-block (other-length n) h = n (marked-block h .counted)
+bad-no-block (other-length n) h = n (marked-block h .agreed)
 bad-no-block (other-bytes n) h = n (marked-block h .filled)
 
 -- a reading begins with a block of the table, and with AndX words that do not end it goes on with one

@@ -12,7 +12,7 @@ use Rattle.records.specs.declared.Open.{Open}
 use Rattle.records.specs.declared.Tables.{Tables}
 use Rattle.records.specs.Empty.{noOpen}
 use Rattle.records.specs.Held.{opensOf, locksOf}
-use Rattle.chain.specs.Layout.{CLOSE, PROCESS_EXIT, LOCKING, READ, WRITE, TREE_DISCONNECT, LOGOFF, CORE-READ, CORE-WRITE, LOCK_BYTE_RANGE, UNLOCK_BYTE_RANGE, headerCommand, FIRST, fidAfterAndx, readMax, dataLength, firstFid, coreCount, coreOffset, rangeCount, rangeOffset}
+use Rattle.chain.specs.Layout.{CLOSE, PROCESS_EXIT, LOCKING, READ, WRITE, TREE_DISCONNECT, LOGOFF, CORE-READ, CORE-WRITE, LOCK_BYTE_RANGE, UNLOCK_BYTE_RANGE, headerCommand, FIRST, fidAfterAndx, readMax, dataLength, firstFid, coreCount, coreOffset, rangeLength, rangeOffset}
 use Rattle.chain.specs.Grammar.{Span, Reading}
 use Rattle.chain.specs.Parse.{wideOffset, rangeFields}
 use Rattle.chain.specs.declared.block.Body.{Body}
@@ -80,7 +80,7 @@ BarsSizeOn s t o =
 
 -- "the lock is exclusive": a listed lock of that file overlaps it (of a message of bytes offset and count are the fields: Processes.antt, `range-whole`)
 abbrev pub BarsRangeOn : List ℕ → Tables → Open → Type 0
-BarsRangeOn s t o = InWay t o (locksOf t) (rangeOffset s FIRST % 4294967296) (rangeCount s FIRST % 4294967296) AnyLock
+BarsRangeOn s t o = InWay t o (locksOf t) (rangeOffset s FIRST % 4294967296) (rangeLength s FIRST % 4294967296) AnyLock
 
 module _ (connection : ℕ) (s : List ℕ) {spans : List Span} (r : Reading s spans) (t : Tables) (memory room : List ℕ) (fit : Fit s t memory room) (o : Open)
     (valid : Admitted (callerOf connection s) t (firstFid s FIRST) o) where

@@ -11,7 +11,7 @@ use Rattle.records.specs.declared.Open.{Open}
 use Rattle.records.specs.declared.Tables.{Tables}
 use Rattle.records.specs.Held.{locksOf}
 use Rattle.locks.specs.declared.types.Holder.{Holder}
-use Rattle.chain.specs.Layout.{LOCKING, READ, WRITE, CORE-READ, CORE-WRITE, LOCK_BYTE_RANGE, headerCommand, FIRST, fidAfterAndx, lockType, unlockCount, lockCount, readMax, dataLength, firstFid, coreCount, coreOffset, rangeCount, rangeOffset}
+use Rattle.chain.specs.Layout.{LOCKING, READ, WRITE, CORE-READ, CORE-WRITE, LOCK_BYTE_RANGE, headerCommand, FIRST, fidAfterAndx, lockType, unlockCount, lockCount, readMax, dataLength, firstFid, coreCount, coreOffset, rangeLength, rangeOffset}
 use Rattle.chain.specs.Grammar.{Span, Reading}
 use Rattle.chain.specs.Parse.{wideOffset, rangeFields}
 use Rattle.chain.specs.Chain.{blocks}
@@ -167,6 +167,6 @@ module _ (connection : ℕ) (s : List ℕ) {spans : List Span} (r : Reading s sp
 
   -- a LOCK_BYTE_RANGE: the first "listed lock of that file" that "overlaps it"
   pub core-lock-first : headerCommand s ≡ LOCK_BYTE_RANGE
-      → FirstMeets (call connection s t memory room) h ↔ FirstInWay t o (locksOf t) (rangeOffset s FIRST % 4294967296) (rangeCount s FIRST % 4294967296) AnyLock h
+      → FirstMeets (call connection s t memory room) h ↔ FirstInWay t o (locksOf t) (rangeOffset s FIRST % 4294967296) (rangeLength s FIRST % 4294967296) AnyLock h
   unfolding bodyAt CommandHeld
   core-lock-first e = Iff·trans (by-command LOCK_BYTE_RANGE e) (range-through (fit .tables-sound) (rangeFields s FIRST) valid)

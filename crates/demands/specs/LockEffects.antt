@@ -20,7 +20,7 @@ use Rattle.records.specs.Held.{locksOf, withLocks}
 use Rattle.locks.specs.Wire.{rangeSize, numberAt, rangeFrom, rangeAt, rangesAt}
 use Rattle.locks.specs.Request.{ofHeader, lockOf}
 use Rattle.locks.specs.declared.types.LockRange.{LockRange}
-use Rattle.chain.specs.Layout.{LOCKING, LOCK_BYTE_RANGE, UNLOCK_BYTE_RANGE, headerCommand, FIRST, byteArea, byteCount, fidAfterAndx, lockType, unlockCount, lockCount, firstFid, rangeCount, rangeOffset}
+use Rattle.chain.specs.Layout.{LOCKING, LOCK_BYTE_RANGE, UNLOCK_BYTE_RANGE, headerCommand, FIRST, byteArea, byteCount, fidAfterAndx, lockType, unlockCount, lockCount, firstFid, rangeLength, rangeOffset}
 use Rattle.chain.specs.Grammar.{Span, Reading}
 use Rattle.chain.specs.Chain.{blocks}
 use Rattle.chain.specs.Parse.{rangeFields}
@@ -119,7 +119,7 @@ pub record LockRangeDone (connection : ℕ) (s : List ℕ) (t : Tables) (memory 
   pub of-fid : lock .fid ≡ firstFid s FIRST
   pub of-process : lock .process ≡ senderProcess s
   pub of-offset : lock .offset ≡ rangeOffset s FIRST % 4294967296
-  pub of-length : lock .length ≡ rangeCount s FIRST % 4294967296
+  pub of-length : lock .length ≡ rangeLength s FIRST % 4294967296
   pub exclusive : lock .shared ≡ false
   -- no listed lock was in its way, and there was a record for it
   pub free : InWay t through (locksOf t) (lock .offset) (lock .length) AnyLock → ⊥
@@ -139,7 +139,7 @@ pub record UnlockRangeDone (connection : ℕ) (s : List ℕ) (t : Tables) (memor
   pub range : LockRange
   pub of-process : range .process ≡ senderProcess s
   pub of-offset : range .offset ≡ rangeOffset s FIRST % 4294967296
-  pub of-length : range .length ≡ rangeCount s FIRST % 4294967296
+  pub of-length : range .length ≡ rangeLength s FIRST % 4294967296
   pub unlocked : TakenOut (firstFid s FIRST) range (locksOf t) (locksOf (call .tables))
   pub other-tables : call .tables ≡ withLockList t (call .tables .locks) (call .tables .nlocks)
   pub whole : call .tables ≡ withLocks t (locksOf (call .tables))

@@ -20,7 +20,7 @@ use Rattle.numbers.specs.Number.{contains}
 use Rattle.numbers.specs.Column.{fidOf}
 use Rattle.locks.specs.Range.{Overlap}
 use Rattle.locks.specs.declared.types.LockRange.{LockRange}
-use Rattle.chain.specs.Layout.{LOCKING, READ, WRITE, CORE-READ, CORE-WRITE, UNLOCK_BYTE_RANGE, headerCommand, FIRST, fidAfterAndx, readMax, dataLength, lockType, unlockCount, lockCount, firstFid, coreCount, coreOffset, rangeCount, rangeOffset}
+use Rattle.chain.specs.Layout.{LOCKING, READ, WRITE, CORE-READ, CORE-WRITE, UNLOCK_BYTE_RANGE, headerCommand, FIRST, fidAfterAndx, readMax, dataLength, lockType, unlockCount, lockCount, firstFid, coreCount, coreOffset, rangeLength, rangeOffset}
 use Rattle.chain.specs.Grammar.{Span, ReadingFrom, plain-end, andx-end, andx-next, Reading}
 use Rattle.chain.specs.Parse.{rangeFields}
 use Rattle.chain.specs.declared.block.Body.the-variants.{Logoff}
@@ -101,7 +101,7 @@ module _ (s : List ℕ) (b : Bytes s) where
 
   -- of a message of bytes the range of a LOCK_BYTE_RANGE or an UNLOCK_BYTE_RANGE is the one of its fields: offset and count, and the sender's process with both halves
   pub range-whole : (connection : ℕ)
-      → coreRange (callerOf connection s) (rangeFields s FIRST) ≡ record { process = senderProcess s; offset = rangeOffset s FIRST; length = rangeCount s FIRST }
+      → coreRange (callerOf connection s) (rangeFields s FIRST) ≡ record { process = senderProcess s; offset = rangeOffset s FIRST; length = rangeLength s FIRST }
   unfolding callerOf
   range-whole connection = rw (whole-32 (FIRST + 7), whole-32 (FIRST + 3))
 

@@ -130,14 +130,14 @@ module _ (s : List ℕ) (at : ℕ) where
       record {
         shape = shaped-sound 5 (h .0);
         marked = eqb-true (dataMark s at) 1 (m .0);
-        counted = eqb-true (markedLength s at) (coreCount s at) (l .0);
+        agreed = eqb-true (markedLength s at) (coreCount s at) (l .0);
         filled = eqb-true (byteCount s at) (3 + coreCount s at) (l .1);
       }
 
   marked-complete : MarkedData s at → coreWriteFits s at ≡ true
   unfolding coreWriteFits
   marked-complete h =
-      rw (shaped-complete 5 (h .shape), eq-eqb (dataMark s at) 1 (h .marked), eq-eqb (markedLength s at) (coreCount s at) (h .counted), eq-eqb (byteCount s at) (3 + coreCount s at) (h .filled))
+      rw (shaped-complete 5 (h .shape), eq-eqb (dataMark s at) 1 (h .marked), eq-eqb (markedLength s at) (coreCount s at) (h .agreed), eq-eqb (byteCount s at) (3 + coreCount s at) (h .filled))
 
   -- the test of a request served finds a block of the table
   pub fits-sound : {command : ℕ} → Served command → fits s command at ≡ true → IsBlock s at command

@@ -11,7 +11,7 @@ use lib.ListN.{length}
 use lib.Dec.{eqb}
 use borrow.Author.Tests.{eqb-true}
 use Rattle.wire.specs.LittleEndian.{byteAt, le16At, le32At}
-use Rattle.chain.specs.Layout.{CLOSE, PROCESS_EXIT, LOCKING, READ, WRITE, CORE-READ, CORE-WRITE, LOCK_BYTE_RANGE, UNLOCK_BYTE_RANGE, wordCount, byteArea, byteCount, blockEnd, fidAfterAndx, lockType, unlockCount, lockCount, offsetLow, readMax, readOffsetHigh, dataLength, dataOffset, writeOffsetHigh, firstFid, coreCount, coreOffset, dataMark, markedLength, rangeCount, rangeOffset}
+use Rattle.chain.specs.Layout.{CLOSE, PROCESS_EXIT, LOCKING, READ, WRITE, CORE-READ, CORE-WRITE, LOCK_BYTE_RANGE, UNLOCK_BYTE_RANGE, wordCount, byteArea, byteCount, blockEnd, fidAfterAndx, lockType, unlockCount, lockCount, offsetLow, readMax, readOffsetHigh, dataLength, dataOffset, writeOffsetHigh, firstFid, coreCount, coreOffset, dataMark, markedLength, rangeLength, rangeOffset}
 use Rattle.chain.specs.Grammar.{Shape, Bare, Ranges, Data, MarkedData, IsBlock, locking-10, locking-20, read-10, read-12, write-12, write-14, close, logoff, tree-disconnect, process-exit, core-read, core-write, lock-byte-range, unlock-byte-range, NamedAndx, locking-andx, read-andx, write-andx, Plain, close-plain, tree-disconnect-plain, process-exit-plain, core-read-plain, core-write-plain, lock-byte-range-plain, unlock-byte-range-plain}
 use Rattle.chain.specs.Parse.{wideOffset, rangeFields}
 use Rattle.chain.specs.declared.block.Body.{Body}
@@ -153,7 +153,7 @@ module _ {s : List ℕ} {at : ℕ} {t : List ℕ} {to : ℕ} {command : ℕ} (m 
     moved-core-offset : coreOffset t to ≡ coreOffset s at
     moved-core-offset = kept-32 5 (omega arith) (λ i _ q. core-kept i (omega arith))
 
-    moved-range-count : rangeCount t to ≡ rangeCount s at
+    moved-range-count : rangeLength t to ≡ rangeLength s at
     moved-range-count = kept-32 3 (omega arith) (λ i _ q. core-kept i (omega arith))
 
     moved-range-offset : ((k : ℕ) → UnreadWord command k → ⊥) → rangeOffset t to ≡ rangeOffset s at
@@ -266,7 +266,7 @@ module _ {s : List ℕ} {at : ℕ} {t : List ℕ} {to : ℕ} {command : ℕ} (m 
         let e : byteArea t to + 1 + j ≡ byteArea t to + (1 + j) = omega arith in
         let g : byteArea s at + 1 + j ≡ byteArea s at + (1 + j) = omega arith in
         rw (e, g) (look (1 + j) (omega arith))) in
-        record { shape = moved-shape (d .shape); marked = mark ∙ d .marked; counted = rw (long, n) (d .counted); filled = rw (moved-count, n) (d .filled) }
+        record { shape = moved-shape (d .shape); marked = mark ∙ d .marked; agreed = rw (long, n) (d .agreed); filled = rw (moved-count, n) (d .filled) }
 
 -- "each block in turn makes a message ..., then the block at 32": a block that moved is a block by the same row of the table
 pub moved-block : {s : List ℕ} {at : ℕ} {t : List ℕ} {to command : ℕ} → IsBlock s at command → Moved s at t to command → IsBlock t to command
