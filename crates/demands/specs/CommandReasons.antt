@@ -3,10 +3,10 @@
 -- is given just where its reason holds. Assumes nothing.
 use mathlib.Core.Path.{_≡_, refl, sym, ap, _∙_}
 use mathlib.Core.Logic.{_⊎_, inl, inr, _↔_}
-use Prim.Native.Nat.{ℕ, min, max, _+_, _-_, _*_, _/_, _%_, _^_, _≤_, _<_}
+use Prim.Native.Nat.{ℕ, _+_, _*_, _/_, _%_, _^_, _≤_, _<_}
 use native.Mathlib.Omega.{arith}
 use mathlib.Core.Bool.{true, false, not, _||_, and-false}
-use mathlib.Core.List.{List, [], _∷_, _++_, map, List·Memᴰ·eq-of-singleton as only-one}
+use mathlib.Core.List.{List, [], _∷_, _++_, map}
 use mathlib.Core.Option.{Option, none, some}
 use lib.ListN.{length, getD}
 use lib.Dec.{leb, ltb, eqb}
@@ -41,11 +41,11 @@ use Rattle.message.specs.declared.caller.Caller.{Caller}
 use Rattle.message.specs.Refusal.{status, statusOf}
 use Rattle.message.specs.declared.refusal.Status.{Status}
 use Rattle.message.specs.declared.refusal.Refusal.the-variants.{NoAccess, LockType}
-use Rattle.message.specs.Contents.{sizeOf, readBytes}
+use Rattle.message.specs.Contents.{readBytes}
 use Rattle.message.specs.Command.{Given, refused, done, read, withSession, withTree, withOpen, servedType, requestOf, lockingEnd, lockingAfter, doLocking, askBy, unlessBarred, barring, doRead, endsPast, doWrite, asCore, rangeBy, oneRange, doRange, betweenSizes, doSetSize, doCoreWrite, perform}
-use Rattle.demands.specs.LoneLock.{May, InWay, Owner, BarsLock, BarsSize, BarsRange, read-conflict as read-exact, sharedIn, exclusive-way, range-back}
+use Rattle.demands.specs.LoneLock.{May, InWay, Owner, BarsLock, lowerSize, sizesApart, BarsSize, BarsRange, read-conflict as read-exact, sharedIn, exclusive-way, range-back}
 use Rattle.demands.specs.Admitted.{SessionHere, Admitted, NoSessionFor, NoTreeFor, NoOpenFor, admitted-may, session-or, tree-or, open-or, with-session, with-tree, with-open, session-given, tree-given, open-given}
-use Rattle.demands.specs.LockWords.{Released, Unnamed, Releasing, all-released, one-unnamed, release-means, released-is, unnamed-is, released-was, PastEnd, past-means, past-is, AllGranted, OneBlocked, Opened, Granting, all-granted, one-blocked, grant-means, granted-is, blocked-is, none-to-release, none-released, none-unnamed, one-released, one-names-none, names-none, none-to-grant, grant-then, none-granted, blocked-here, none-blocked, one-barred, one-more, one-granted}
+use Rattle.demands.specs.LockWords.{Released, Unnamed, Releasing, all-released, one-unnamed, release-means, released-is, unnamed-is, released-was, PastEnd, past-means, past-is, one-past, AllGranted, OneBlocked, Opened, Granting, all-granted, one-blocked, grant-means, granted-is, blocked-is, none-to-release, none-released, none-unnamed, one-released, one-names-none, names-none, none-to-grant, grant-then, none-granted, blocked-here, none-blocked, one-barred, one-more, one-granted}
 use Rattle.demands.specs.WritingReasons.{WritingStatus, conflicts-status, other-status, writing-reason, writing-given}
 use Rattle.demands.specs.CoreReasons.{LockStatus, lock-not, lock-barred, lock-full, lock-done, UnlockStatus, unlock-not, unlock-unnamed, unlock-done, out-listed, listed-out, out-fits}
 
@@ -461,13 +461,13 @@ module _ (c : Caller) (t : Tables) (memory : List ℕ) (ok : sound t ≡ true) w
     set-size-reason : SetSizeStatus c t f (statusIn (doSetSize c t memory f))
     unfolding doSetSize betweenSizes statusIn
     set-size-reason =
-        writing-reason c t memory ok (f .fid) (λ o. min (sizeOf t (o .file)) (f .offset)) (λ o. max (sizeOf t (o .file)) (f .offset) - min (sizeOf t (o .file)) (f .offset)) (ltb 4096 (f .offset)) _ (λ o. refl)
+        writing-reason c t memory ok (f .fid) (lowerSize t (f .offset)) (sizesApart t (f .offset)) (ltb 4096 (f .offset)) _ (λ o. refl)
         (ltb-true 4096 (f .offset), lt-ltb 4096 (f .offset)) (ltb-false 4096 (f .offset), le-ltb 4096 (f .offset))
 
     set-size-given : {n : Status} → SetSizeStatus c t f n → statusIn (doSetSize c t memory f) ≡ n
     unfolding doSetSize betweenSizes statusIn
     set-size-given =
-        writing-given c t memory ok (f .fid) (λ o. min (sizeOf t (o .file)) (f .offset)) (λ o. max (sizeOf t (o .file)) (f .offset) - min (sizeOf t (o .file)) (f .offset)) (ltb 4096 (f .offset)) _ (λ o. refl)
+        writing-given c t memory ok (f .fid) (lowerSize t (f .offset)) (sizesApart t (f .offset)) (ltb 4096 (f .offset)) _ (λ o. refl)
         (ltb-true 4096 (f .offset), lt-ltb 4096 (f .offset)) (ltb-false 4096 (f .offset), le-ltb 4096 (f .offset))
 
     core-write-reason : CoreWriteStatus c t f (statusIn (doCoreWrite c t memory f bytes))
@@ -491,11 +491,7 @@ module _ (c : Caller) (t : Tables) (memory : List ℕ) (ok : sound t ≡ true) w
     its-range = ofHeader (c .process / 65536) (rangeAt false its-area 0)
 
     not-past : PastEnd (its-range ∷ []) → ⊥
-    unfolding PastEnd
-    not-past w =
-        let e = only-one (w .1) ∙ range-back c f in
-        let past : 2 ^ 64 < f .offset % 4294967296 + f .length % 4294967296 = rw e at (w .2) in
-        omega arith
+    not-past w = let past : 2 ^ 64 < f .offset % 4294967296 + f .length % 4294967296 = rw (range-back c f) at (one-past its-range w) in omega arith
 
     bars-exact : {o : Open} → BarsLock t o (locksOf t) false its-range ↔ BarsRange c t f o
     bars-exact = (λ w. exclusive-way .0 (rw (range-back c f) at w), λ w. rw (range-back c f) (exclusive-way .1 w))

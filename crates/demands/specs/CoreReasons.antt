@@ -24,7 +24,8 @@ use Rattle.demands.specs.LockWords.{Named, TakenOut, this-one, later-one
 
 -- ---- the reasons
 
--- LOCK_BYTE_RANGE: 1/33 a listed lock of the file that overlaps it, 1/8 "no lock record free": 128 are held already. "2/65535 and 1/87 can't arise", nor 1/158: it unlocks nothing.
+-- LOCK_BYTE_RANGE: 1/33 a listed lock of the file that overlaps it, 1/8 "no lock record free": 128 are held already. 2/65535 and 1/87 can't arise, nor 1/158: it unlocks
+-- nothing.
 pub data LockStatus (c : Caller) (t : Tables) (f : RangeFields) : Status → Type 0 where
   -- 2/91, 2/5 or 1/6: Admitted.antt
   lock-not : {n : Status} → NoOpenFor c t (f .fid) n → LockStatus c t f n

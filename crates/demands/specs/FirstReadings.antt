@@ -2,7 +2,7 @@
 -- call and of the message's bytes: of any reading for the first command, and of a reading of one block for every status. Assumes nothing.
 use mathlib.Core.Path.{_≡_}
 use mathlib.Core.Logic.{_↔_, Iff·trans}
-use Prim.Native.Nat.{ℕ, min, max, _-_, _%_}
+use Prim.Native.Nat.{ℕ, _%_}
 use mathlib.Core.Bool.{false}
 use mathlib.Core.List.{List, [], _∷_}
 use lib.ListN.{getD, drop}
@@ -23,11 +23,10 @@ use Rattle.message.specs.Caller.{callerOf}
 use Rattle.message.specs.Refusal.{status}
 use Rattle.message.specs.declared.refusal.Status.{Status}
 use Rattle.message.specs.declared.caller.Caller.{Caller}
-use Rattle.message.specs.Contents.{sizeOf}
 use Rattle.message.specs.Command.{doRead, doWrite, doCoreWrite, perform}
 use Rattle.message.specs.Message.{areaOf, dataOf, take-message}
 use Rattle.demands.specs.Calls.{statusRead}
-use Rattle.demands.specs.LoneLock.{Conflicts, May, InWay, Owner, AnyLock, read-conflict, write-conflict, size-conflict, core-conflict, range-conflict}
+use Rattle.demands.specs.LoneLock.{Conflicts, May, InWay, Owner, lowerSize, sizesApart, AnyLock, read-conflict, write-conflict, size-conflict, core-conflict, range-conflict}
 use Rattle.demands.specs.LoneCall.{FirstConflict, first-conflict, first-read-call, first-write-call, one-says, lockingFields, lockingArea}
 use Rattle.demands.specs.Admitted.{Admitted, admitted-may}
 use Rattle.demands.specs.CoreReasons.{LockStatus, UnlockStatus}
@@ -75,7 +74,7 @@ BarsCoreWriteOn s t o =
 -- "for locks it covers the bytes between the old and the new size"
 abbrev pub BarsSizeOn : List ℕ → Tables → Open → Type 0
 BarsSizeOn s t o =
-    InWay t o (locksOf t) (min (sizeOf t (o .file)) (coreOffset s FIRST)) (max (sizeOf t (o .file)) (coreOffset s FIRST) - min (sizeOf t (o .file)) (coreOffset s FIRST))
+    InWay t o (locksOf t) (lowerSize t (coreOffset s FIRST) o) (sizesApart t (coreOffset s FIRST) o)
     (λ l. (l .shared ≡ false) × Owner (firstFid s FIRST) (senderProcess s) l → ⊥)
 
 -- "the lock is exclusive": a listed lock of that file overlaps it (of a message of bytes offset and count are the fields: Processes.antt, `range-whole`)

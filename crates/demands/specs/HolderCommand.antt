@@ -2,7 +2,7 @@
 -- Assumes nothing.
 use mathlib.Core.Path.{_≡_, refl, sym, ap, _∙_}
 use mathlib.Core.Logic.{_↔_, inl, inr, Iff·trans}
-use Prim.Native.Nat.{ℕ, min, max, _+_, _-_, _*_, _/_, _%_, _<_}
+use Prim.Native.Nat.{ℕ, _+_, _*_, _/_, _%_, _<_}
 use native.Mathlib.Omega.{arith}
 use mathlib.Core.Bool.{Bool, true, false, cond}
 use mathlib.Core.List.{List, List·Memᴰ as In}
@@ -42,9 +42,8 @@ use Rattle.message.specs.declared.caller.Caller.{Caller}
 use Rattle.message.specs.Refusal.{status, statusOf}
 use Rattle.message.specs.declared.refusal.Status.{Status}
 use Rattle.message.specs.declared.refusal.Refusal.the-variants.{NoAccess, NoSpace, Conflict}
-use Rattle.message.specs.Contents.{sizeOf}
 use Rattle.message.specs.Command.{Given, refused, done, withOpen, servedType, requestOf, lockingEnd, lockingAfter, doLocking, askBy, unlessBarred, barring, doRead, writing, endsPast, doWrite, asCore, rangeBy, oneRange, doRange, betweenSizes, doSetSize, doCoreWrite, perform}
-use Rattle.demands.specs.LoneLock.{May, sharedIn, read-bars, write-bars}
+use Rattle.demands.specs.LoneLock.{May, lowerSize, sizesApart, sharedIn, read-bars, write-bars}
 use Rattle.demands.specs.Admitted.{Admitted, no-session, before-tree, no-tree, NoOpenFor, before-open, no-open, admitted-may, open-or, with-open, open-given}
 use Rattle.demands.specs.LockWords.{never, Released, Releasing, all-released, one-unnamed, release-means, released-is, released-was, past-means, past-is, Opened}
 use Rattle.demands.specs.CommandReasons.{Announced, OnlyTwoBits, served-exact, unlocksIn, locksIn}
@@ -229,8 +228,7 @@ module _ (c : Caller) (t : Tables) (memory : List ℕ) (ok : sound t ≡ true) w
   size-exact : (f : WriteFields) (h : Holder) → Names (doSetSize c t memory f) h ↔ SizeHeld c t f h
   unfolding doSetSize betweenSizes
   size-exact f h =
-      writing-exact (f .fid) (λ o. min (sizeOf t (o .file)) (f .offset)) (λ o. max (sizeOf t (o .file)) (f .offset) - min (sizeOf t (o .file)) (f .offset)) (ltb 4096 (f .offset)) _ h
-      (λ o e. never cc)
+      writing-exact (f .fid) (lowerSize t (f .offset)) (sizesApart t (f .offset)) (ltb 4096 (f .offset)) _ h (λ o e. never cc)
 
   core-write-exact : (f : WriteFields) (bytes : List ℕ) (h : Holder) → Names (doCoreWrite c t memory f bytes) h ↔ CoreWriteHeld c t f h
   unfolding doCoreWrite

@@ -2,7 +2,7 @@
 -- alone in its request the first listed lock that is in the way; of the core commands likewise. Assumes nothing.
 use mathlib.Core.Path.{_≡_, sym, ap, _∙_}
 use mathlib.Core.Logic.{_↔_, Iff·trans}
-use Prim.Native.Nat.{ℕ, min, max, _-_, _%_}
+use Prim.Native.Nat.{ℕ, _%_}
 use native.Mathlib.Omega.{arith}
 use mathlib.Core.Bool.{false}
 use mathlib.Core.List.{List, [], _∷_}
@@ -24,12 +24,11 @@ use Rattle.message.specs.Refusal.{status, holderOf}
 use Rattle.message.specs.declared.refusal.Status.{Status}
 use Rattle.message.specs.declared.refusal.HeldBy.the-variants.{Holder as held-by}
 use Rattle.message.specs.declared.refusal.Refusal.the-variants.{Conflict}
-use Rattle.message.specs.Contents.{sizeOf}
 use Rattle.message.specs.Command.{Given, refused}
 use Rattle.message.specs.Message.{areaOf, dataOf, Ran, Taken}
 use Rattle.demands.specs.Calls.{sentence-answered}
 use Rattle.demands.specs.MessageReasons.{done-exact}
-use Rattle.demands.specs.LoneLock.{Conflicts, Owner, AnyLock}
+use Rattle.demands.specs.LoneLock.{Conflicts, Owner, lowerSize, sizesApart, AnyLock}
 use Rattle.demands.specs.LoneCall.{WithinRange, first-given, first-conflict, alone-conflict, lockingFields, lockingArea}
 use Rattle.demands.specs.Admitted.{Admitted}
 use Rattle.demands.specs.CommandReasons.{Announced, OnlyTwoBits}
@@ -160,7 +159,7 @@ module _ (connection : ℕ) (s : List ℕ) {spans : List Span} (r : Reading s sp
   -- one of count 0: the first of these that overlaps the bytes between the file's size and the offset
   pub set-size-first : headerCommand s ≡ CORE-WRITE → coreCount s FIRST ≡ 0 → (o .access ≡ 0 → ⊥)
       → FirstMeets (call connection s t memory room) h
-      ↔ FirstInWay t o (locksOf t) (min (sizeOf t (o .file)) (coreOffset s FIRST)) (max (sizeOf t (o .file)) (coreOffset s FIRST) - min (sizeOf t (o .file)) (coreOffset s FIRST))
+      ↔ FirstInWay t o (locksOf t) (lowerSize t (coreOffset s FIRST) o) (sizesApart t (coreOffset s FIRST) o)
       (λ l. (l .shared ≡ false) × Owner (firstFid s FIRST) (senderProcess s) l → ⊥) h
   unfolding bodyAt callerOf CommandHeld
   set-size-first e none may = Iff·trans (by-command CORE-WRITE e) (size-set (fit .tables-sound) (coreWriteFields s) valid may none)

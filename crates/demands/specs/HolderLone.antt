@@ -2,12 +2,11 @@
 -- (document 02, CR 3). Assumes nothing.
 use mathlib.Core.Path.{_≡_, refl, sym, _∙_}
 use mathlib.Core.Logic.{_↔_}
-use Prim.Native.Nat.{ℕ, min, max, _+_, _-_, _/_, _%_, _^_, _≤_, _<_}
+use Prim.Native.Nat.{ℕ, _+_, _/_, _%_, _^_, _≤_, _<_}
 use native.Mathlib.Nat.{add-zero}
 use native.Mathlib.Omega.{arith}
 use mathlib.Core.Bool.{true, false}
-use mathlib.Core.List.{List, [], _∷_, List·Memᴰ as In, List·Memᴰ·eq-of-singleton as only-one}
-use Rattle.lists.specs.Truth.{not-decided-twice}
+use mathlib.Core.List.{List, [], _∷_}
 use Rattle.records.specs.declared.Open.{Open}
 use Rattle.records.specs.declared.Lock.{Lock}
 use Rattle.records.specs.declared.Tables.{Tables}
@@ -23,12 +22,11 @@ use Rattle.chain.specs.declared.block.RangeFields.{RangeFields}
 use Rattle.invariants.specs.Numbered.{numbered-same}
 use Rattle.invariants.specs.SoundParts.{sound-says}
 use Rattle.message.specs.declared.caller.Caller.{Caller}
-use Rattle.message.specs.Contents.{sizeOf}
 use Rattle.message.specs.Command.{rangeBy, oneRange}
-use Rattle.demands.specs.LoneLock.{Owner, AnyLock, coreRange, loneRange, sharedIn, exclusive-way, lone-back}
+use Rattle.demands.specs.LoneLock.{Owner, lowerSize, sizesApart, AnyLock, coreRange, loneRange, sharedIn, any-clash, exclusive-way, lone-back}
 use Rattle.demands.specs.LoneCall.{WithinRange}
 use Rattle.demands.specs.Admitted.{Admitted}
-use Rattle.demands.specs.LockWords.{none-to-release, none-released, PastEnd, none-to-grant, none-granted}
+use Rattle.demands.specs.LockWords.{none-to-release, none-released, PastEnd, one-past, none-to-grant, none-granted}
 use Rattle.demands.specs.CommandReasons.{OnlyTwoBits, rangesBy, locksIn}
 use Rattle.demands.specs.HolderWords.{FirstInWay, TransferHeld, CoreWriteHeld, write-held, size-held, LockHeld, RangeLockHeld}
 
@@ -67,10 +65,10 @@ module _ {c : Caller} {t : Tables} (ok : sound t ≡ true) (f : LockingFields) (
       rw (same-open ok a (r .admitted), all, at) at (w .first)
 
   not-past : WithinRange f area → PastEnd (locksIn c f area) → ⊥
-  unfolding PastEnd rangesAt ofHeader
+  unfolding rangesAt ofHeader
   not-past low p =
-      let m : In (p .0) (ofHeader (c .process / 65536) (loneRange f area) ∷ []) = rw (none-out, one) at (p .1) in
-      let past : 2 ^ 64 < loneRange f area .offset + loneRange f area .length = rw (only-one m) at (p .2) in
+      let only : PastEnd (ofHeader (c .process / 65536) (loneRange f area) ∷ []) = rw (none-out, one) at p in
+      let past : 2 ^ 64 < loneRange f area .offset + loneRange f area .length = one-past _ only in
       omega arith
 
   pub first-lone : {h : Holder} → OnlyTwoBits (f .kind) → WithinRange f area → LoneHeld t o f area h → LockHeld c t f area h
@@ -97,7 +95,7 @@ module _ {c : Caller} {t : Tables} (ok : sound t ≡ true) (f : LockingFields) (
 -- an exclusive lock asked for and a listed one are not both shared
 exclusive-first : {t : Tables} {o : Open} {list : List Lock} {offset size : ℕ} {h : Holder}
     → FirstInWay t o list offset size (λ l. (l .shared ≡ true) × (false ≡ true) → ⊥) h ↔ FirstInWay t o list offset size AnyLock h
-exclusive-first = (
+exclusive-first {h = h} = (
   λ w. record {
     in-list = w .in-list;
     stands-there = w .stands-there;
@@ -111,7 +109,7 @@ exclusive-first = (
     stands-there = w .stands-there;
     of-file = w .of-file;
     overlap = w .overlap;
-    clash = λ b. not-decided-twice false (b .1) refl;
+    clash = any-clash (h .lock);
     none-before = λ b. w .none-before (exclusive-way .0 b);
   },
 )
@@ -141,7 +139,7 @@ module _ {c : Caller} {t : Tables} (ok : sound t ≡ true) (f : WriteFields) {o 
 
   pub size-set : f .count ≡ 0
       → CoreWriteHeld c t f h
-      ↔ FirstInWay t o (locksOf t) (min (sizeOf t (o .file)) (f .offset)) (max (sizeOf t (o .file)) (f .offset) - min (sizeOf t (o .file)) (f .offset))
+      ↔ FirstInWay t o (locksOf t) (lowerSize t (f .offset) o) (sizesApart t (f .offset) o)
       (λ l. (l .shared ≡ false) × Owner (f .fid) (c .process) l → ⊥) h
   size-set none =
       let x = through-exact ok a may in

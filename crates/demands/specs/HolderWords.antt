@@ -1,7 +1,7 @@
 -- Who holds the lock, in plain words (document 02, CR 2: "the place of the first conflicting lock in the list as it then stands", for "Locks, reads and writes"; CR 3 for the
 -- core commands). What is in the way is said as for the refusal itself (LoneLock.antt, CommandReasons.antt). Assumes nothing.
 use mathlib.Core.Path.{_≡_}
-use Prim.Native.Nat.{ℕ, min, max, _+_, _-_, _/_, _%_, _<_}
+use Prim.Native.Nat.{ℕ, _+_, _/_, _%_, _<_}
 use mathlib.Core.Bool.{Bool, true, false}
 use mathlib.Core.List.{List, map}
 use lib.ListN.{length, take, getD}
@@ -22,8 +22,7 @@ use Rattle.chain.specs.declared.block.RangeFields.{RangeFields}
 use Rattle.chain.specs.declared.block.Body.{Body}
 use Rattle.chain.specs.declared.block.Body.the-variants.{Locking as LockingBody, Read as ReadBody, Write as WriteBody, Close, Logoff, TreeDisconnect, ProcessExit, CoreRead as CoreReadBody, CoreWrite as CoreWriteBody, LockByteRange, UnlockByteRange}
 use Rattle.message.specs.declared.caller.Caller.{Caller}
-use Rattle.message.specs.Contents.{sizeOf}
-use Rattle.demands.specs.LoneLock.{OfFile, Owner, InWay, AnyLock, coreRange, sharedIn}
+use Rattle.demands.specs.LoneLock.{OfFile, Owner, InWay, lowerSize, sizesApart, AnyLock, coreRange, sharedIn}
 use Rattle.demands.specs.Admitted.{Admitted}
 use Rattle.demands.specs.LockWords.{Released, PastEnd, AllGranted}
 use Rattle.demands.specs.CommandReasons.{OnlyTwoBits, unlocksIn, locksIn}
@@ -60,14 +59,14 @@ WriteHeld c t f h = WritingHeld c t (f .fid) (λ o. f .offset) (λ o. f .count) 
 -- of a core WRITE with count 0, which "covers the bytes between the old and the new size"; with any other count it is a WRITE
 abbrev pub SizeHeld : Caller → Tables → WriteFields → Holder → Type 0
 SizeHeld c t f h =
-    WritingHeld c t (f .fid) (λ o. min (sizeOf t (o .file)) (f .offset)) (λ o. max (sizeOf t (o .file)) (f .offset) - min (sizeOf t (o .file)) (f .offset)) h
+    WritingHeld c t (f .fid) (lowerSize t (f .offset)) (sizesApart t (f .offset)) h
 
 pub data CoreWriteHeld (c : Caller) (t : Tables) (f : WriteFields) (h : Holder) : Type 0 where
   write-held : (f .count ≡ 0 → ⊥) → WriteHeld c t f h → CoreWriteHeld c t f h
   size-held : f .count ≡ 0 → SizeHeld c t f h → CoreWriteHeld c t f h
 
--- "locks in order, each against the list as it stands": ranges of an area from the k-th on, `asked` of them, with that upper half of their processes, on a list. `granted` of them were granted, none having a
--- lock in its way; their locks, of the request's FID and each range's process, stand behind the list; there the next one has a lock in its way.
+-- "locks in order, each against the list as it stands": ranges of an area from the k-th on, `asked` of them, with that upper half of their processes, on a list. `granted` of
+-- them were granted, none having a lock in its way; their locks, of the request's FID and each range's process, stand behind the list; there the next one has a lock in its way.
 pub record RangeHeld (t : Tables) (o : Open) (fid high : ℕ) (shared large : Bool) (area : List ℕ) (k asked : ℕ) (list : List Lock) (h : Holder) : Type 0 where
   pub granted : ℕ
   pub fewer : granted < asked

@@ -227,6 +227,10 @@ pub past-is : (rs : List LockRange) → PastEnd rs → any rangePasses rs ≡ tr
 unfolding PastEnd rangePasses passesEnd
 past-is rs w = one-any rangePasses (w .1) (lt-ltb (2 ^ 64) (w .0 .offset + w .0 .length) (w .2))
 
+pub one-past : (r : LockRange) → PastEnd (r ∷ []) → 2 ^ 64 < r .offset + r .length
+unfolding PastEnd
+one-past r w = rw (only-one (w .1)) at (w .2)
+
 -- ---- locks
 
 -- "Then locks in order, each against the list as it stands, the asker's own locks included, however long it gets": no lock of the list is in the way of any

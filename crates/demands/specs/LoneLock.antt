@@ -73,12 +73,16 @@ pub record InWay (t : Tables) (o : Open) (list : List Lock) (offset size : ℕ) 
 abbrev pub BarsLock : Tables → Open → List Lock → Bool → LockRange → Type 0
 BarsLock t o list shared r = InWay t o list (r .offset) (r .length) (λ l. (l .shared ≡ true) × (shared ≡ true) → ⊥)
 
--- in the way of a core WRITE of count 0, which sets the file's size to the offset: of the bytes from the smaller to the larger of the two, "any lock .. save the writer's own
--- exclusive ones"
+-- the bytes between the size of an open's file and an offset (document 02, CR 3: "between the old and the new size"): from the smaller of the two on, as many as up to the larger
+abbrev pub lowerSize : Tables → ℕ → Open → ℕ
+lowerSize t offset o = min (sizeOf t (o .file)) offset
+
+abbrev pub sizesApart : Tables → ℕ → Open → ℕ
+sizesApart t offset o = max (sizeOf t (o .file)) offset - min (sizeOf t (o .file)) offset
+
+-- in the way of a core WRITE of count 0, which "sets the file's size to the offset": of these bytes "any lock .. save the writer's own exclusive ones"
 abbrev pub BarsSize : Caller → Tables → WriteFields → Open → Type 0
-BarsSize c t f o =
-    InWay t o (locksOf t) (min (sizeOf t (o .file)) (f .offset)) (max (sizeOf t (o .file)) (f .offset) - min (sizeOf t (o .file)) (f .offset))
-    (λ l. (l .shared ≡ false) × Owner (f .fid) (c .process) l → ⊥)
+BarsSize c t f o = InWay t o (locksOf t) (lowerSize t (f .offset) o) (sizesApart t (f .offset) o) (λ l. (l .shared ≡ false) × Owner (f .fid) (c .process) l → ⊥)
 
 -- the range of a LOCK_BYTE_RANGE or an UNLOCK_BYTE_RANGE: "the process from the header"; offset and length have 32 bits, as many as their fields (of a message of bytes:
 -- Processes.antt, `range-whole`)
@@ -236,7 +240,7 @@ module _ (c : Caller) (t : Tables) (memory : List ℕ) (k : ℕ) (ok : sound t �
       → Conflicts (doSetSize c t memory f) ↔ BarsSize c t f (asked c t (f .fid) k may)
   unfolding doSetSize betweenSizes
   size-conflict f may access =
-      writing-conflict (f .fid) (λ o. min (sizeOf t (o .file)) (f .offset)) (λ o. max (sizeOf t (o .file)) (f .offset) - min (sizeOf t (o .file)) (f .offset)) (ltb 4096 (f .offset))
+      writing-conflict (f .fid) (lowerSize t (f .offset)) (sizesApart t (f .offset)) (ltb 4096 (f .offset))
       (λ o. done (withSize t (o .file) (f .offset)) (grown t memory (o .file) (f .offset)) (coreWrote 0)) (λ o. done-not _ _ _) may access
 
 -- ---- a lone lock
@@ -302,7 +306,7 @@ unfolding oneRange rangeBy
 lone-back c f = small-back (rangeBy c f)
 
 -- an exclusive lock asked for and a listed one are not both shared
-any-clash : (l : Lock) → (l .shared ≡ true) × (false ≡ true) → ⊥
+pub any-clash : (l : Lock) → (l .shared ≡ true) × (false ≡ true) → ⊥
 any-clash l h = not-decided-twice false (h .1) refl
 
 pub exclusive-way : {t : Tables} {o : Open} {list : List Lock} {offset size : ℕ}
