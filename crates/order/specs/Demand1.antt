@@ -1,15 +1,18 @@
 -- Demand 1 of the order, sentence by sentence. Assumes nothing.
 use mathlib.Core.Path.{_≡_}
-use mathlib.Core.Logic.{_↔_}
+use mathlib.Core.Logic.{_↔_, Iff·trans}
 use Prim.Native.Nat.{ℕ, _≤_}
 use mathlib.Core.List.{List, [], _∷_, _++_}
 use lib.ListN.{length, length-replicate}
 use Rattle.wire.specs.LittleEndian.{byteAt}
 use Rattle.records.specs.declared.Tables.{Tables}
 use Rattle.host.specs.HostCall.{addSession, addTree, addOpen, loadFile, loadMemory, dropConnection}
-use Rattle.chain.specs.Layout.{LOCKING, READ, WRITE, CLOSE, LOGOFF, TREE_DISCONNECT, PROCESS_EXIT, FIRST, firstFid}
+use Rattle.chain.specs.Layout.{LOCKING, READ, WRITE, CLOSE, LOGOFF, TREE_DISCONNECT, PROCESS_EXIT, CORE-READ, CORE-WRITE, LOCK_BYTE_RANGE, UNLOCK_BYTE_RANGE, FIRST, firstFid, coreCount}
 use Rattle.chain.specs.Grammar.{Span, Reading, Sentence}
+use Rattle.chain.specs.Parse.{rangeFields}
+use Rattle.chain.specs.declared.block.WriteFields.{WriteFields}
 use Rattle.message.specs.Message.{Taken, notTaken, take-message}
+use Rattle.message.specs.declared.caller.Caller.{Caller}
 use Rattle.message.specs.declared.refusal.Status.{Status}
 use Rattle.message.specs.declared.refusal.HeldBy.the-variants.{Nobody}
 use Rattle.invariants.specs.Sound.{Good}
@@ -17,10 +20,11 @@ use Rattle.claims.specs.HostReasons.{SessionReason, TreeReason, OpenReason, Loa
 use Rattle.claims.specs.HostAnswer.{Unchanged, addSession-refused, addTree-refused, addOpen-refused, loadFile-refused, loadMemory-refused, dropConnection-refused}
 use Rattle.demands.specs.MessageReasons.{MessageReason, take-message-reason, take-message-given}
 use Rattle.demands.specs.NotServed.{Known, not-served-exact}
-use Rattle.demands.specs.CommandReasons.{SessionStatus, TreeStatus, CloseStatus, ReadStatus, WriteStatus}
-use Rattle.demands.specs.WireFields.{readFields, writeFields}
+use Rattle.demands.specs.CoreReasons.{LockStatus, UnlockStatus}
+use Rattle.demands.specs.CommandReasons.{SessionStatus, TreeStatus, CloseStatus, ReadStatus, WriteStatus, SetSizeStatus, CoreWriteStatus, some-count, count-0}
+use Rattle.demands.specs.WireFields.{readFields, writeFields, coreReadFields, coreWriteFields}
 use Rattle.demands.specs.LockReasons.{LockingReason, locking-reason-exact}
-use Rattle.demands.specs.FirstReadings.{read-exact, write-exact, close-exact, disconnect-exact, logoff-exact, exit-exact}
+use Rattle.demands.specs.FirstReadings.{read-exact, write-exact, close-exact, disconnect-exact, logoff-exact, exit-exact, core-read-exact, core-write-exact, lock-exact, unlock-exact}
 use Rattle.demands.specs.RoomKept.{RoomKept, refused-writes-nothing, room-kept}
 use Rattle.demands.specs.SpansRefused.{AllCarried, spans-refused}
 use Rattle.demands.specs.CallsOneByOne.{Calls}
@@ -53,6 +57,16 @@ pub record StatusForItsReason : Type 0 where
   pub disconnect : (c : Call) → Answerable c → OneCommand c TREE_DISCONNECT → (n : Status) → (statusGiven c ≡ n) ↔ TreeStatus (sender c) (c .tables) n
   pub logoff : (c : Call) → Answerable c → OneCommand c LOGOFF → (n : Status) → (statusGiven c ≡ n) ↔ SessionStatus (sender c) (c .tables) n
   pub exit : (c : Call) → Answerable c → OneCommand c PROCESS_EXIT → (n : Status) → (statusGiven c ≡ n) ↔ SessionStatus (sender c) (c .tables) n
+  -- the core commands (document 02, CR 3): a READ by the reasons of READ_ANDX, a WRITE of some bytes by those of WRITE_ANDX; with count 0 by its own, where 1/33 comes
+  -- before 3/39. Of a LOCK 1/87 and 2/65535 can't arise.
+  pub core-read : (c : Call) → Answerable c → OneCommand c CORE-READ → (n : Status) → (statusGiven c ≡ n) ↔ ReadStatus (sender c) (c .tables) (coreReadFields (c .message)) n
+  pub core-write : (c : Call) → Answerable c → OneCommand c CORE-WRITE → (coreCount (c .message) FIRST ≡ 0 → ⊥) → (n : Status)
+      → (statusGiven c ≡ n) ↔ WriteStatus (sender c) (c .tables) (coreWriteFields (c .message)) n
+  pub set-size : (c : Call) → Answerable c → OneCommand c CORE-WRITE → coreCount (c .message) FIRST ≡ 0 → (n : Status)
+      → (statusGiven c ≡ n) ↔ SetSizeStatus (sender c) (c .tables) (coreWriteFields (c .message)) n
+  pub lock : (c : Call) → Answerable c → OneCommand c LOCK_BYTE_RANGE → (n : Status) → (statusGiven c ≡ n) ↔ LockStatus (sender c) (c .tables) (rangeFields (c .message) FIRST) n
+  pub unlock : (c : Call) → Answerable c → OneCommand c UNLOCK_BYTE_RANGE → (n : Status)
+      → (statusGiven c ≡ n) ↔ UnlockStatus (sender c) (c .tables) (rangeFields (c .message) FIRST) n
 
 -- "and then every table and file byte stands as before that command": a call refused by its number writes nothing at all
 pub record RefusedByNumber : Type 0 where
@@ -116,6 +130,15 @@ pub record Demand1 : Type 0 where
 pub exactly : {R : ℕ → Type 0} {number : ℕ} → R number → ((n : ℕ) → R n → number ≡ n) → (n : ℕ) → (number ≡ n) ↔ R n
 exactly {R} {number} reason given n = (λ e. rw (← e) reason, λ r. given n r)
 
+-- a core WRITE's reasons by its count
+by-some : {c : Caller} {t : Tables} {f : WriteFields} {n : Status} → (f .count ≡ 0 → ⊥) → CoreWriteStatus c t f n → WriteStatus c t f n
+by-some more (some-count _ w) = w
+by-some more (count-0 e w) = absurd (more e)
+
+by-none : {c : Caller} {t : Tables} {f : WriteFields} {n : Status} → f .count ≡ 0 → CoreWriteStatus c t f n → SetSizeStatus c t f n
+by-none e (some-count more w) = absurd (more e)
+by-none e (count-0 _ w) = w
+
 pub demand-1 : Demand1
 demand-1 =
     record {
@@ -136,6 +159,13 @@ demand-1 =
         disconnect = λ c a one n. disconnect-exact (c .connection) (c .message) (one .reading) (c .tables) (c .memory) (c .room) (a .fit) (one .is) n;
         logoff = λ c a one n. logoff-exact (c .connection) (c .message) (one .reading) (c .tables) (c .memory) (c .room) (a .fit) (one .is) n;
         exit = λ c a one n. exit-exact (c .connection) (c .message) (one .reading) (c .tables) (c .memory) (c .room) (a .fit) (one .is) n;
+        core-read = λ c a one n. core-read-exact (c .connection) (c .message) (one .reading) (c .tables) (c .memory) (c .room) (a .fit) (one .is) n;
+        core-write = λ c a one more n.
+            Iff·trans (core-write-exact (c .connection) (c .message) (one .reading) (c .tables) (c .memory) (c .room) (a .fit) (one .is) n) (by-some more, some-count more);
+        set-size = λ c a one e n.
+            Iff·trans (core-write-exact (c .connection) (c .message) (one .reading) (c .tables) (c .memory) (c .room) (a .fit) (one .is) n) (by-none e, count-0 e);
+        lock = λ c a one n. lock-exact (c .connection) (c .message) (one .reading) (c .tables) (c .memory) (c .room) (a .fit) (one .is) n;
+        unlock = λ c a one n. unlock-exact (c .connection) (c .message) (one .reading) (c .tables) (c .memory) (c .room) (a .fit) (one .is) n;
       };
       refused-by-number = record {
         message = λ c. refused-writes-nothing (c .connection) (c .message) (c .tables) (c .memory) (c .room);

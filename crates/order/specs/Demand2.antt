@@ -10,19 +10,21 @@ use Rattle.records.specs.declared.Lock.{Lock}
 use Rattle.records.specs.Held.{locksOf}
 use Rattle.locks.specs.Range.{Overlap}
 use Rattle.locks.specs.declared.types.LockRange.{LockRange}
-use Rattle.chain.specs.Layout.{LOCKING, READ, WRITE, CLOSE, LOGOFF, TREE_DISCONNECT, PROCESS_EXIT, headerCommand, FIRST, fidAfterAndx, lockType, unlockCount, lockCount, firstFid}
+use Rattle.chain.specs.Layout.{LOCKING, READ, WRITE, CLOSE, LOGOFF, TREE_DISCONNECT, PROCESS_EXIT, CORE-READ, CORE-WRITE, LOCK_BYTE_RANGE, UNLOCK_BYTE_RANGE, headerCommand, FIRST, fidAfterAndx, lockType, unlockCount, lockCount, firstFid, coreCount, coreOffset}
 use Rattle.chain.specs.Grammar.{Span, Reading, Sentence}
+use Rattle.chain.specs.Parse.{rangeFields}
 use Rattle.message.specs.Caller.{callerOf}
 use Rattle.claims.specs.Cases.{message, table, cases}
 use Rattle.demands.specs.SentenceCases.{message-61-sentence, message-60-none, message-62-sentence}
 use Rattle.demands.specs.Admitted.{Admitted}
 use Rattle.demands.specs.CommandReasons.{OnlyTwoBits}
-use Rattle.demands.specs.LoneLock.{OfFile, loneRange, sharedIn}
+use Rattle.demands.specs.LoneLock.{OfFile, coreRange, loneRange, sharedIn}
 use Rattle.demands.specs.LoneCall.{lockingFields, lockingArea, lone-lock-reading}
 use Rattle.demands.specs.ReplyHeader.{HeaderOf, reply-header as header-given}
-use Rattle.demands.specs.FirstReadings.{BarsReadOn, BarsWriteOn, first-read-reading, first-write-reading}
-use Rattle.demands.specs.Effects.{ReadDone, WriteDone, read-reading, write-reading, close-reading, disconnect-reading, logoff-reading, exit-reading}
-use Rattle.demands.specs.LockEffects.{LockingDone, locking-reading}
+use Rattle.demands.specs.FirstReadings.{BarsReadOn, BarsWriteOn, BarsCoreReadOn, BarsCoreWriteOn, BarsSizeOn, first-read-reading, first-write-reading, first-core-read-reading, first-core-write-reading, first-set-size-reading, first-lock-reading}
+use Rattle.demands.specs.Effects.{ReadDone, WriteDone, CoreReadDone, CoreWriteDone, read-reading, write-reading, core-read-reading, core-write-reading, close-reading, disconnect-reading, logoff-reading, exit-reading}
+use Rattle.demands.specs.SetSize.{SetSizeDone, set-size-reading}
+use Rattle.demands.specs.LockEffects.{LockingDone, LockRangeDone, UnlockRangeDone, locking-reading, lock-reading, unlock-reading}
 use Rattle.claims.specs.RemovalPlain.{Closed, Disconnected, LoggedOff, Exited}
 use Rattle.claims.specs.HostFrames.{SessionAdded, TreeAdded, OpenAdded, FileLoaded, ConnectionDropped, addSession-frame, addTree-frame, addOpen-frame, loadFile-frame, dropConnection-frame}
 use Rattle.host.specs.HostCall.{addSession, addTree, addOpen, loadFile, loadMemory, dropConnection}
@@ -59,6 +61,13 @@ pub record CarriedOut : Type 0 where
   pub logoff : (c : Call) → DoneAlone c LOGOFF → LoggedOff (le16At (c .message) 28) (c .tables) (gives c .tables) × (gives c .memory ≡ c .memory)
   pub exit : (c : Call) → DoneAlone c PROCESS_EXIT
       → Exited (le16At (c .message) 28) (sender c .process) (c .tables) (gives c .tables) × (gives c .memory ≡ c .memory)
+  -- the core commands (document 02, CR 3), each with the bytes of its reply block: READ, WRITE of some bytes and of count 0, LOCK_BYTE_RANGE, UNLOCK_BYTE_RANGE
+  pub core-read : (c : Call) → DoneAlone c CORE-READ → CoreReadDone (c .connection) (c .message) (c .tables) (c .memory) (gives c)
+  pub core-write : (c : Call) → DoneAlone c CORE-WRITE → 1 ≤ coreCount (c .message) FIRST → CoreWriteDone (c .connection) (c .message) (c .tables) (c .memory) (gives c)
+  pub set-size : (c : Call) → DoneAlone c CORE-WRITE → coreCount (c .message) FIRST ≡ 0
+      → SetSizeDone (sender c) (c .tables) (firstFid (c .message) FIRST) (coreOffset (c .message) FIRST) (c .memory) (gives c)
+  pub lock : (c : Call) → DoneAlone c LOCK_BYTE_RANGE → LockRangeDone (c .connection) (c .message) (c .tables) (c .memory) (gives c)
+  pub unlock : (c : Call) → DoneAlone c UNLOCK_BYTE_RANGE → UnlockRangeDone (c .connection) (c .message) (c .tables) (c .memory) (gives c)
 
 -- what a host call leaves, and what stands
 pub record HostCallsDone : Type 0 where
@@ -107,6 +116,23 @@ LoneLock =
     (c : Call) (spans : List Span) (o : Open) → Answerable c → Reading (c .message) spans → AsksOneLock c → OnlyTwoBits (lockType (c .message) FIRST) → ValidOpen c o
     → rangeAsked c .offset + rangeAsked c .length ≤ 2 ^ 64 → RefusedForConflict c ↔ ((l : Lock) × Conflicting c o l)
 
+-- the same of a LOCK_BYTE_RANGE (document 02, CR 3), which is always alone in its request, of a served type and within range: "the process from the header", and offset
+-- and count are its words (Request3.antt: `RangeOnTheWire`). Its FID is the first word
+abbrev pub coreAsked : Call → LockRange
+coreAsked c = coreRange (sender c) (rangeFields (c .message) FIRST)
+
+abbrev pub ValidCoreOpen : Call → Open → Type 0
+ValidCoreOpen c o = Admitted (sender c) (c .tables) (firstFid (c .message) FIRST) o
+
+-- "the lock is exclusive", so that the two are never both shared
+abbrev pub CoreConflicting : Call → Open → Lock → Type 0
+CoreConflicting c o l = In l (locksOf (c .tables)) × OfFile (c .tables) o l × Overlap (l .offset) (l .length) (coreAsked c .offset) (coreAsked c .length)
+
+abbrev pub CoreLock : Type 0
+CoreLock =
+    (c : Call) (spans : List Span) (o : Open) → Answerable c → Reading (c .message) spans → headerCommand (c .message) ≡ LOCK_BYTE_RANGE → ValidCoreOpen c o
+    → RefusedForConflict c ↔ ((l : Lock) × CoreConflicting c o l)
+
 -- document 01: "A read is refused 1/33 exactly if an exclusive lock of another owner overlaps offset and max." "A write is refused 1/33 exactly if any lock overlaps
 -- it save the writer's own exclusive ones." Each here as the first command of the message
 pub record FirstTransfer : Type 0 where
@@ -114,6 +140,13 @@ pub record FirstTransfer : Type 0 where
       → RefusedForConflict c ↔ BarsReadOn (c .message) (c .tables) o
   pub write : (c : Call) (spans : List Span) (o : Open) → Answerable c → Reading (c .message) spans → headerCommand (c .message) ≡ WRITE → ValidOpen c o → (o .access ≡ 0 → ⊥)
       → RefusedForConflict c ↔ BarsWriteOn (c .message) (c .tables) o
+  -- the core commands by the same rules (document 02, CR 3); of count 0: "for locks it covers the bytes between the old and the new size"
+  pub core-read : (c : Call) (spans : List Span) (o : Open) → Answerable c → Reading (c .message) spans → headerCommand (c .message) ≡ CORE-READ → ValidCoreOpen c o
+      → (o .access ≡ 1 → ⊥) → RefusedForConflict c ↔ BarsCoreReadOn (c .message) (c .tables) o
+  pub core-write : (c : Call) (spans : List Span) (o : Open) → Answerable c → Reading (c .message) spans → headerCommand (c .message) ≡ CORE-WRITE
+      → (coreCount (c .message) FIRST ≡ 0 → ⊥) → ValidCoreOpen c o → (o .access ≡ 0 → ⊥) → RefusedForConflict c ↔ BarsCoreWriteOn (c .message) (c .tables) o
+  pub set-size : (c : Call) (spans : List Span) (o : Open) → Answerable c → Reading (c .message) spans → headerCommand (c .message) ≡ CORE-WRITE
+      → coreCount (c .message) FIRST ≡ 0 → ValidCoreOpen c o → (o .access ≡ 0 → ⊥) → RefusedForConflict c ↔ BarsSizeOn (c .message) (c .tables) o
 
 pub record Demand2 : Type 0 where
   pub starred-cases : StarredCases
@@ -121,6 +154,7 @@ pub record Demand2 : Type 0 where
   pub carried-out : CarriedOut
   pub host-calls-done : HostCallsDone
   pub lone-lock : LoneLock
+  pub core-lock : CoreLock
   pub first-transfer : FirstTransfer
 
 -- ---- the proof: each line cites the theorem that does the work
@@ -139,6 +173,11 @@ demand-2 =
         disconnect = λ c d. disconnect-reading (c .connection) (c .message) (d .1 .reading) (c .tables) (c .memory) (c .room) (d .0 .good) (d .0 .fit) (d .2) (d .1 .is);
         logoff = λ c d. logoff-reading (c .connection) (c .message) (d .1 .reading) (c .tables) (c .memory) (c .room) (d .0 .good) (d .0 .fit) (d .2) (d .1 .is);
         exit = λ c d. exit-reading (c .connection) (c .message) (d .1 .reading) (c .tables) (c .memory) (c .room) (d .0 .good) (d .0 .fit) (d .2) (d .1 .is);
+        core-read = λ c d. core-read-reading (c .connection) (c .message) (d .1 .reading) (c .tables) (c .memory) (c .room) (d .0 .good) (d .0 .fit) (d .2) (d .1 .is);
+        core-write = λ c d. core-write-reading (c .connection) (c .message) (d .1 .reading) (c .tables) (c .memory) (c .room) (d .0 .good) (d .0 .fit) (d .2) (d .1 .is);
+        set-size = λ c d. set-size-reading (c .connection) (c .message) (d .1 .reading) (c .tables) (c .memory) (c .room) (d .0 .good) (d .0 .fit) (d .2) (d .1 .is);
+        lock = λ c d. lock-reading (c .connection) (c .message) (d .1 .reading) (c .tables) (c .memory) (c .room) (d .0 .good) (d .0 .fit) (d .2) (d .1 .is);
+        unlock = λ c d. unlock-reading (c .connection) (c .message) (d .1 .reading) (c .tables) (c .memory) (c .room) (d .0 .good) (d .0 .fit) (d .2) (d .1 .is);
       };
       host-calls-done = record {
         session = addSession-frame;
@@ -152,8 +191,15 @@ demand-2 =
             λ h. let w = q .0 h in (w .lock, (w .listed, w .of-file, w .overlap, w .clash)),
             λ l. q .1 (record { lock = l .0; listed = l .1 .0; of-file = l .1 .1; overlap = l .1 .2; clash = l .1 .3 }),
           );
+      core-lock = λ c spans o a r e valid.
+          let q = first-lock-reading (c .connection) (c .message) r (c .tables) (c .memory) (c .room) (a .fit) o valid e in
+          (λ h. let w = q .0 h in (w .lock, (w .listed, w .of-file, w .overlap)), λ l. q .1 (record { lock = l .0; listed = l .1 .0; of-file = l .1 .1; overlap = l .1 .2; clash = _ }));
       first-transfer = record {
         read = λ c spans o a r e valid access. first-read-reading (c .connection) (c .message) r (c .tables) (c .memory) (c .room) (a .fit) o valid e access;
         write = λ c spans o a r e valid access. first-write-reading (c .connection) (c .message) r (c .tables) (c .memory) (c .room) (a .fit) o valid e access;
+        core-read = λ c spans o a r e valid access. first-core-read-reading (c .connection) (c .message) r (c .tables) (c .memory) (c .room) (a .fit) o valid e access;
+        core-write = λ c spans o a r e more valid access.
+            first-core-write-reading (c .connection) (c .message) r (c .tables) (c .memory) (c .room) (a .fit) o valid e more access;
+        set-size = λ c spans o a r e none valid access. first-set-size-reading (c .connection) (c .message) r (c .tables) (c .memory) (c .room) (a .fit) o valid e none access;
       };
     }
