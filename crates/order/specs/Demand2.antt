@@ -1,7 +1,7 @@
 -- Demand 2 of the order, sentence by sentence. Assumes nothing.
 use mathlib.Core.Path.{_≡_}
 use mathlib.Core.Logic.{_↔_}
-use Prim.Native.Nat.{ℕ, _+_, _^_, _≤_}
+use Prim.Native.Nat.{ℕ, min, max, _+_, _-_, _^_, _≤_}
 use mathlib.Core.Bool.{Bool, true}
 use mathlib.Core.List.{List, [], _∷_, map, List·Memᴰ as In}
 use Rattle.wire.specs.LittleEndian.{le16At}
@@ -14,6 +14,7 @@ use Rattle.chain.specs.Layout.{LOCKING, READ, WRITE, CLOSE, LOGOFF, TREE_DISCON
 use Rattle.chain.specs.Grammar.{Span, Reading, Sentence}
 use Rattle.chain.specs.Parse.{rangeFields}
 use Rattle.message.specs.Caller.{callerOf}
+use Rattle.message.specs.Contents.{sizeOf}
 use Rattle.claims.specs.Cases.{message, table, cases}
 use Rattle.demands.specs.SentenceCases.{message-61-sentence, message-60-none, message-62-sentence}
 use Rattle.demands.specs.Admitted.{Admitted}
@@ -132,6 +133,14 @@ abbrev pub CoreLock : Type 0
 CoreLock =
     (c : Call) (spans : List Span) (o : Open) → Answerable c → Reading (c .message) spans → headerCommand (c .message) ≡ LOCK_BYTE_RANGE → ValidCoreOpen c o
     → RefusedForConflict c ↔ ((l : Lock) × CoreConflicting c o l)
+
+-- the bytes that a core WRITE of count 0 covers, where it is the first command: those "between the old and the new size", from the smaller to the larger of the size of the
+-- open's file and the offset
+abbrev pub coveredFrom : Call → Open → ℕ
+coveredFrom c o = min (sizeOf (c .tables) (o .file)) (coreOffset (c .message) FIRST)
+
+abbrev pub coveredCount : Call → Open → ℕ
+coveredCount c o = max (sizeOf (c .tables) (o .file)) (coreOffset (c .message) FIRST) - coveredFrom c o
 
 -- document 01: "A read is refused 1/33 exactly if an exclusive lock of another owner overlaps offset and max." "A write is refused 1/33 exactly if any lock overlaps
 -- it save the writer's own exclusive ones." Each here as the first command of the message

@@ -8,8 +8,9 @@ use lib.ListN.{length}
 use Rattle.records.specs.declared.Open.{Open}
 use Rattle.records.specs.Held.{locksOf}
 use Rattle.locks.specs.declared.types.Holder.{Holder}
-use Rattle.chain.specs.Layout.{LOCKING, READ, WRITE, headerCommand, FIRST, fidAfterAndx, lockType, unlockCount, readMax, dataLength}
+use Rattle.chain.specs.Layout.{LOCKING, READ, WRITE, CORE-READ, CORE-WRITE, LOCK_BYTE_RANGE, headerCommand, FIRST, fidAfterAndx, lockType, unlockCount, readMax, dataLength, firstFid, coreCount, coreOffset}
 use Rattle.chain.specs.Grammar.{Span, Reading}
+use Rattle.chain.specs.Parse.{rangeFields}
 use Rattle.message.specs.Caller.{callerOf}
 use Rattle.message.specs.declared.refusal.HeldBy.the-variants.{Nobody, Holder as held-by}
 use Rattle.message.specs.Message.{run}
@@ -17,19 +18,19 @@ use Rattle.invariants.specs.ReaderSound.{spanOf, reader-sound}
 use Rattle.invariants.specs.Sound.{Good}
 use Rattle.claims.specs.YesOrNo.{takeBefore}
 use Rattle.claims.specs.BeforeHolder.{withoutHolder, before-holder}
-use Rattle.demands.specs.LoneLock.{Owner}
+use Rattle.demands.specs.LoneLock.{Owner, AnyLock}
 use Rattle.demands.specs.CommandReasons.{OnlyTwoBits}
 use Rattle.demands.specs.RefusedCall.{Untouched}
 use Rattle.demands.specs.WireFields.{readFrom, writeFrom}
 use Rattle.demands.specs.HolderExactly.{holder-exactly, nobody-exactly, undone-nobody}
-use Rattle.demands.specs.HolderWords.{FirstInWay}
+use Rattle.demands.specs.HolderWords.{FirstInWay, RangeLockHeld}
 use Rattle.demands.specs.HolderStands.{Met, holder-exact, tables-then}
 use Rattle.demands.specs.HolderOpen.{HolderFound, holder-found}
 use Rattle.demands.specs.HolderBytes.{holder-bytes}
-use Rattle.demands.specs.HolderFirst.{FirstMeets, alone-first, first-undone, read-first, write-first, lone-lock-first}
-use Rattle.demands.specs.HolderWire.{LockHeldOn, OwnRangeOn, lock-first, lock-own, lock-listed}
+use Rattle.demands.specs.HolderFirst.{FirstMeets, alone-first, first-undone, read-first, write-first, lone-lock-first, core-read-first, core-write-first, set-size-first, core-lock-first}
+use Rattle.demands.specs.HolderWire.{LockHeldOn, OwnRangeOn, lock-first, lock-own, lock-listed, range-first}
 use Rattle.order.specs.Call.{Call, gives, Answerable, Says, sender}
-use Rattle.order.specs.Demand2.{rangeAsked, sharedAsked, AsksOneLock, ValidOpen}
+use Rattle.order.specs.Demand2.{rangeAsked, sharedAsked, AsksOneLock, ValidOpen, coreAsked, ValidCoreOpen, coveredFrom, coveredCount}
 use Rattle.order.specs.Possible.{plant}
 use Rattle.order.specs.Possible2.{twoAsked, firstRange, two-answerable, first-refuses}
 
@@ -56,6 +57,24 @@ pub record PlaceOfTheFirst : Type 0 where
   pub write : (c : Call) (spans : List Span) (o : Open) (h : Holder) → Answerable c → Reading (c .message) spans → headerCommand (c .message) ≡ WRITE → ValidOpen c o → (o .access ≡ 0 → ⊥)
       → FirstMeets (gives c) h ↔ FirstInWay (c .tables) o (locksOf (c .tables)) (writeFrom (c .message)) (dataLength (c .message) FIRST)
       (λ l. (l .shared ≡ false) × Owner (fidAfterAndx (c .message) FIRST) (sender c .process) l → ⊥) h
+  -- of the core commands likewise (document 02, CR 3). A LOCK_BYTE_RANGE has one range and unlocks nothing, so that the list is that of all locks held
+  pub core-lock : (c : Call) (spans : List Span) (h : Holder) → Answerable c → Reading (c .message) spans → headerCommand (c .message) ≡ LOCK_BYTE_RANGE
+      → FirstMeets (gives c) h ↔ RangeLockHeld (sender c) (c .tables) (rangeFields (c .message) FIRST) h
+  -- on a valid open the first "listed lock of that file" that "overlaps it", be it shared or not: "the lock is exclusive"
+  pub core-lone-lock : (c : Call) (spans : List Span) (o : Open) (h : Holder) → Answerable c → Reading (c .message) spans → headerCommand (c .message) ≡ LOCK_BYTE_RANGE
+      → ValidCoreOpen c o → FirstMeets (gives c) h ↔ FirstInWay (c .tables) o (locksOf (c .tables)) (coreAsked c .offset) (coreAsked c .length) AnyLock h
+  pub core-read : (c : Call) (spans : List Span) (o : Open) (h : Holder) → Answerable c → Reading (c .message) spans → headerCommand (c .message) ≡ CORE-READ → ValidCoreOpen c o
+      → (o .access ≡ 1 → ⊥) → FirstMeets (gives c) h ↔ FirstInWay (c .tables) o (locksOf (c .tables)) (coreOffset (c .message) FIRST) (coreCount (c .message) FIRST)
+      (λ l. (l .shared ≡ false) × (Owner (firstFid (c .message) FIRST) (sender c .process) l → ⊥)) h
+  pub core-write : (c : Call) (spans : List Span) (o : Open) (h : Holder) → Answerable c → Reading (c .message) spans → headerCommand (c .message) ≡ CORE-WRITE
+      → (coreCount (c .message) FIRST ≡ 0 → ⊥) → ValidCoreOpen c o → (o .access ≡ 0 → ⊥)
+      → FirstMeets (gives c) h ↔ FirstInWay (c .tables) o (locksOf (c .tables)) (coreOffset (c .message) FIRST) (coreCount (c .message) FIRST)
+      (λ l. (l .shared ≡ false) × Owner (firstFid (c .message) FIRST) (sender c .process) l → ⊥) h
+  -- of count 0 "it covers the bytes between the old and the new size"
+  pub set-size : (c : Call) (spans : List Span) (o : Open) (h : Holder) → Answerable c → Reading (c .message) spans → headerCommand (c .message) ≡ CORE-WRITE
+      → coreCount (c .message) FIRST ≡ 0 → ValidCoreOpen c o → (o .access ≡ 0 → ⊥)
+      → FirstMeets (gives c) h ↔ FirstInWay (c .tables) o (locksOf (c .tables)) (coveredFrom c o) (coveredCount c o)
+      (λ l. (l .shared ≡ false) × Owner (firstFid (c .message) FIRST) (sender c .process) l → ⊥) h
   -- a command alone in its message is its first
   pub alone : (c : Call) (span : Span) (h : Holder) → Answerable c → Reading (c .message) (span ∷ []) → gives c .holder ≡ held-by h → FirstMeets (gives c) h
 
@@ -66,8 +85,9 @@ pub record BesideTheReply : Type 0 where
   pub nobody-else : (c : Call) → gives c .number ≡ 0 → (gives c .holder ≡ Nobody) ↔ (Says c 1 33 → ⊥)
   pub not-done : (c : Call) → (gives c .number ≡ 0 → ⊥) → gives c .holder ≡ Nobody
   -- in a chain that of the refused command, on the tables that the commands before it left; the call leaves just these; and the commands are a reading's blocks. A later
-  -- command's fields are the reader's here; that they are the bytes' of its own message is demand 1's `holder-alone` with `read` and `write` above on that message, which is
-  -- fit to be answered and one command alone (demand 3's `EachAlone`). By the grammar a LOCKING is the first command, so that `lock` covers every LOCKING.
+  -- command's fields are the reader's here; that they are the bytes' of its own message is demand 1's `holder-alone` with `read`, `write` and their core rows above on that
+  -- message, which is fit to be answered and one command alone (demand 3's `EachAlone`). By the grammar a LOCKING and a LOCK_BYTE_RANGE are the first command, so that `lock`
+  -- and `core-lock` cover every one.
   pub chain : (c : Call) (h : Holder) → Answerable c → (gives c .holder ≡ held-by h) ↔ Met (c .connection) (c .message) (c .tables) (c .memory) h
   pub begun-on : (c : Call) (h : Holder) → Answerable c → (m : Met (c .connection) (c .message) (c .tables) (c .memory) h)
       → gives c .tables ≡ run (sender c) (c .message) (m .front) FIRST (c .tables) (c .memory) .tables
@@ -112,6 +132,12 @@ request-2 =
             lone-lock-first (c .connection) (c .message) r (c .tables) (c .memory) (c .room) (a .fit) h o valid (asks .is-locking) (asks .no-unlock) (asks .one-lock) bits low;
         read = λ c spans o h a r e valid access. read-first (c .connection) (c .message) r (c .tables) (c .memory) (c .room) (a .fit) h o valid e access;
         write = λ c spans o h a r e valid access. write-first (c .connection) (c .message) r (c .tables) (c .memory) (c .room) (a .fit) h o valid e access;
+        core-lock = λ c spans h a r e. range-first (c .connection) (c .message) r (c .tables) (c .memory) (c .room) (a .fit) e h;
+        core-lone-lock = λ c spans o h a r e valid. core-lock-first (c .connection) (c .message) r (c .tables) (c .memory) (c .room) (a .fit) h o valid e;
+        core-read = λ c spans o h a r e valid access. core-read-first (c .connection) (c .message) r (c .tables) (c .memory) (c .room) (a .fit) h o valid e access;
+        core-write = λ c spans o h a r e more valid access.
+            core-write-first (c .connection) (c .message) r (c .tables) (c .memory) (c .room) (a .fit) h o valid e more access;
+        set-size = λ c spans o h a r e none valid access. set-size-first (c .connection) (c .message) r (c .tables) (c .memory) (c .room) (a .fit) h o valid e none access;
         alone = λ c span h a r. alone-first (c .connection) (c .message) (c .tables) (c .memory) (c .room) (a .fit) h r;
       };
       beside-the-reply = record {

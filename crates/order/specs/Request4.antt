@@ -1,5 +1,5 @@
 -- Change request 4 of document 02, "Two processes taken for one", sentence by sentence. Assumes nothing.
-use mathlib.Core.Path.{_≡_, sym, _∙_}
+use mathlib.Core.Path.{_≡_, refl, sym, _∙_}
 use mathlib.Core.Logic.{_↔_}
 use Prim.Native.Nat.{ℕ, _+_, _*_, _/_, _^_, _≤_, _<_}
 use mathlib.Core.Bool.{false}
@@ -11,7 +11,7 @@ use Rattle.records.specs.declared.Tables.{Tables}
 use Rattle.records.specs.Held.{opensOf, locksOf}
 use Rattle.locks.specs.Range.{Overlap}
 use Rattle.locks.specs.declared.types.LockRange.{LockRange}
-use Rattle.chain.specs.Layout.{LOCKING, READ, WRITE, PROCESS_EXIT, headerCommand, FIRST, fidAfterAndx, readMax, dataLength, lockType, unlockCount, lockCount}
+use Rattle.chain.specs.Layout.{LOCKING, READ, WRITE, PROCESS_EXIT, CORE-READ, CORE-WRITE, LOCK_BYTE_RANGE, UNLOCK_BYTE_RANGE, headerCommand, FIRST, fidAfterAndx, readMax, dataLength, lockType, unlockCount, lockCount, firstFid, coreCount, coreOffset}
 use Rattle.chain.specs.Grammar.{Span, Reading}
 use Rattle.message.specs.Caller.{callerOf}
 use Rattle.host.specs.HostCall.{addOpen}
@@ -23,11 +23,12 @@ use Rattle.demands.specs.LoneLock.{Owner}
 use Rattle.demands.specs.LockWords.{Named}
 use Rattle.demands.specs.CommandReasons.{OnlyTwoBits}
 use Rattle.demands.specs.WireFields.{readFrom, writeFrom}
+use Rattle.demands.specs.FirstReadings.{first-set-size-reading}
 use Rattle.demands.specs.Effects.{exit-reading}
-use Rattle.demands.specs.LockEffects.{RangeOn, GrantedLock, locking-reading}
-use Rattle.demands.specs.Processes.{UpperHalvesDiffer, RangeProcess, LockTaken, ExitLeaves, sender-process, sender-32, same-process, other-process, range-process, lock-taken, not-own, bars-read, bars-write, names-not, unlock-refused, alone-sender, exit-leaves}
+use Rattle.demands.specs.LockEffects.{RangeOn, GrantedLock, locking-reading, lock-reading}
+use Rattle.demands.specs.Processes.{UpperHalvesDiffer, RangeProcess, LockTaken, ExitLeaves, sender-process, sender-32, same-process, other-process, range-process, lock-taken, not-own, bars-read, bars-write, bars-core-read, bars-core-write, names-not, unlock-refused, core-unlock-refused, alone-sender, exit-leaves}
 use Rattle.order.specs.Call.{Call, gives, Answerable, OneCommand, Says, sender, sending}
-use Rattle.order.specs.Demand2.{ReplyHeader, DoneAlone, ValidOpen, RefusedForConflict}
+use Rattle.order.specs.Demand2.{ReplyHeader, DoneAlone, ValidOpen, RefusedForConflict, coreAsked, ValidCoreOpen, coveredFrom, coveredCount}
 
 -- A message is a list of bytes (below 256, which the type says of code) where a sentence is on halves: PIDHigh, at 12, and PIDLow, at 26, have 16 bits each. Demand 2's
 -- sentences on PROCESS_EXIT, on reads and writes and on the ranges of a LOCKING say the sender's whole process without that (Demand2.antt; of a message's bytes it is
@@ -48,6 +49,10 @@ pub record WholeRange : Type 0 where
   -- "Opens and locks keep 32 bits": a lock alone in its request that is done stands behind those held, with that process
   pub taken : (c : Call) → Bytes (c .message) → DoneAlone c LOCKING → unlockCount (c .message) FIRST ≡ 0 → lockCount (c .message) FIRST ≡ 1
       → LockTaken (c .message) (locksOf (c .tables)) (locksOf (gives c .tables))
+  -- a LOCK_BYTE_RANGE or UNLOCK_BYTE_RANGE (CR 3: "the process from the header") asks with all of the sender's process, and a lock that it takes has it
+  pub core-range : (c : Call) → coreAsked c .process ≡ sender c .process
+  pub core-taken : (c : Call) → DoneAlone c LOCK_BYTE_RANGE
+      → (l : Lock) × (locksOf (gives c .tables) ≡ locksOf (c .tables) ++ (l ∷ [])) × (l .process ≡ sender c .process)
   -- and an open that the host adds, behind those there are, with the process that the host gives
   pub open-keeps : (t : Tables) (uid tid process file access : ℕ) → addOpen t uid tid process file access .number ≡ 0
       → (o : Open) × (opensOf (addOpen t uid tid process file access .tables) ≡ opensOf t ++ (o ∷ [])) × (o .process ≡ process)
@@ -68,12 +73,31 @@ pub record DifferentOwners : Type 0 where
       → (spans : List Span) (o : Open) → Answerable c → Reading (c .message) spans → headerCommand (c .message) ≡ WRITE → ValidOpen c o → (o .access ≡ 0 → ⊥)
       → (l : Lock) → In l (locksOf (c .tables)) → Owner (fidAfterAndx (c .message) FIRST) (sender d .process) l → l .shared ≡ false
       → Overlap (l .offset) (l .length) (writeFrom (c .message)) (dataLength (c .message) FIRST) → RefusedForConflict c
+  -- and its core READ and core WRITE over it
+  pub core-read-barred : (c d : Call) → Bytes (c .message) → Bytes (d .message) → UpperHalvesDiffer (d .message) (c .message)
+      → (spans : List Span) (o : Open) → Answerable c → Reading (c .message) spans → headerCommand (c .message) ≡ CORE-READ → ValidCoreOpen c o → (o .access ≡ 1 → ⊥)
+      → (l : Lock) → In l (locksOf (c .tables)) → Owner (firstFid (c .message) FIRST) (sender d .process) l → l .shared ≡ false
+      → Overlap (l .offset) (l .length) (coreOffset (c .message) FIRST) (coreCount (c .message) FIRST) → RefusedForConflict c
+  pub core-write-barred : (c d : Call) → Bytes (c .message) → Bytes (d .message) → UpperHalvesDiffer (d .message) (c .message)
+      → (spans : List Span) (o : Open) → Answerable c → Reading (c .message) spans → headerCommand (c .message) ≡ CORE-WRITE → (coreCount (c .message) FIRST ≡ 0 → ⊥)
+      → ValidCoreOpen c o → (o .access ≡ 0 → ⊥) → (l : Lock) → In l (locksOf (c .tables)) → Owner (firstFid (c .message) FIRST) (sender d .process) l → l .shared ≡ false
+      → Overlap (l .offset) (l .length) (coreOffset (c .message) FIRST) (coreCount (c .message) FIRST) → RefusedForConflict c
+  -- of count 0 between the old and the new size
+  pub size-barred : (c d : Call) → Bytes (c .message) → Bytes (d .message) → UpperHalvesDiffer (d .message) (c .message)
+      → (spans : List Span) (o : Open) → Answerable c → Reading (c .message) spans → headerCommand (c .message) ≡ CORE-WRITE → coreCount (c .message) FIRST ≡ 0
+      → ValidCoreOpen c o → (o .access ≡ 0 → ⊥) → (l : Lock) → In l (locksOf (c .tables)) → Owner (firstFid (c .message) FIRST) (sender d .process) l → l .shared ≡ false
+      → Overlap (l .offset) (l .length) (coveredFrom c o) (coveredCount c o) → RefusedForConflict c
   -- no range of the other's names the lock that was granted for a range of the one's, the same FID, 16 bits, offset and length or not
   pub not-named : (c d : Call) → Bytes (c .message) → Bytes (d .message) → (le16At (d .message) 12 ≡ le16At (c .message) 12 → ⊥)
       → (j k : ℕ) (q r : LockRange) (l : Lock) → RangeOn (d .message) j q → GrantedLock (d .message) q l → RangeOn (c .message) k r → (fid : ℕ) → Named fid r l → ⊥
+  -- nor does the range of its LOCK_BYTE_RANGE or UNLOCK_BYTE_RANGE name a lock of the one's process
+  pub core-not-named : (c d : Call) → Bytes (c .message) → Bytes (d .message) → UpperHalvesDiffer (d .message) (c .message)
+      → (l : Lock) → l .process ≡ sender d .process → (fid : ℕ) → Named fid (coreAsked c) l → ⊥
   -- an unlock where no listed lock has its upper half: 1/158
   pub unlock-refused : (c : Call) → Bytes (c .message) → Answerable c → OneCommand c LOCKING → 1 ≤ unlockCount (c .message) FIRST → OnlyTwoBits (lockType (c .message) FIRST)
       → (o : Open) → ValidOpen c o → ((l : Lock) → In l (locksOf (c .tables)) → l .process / 65536 ≡ le16At (c .message) 12 → ⊥) → Says c 1 158
+  pub core-unlock-refused : (c : Call) → Bytes (c .message) → Answerable c → OneCommand c UNLOCK_BYTE_RANGE
+      → (o : Open) → ValidCoreOpen c o → ((l : Lock) → In l (locksOf (c .tables)) → l .process / 65536 ≡ le16At (c .message) 12 → ⊥) → Says c 1 158
 
 -- "A bench that numbers its processes beyond 65,535 lost its opens when another process on it ended"; "PROCESS_EXIT .. use them all": PROCESS_EXIT, alone in its message,
 -- leaves every open but those of its UID and process, with the locks through them, as they were, and removes those of its UID and process
@@ -118,6 +142,10 @@ request-4 =
         taken = λ c b d none one.
             lock-taken (c .connection) (c .message) b (c .tables) (c .memory) (gives c)
             (locking-reading (c .connection) (c .message) (d .1 .reading) (c .tables) (c .memory) (c .room) (d .0 .good) (d .0 .fit) (d .2) (d .1 .is)) none one;
+        core-range = λ c. refl;
+        core-taken = λ c d.
+            let w = lock-reading (c .connection) (c .message) (d .1 .reading) (c .tables) (c .memory) (c .room) (d .0 .good) (d .0 .fit) (d .2) (d .1 .is) in
+            (w .lock, w .held, w .of-process);
         open-keeps = λ t uid tid process file access done.
             let a = addOpen-frame t uid tid process file access done in
             (a .new, a .opens, a .its-process);
@@ -128,9 +156,25 @@ request-4 =
             bars-read (c .connection) (c .message) (d .message) b e u r (c .tables) (c .memory) (c .room) (a .fit) o valid l listed owner exclusive is access over;
         write-barred = λ c d b e u spans o a r is valid access l listed owner exclusive over.
             bars-write (c .connection) (c .message) (d .message) b e u r (c .tables) (c .memory) (c .room) (a .fit) o valid l listed owner exclusive is access over;
+        core-read-barred = λ c d b e u spans o a r is valid access l listed owner exclusive over.
+            bars-core-read (c .connection) (c .message) (d .message) b e u r (c .tables) (c .memory) (c .room) (a .fit) o valid l listed owner exclusive is access over;
+        core-write-barred = λ c d b e u spans o a r is more valid access l listed owner exclusive over.
+            bars-core-write (c .connection) (c .message) (d .message) b e u r (c .tables) (c .memory) (c .room) (a .fit) o valid l listed owner exclusive is more access over;
+        size-barred = λ c d b e u spans o a r is none valid access l listed owner exclusive over.
+            first-set-size-reading (c .connection) (c .message) r (c .tables) (c .memory) (c .room) (a .fit) o valid is none access .1
+            (record {
+              lock = l;
+              listed = listed;
+              of-file = (o, valid .opened .listed, valid .opened .of-fid ∙ sym (owner .0), refl);
+              overlap = over;
+              clash = λ h. not-own (d .message) (c .message) e b u _ l owner (h .1);
+            });
         not-named = λ c d b e other j k q r l on granted asked fid. names-not (d .message) (c .message) e b other on granted asked fid;
+        core-not-named = λ c d b e u l is fid named. other-process (d .message) (c .message) e b u (sym is ∙ named .of-process);
         unlock-refused = λ c b a one some bits o valid others.
             unlock-refused (c .connection) (c .message) b (one .reading) (c .tables) (c .memory) (c .room) (a .fit) (one .is) some bits o valid others;
+        core-unlock-refused = λ c b a one o valid others.
+            core-unlock-refused (c .connection) (c .message) b (one .reading) (c .tables) (c .memory) (c .room) (a .fit) (one .is) o valid others;
       };
       exit-of-one = record {
         left-and-gone = exit-left;
