@@ -118,7 +118,7 @@ LoneLock =
     → rangeAsked c .offset + rangeAsked c .length ≤ 2 ^ 64 → RefusedForConflict c ↔ ((l : Lock) × Conflicting c o l)
 
 -- the same of a LOCK_BYTE_RANGE (document 02, CR 3), which is always alone in its request, of a served type and within range: "the process from the header", and offset
--- and count are its words (Request3.antt: `RangeOnTheWire`). Its FID is the first word
+-- and count are its words (Request3.antt: `OnTheWire`). Its FID is the first word
 abbrev pub coreAsked : Call → LockRange
 coreAsked c = coreRange (sender c) (rangeFields (c .message) FIRST)
 

@@ -7,3 +7,4 @@ pub mod Request4
 pub mod Possible
 pub mod Possible2
 pub mod Request2
+pub mod Request3
