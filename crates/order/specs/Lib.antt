@@ -8,3 +8,4 @@ pub mod Possible
 pub mod Possible2
 pub mod Request2
 pub mod Request3
+pub mod Possible3
