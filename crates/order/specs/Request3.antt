@@ -40,7 +40,8 @@ use Rattle.demands.specs.Admitted.{no-session, before-tree, no-tree, before-ope
 use Rattle.demands.specs.CoreReasons.{LockStatus, lock-not, lock-barred, lock-full, lock-done, unlock-unnamed, unlock-done}
 use Rattle.demands.specs.WritingReasons.{write-space, write-done}
 use Rattle.demands.specs.WireFields.{readFrom, writeFrom, writeData, coreReadFields, coreWriteFields, coreData}
-use Rattle.demands.specs.FirstReadings.{first-set-size-reading, one-conflict}
+use Rattle.demands.specs.CommandReasons.{count-0}
+use Rattle.demands.specs.FirstReadings.{first-set-size-reading, one-conflict, core-write-exact, lock-exact, unlock-exact}
 use Rattle.demands.specs.HolderLone.{same-open}
 use Rattle.demands.specs.DataBlock.{BadCoreWrite, AnsweredMalformed, marked-block, reading-block, bad-data-block}
 use Rattle.demands.specs.CorePairCalls.{EqualReadWrite, EqualFields, BlocksAlike, SameCalls, SameLocking, ChainsAlike, core-calls, chain-calls}
@@ -258,6 +259,16 @@ on-wire =
           subst (λ (r : LockRange). TakenOut (firstFid (c .message) FIRST) r (locksOf (c .tables)) (locksOf (gives c .tables))) (asked ∙ range-whole (c .message) b (c .connection)) (w .unlocked);
     }
 
+standing : StandsAlone
+standing =
+    record {
+      stands = λ c spans r. core-stands r;
+      follows = core-follows;
+      nothing-follows = λ command next core. core-last core;
+      alone = λ c command core. core-alone core;
+      ends = λ c command ends. core-ends ends;
+    }
+
 -- the size of the open's file, where it is set
 size-set : (c : Call) (o : Open) → AsksSize c o → Says c 0 0
     → (coreOffset (c .message) FIRST ≤ 4096) × SizeSet (c .tables) (gives c .tables) (o .file) (coreOffset (c .message) FIRST) (c .memory) (gives c .memory)
@@ -274,11 +285,15 @@ size-covers c o a =
 
 size-done : (c : Call) (o : Open) → AsksSize c o → (LockBetween c o → ⊥) → coreOffset (c .message) FIRST ≤ 4096 → Says c 0 0
 unfolding callerOf
-size-done c o a free low = demand-1 .status-for-its-reason .set-size c (a .answerable) (a .one) (a .count-0) (status 0 0) .1 (write-done (a .valid) (a .may-write) free low)
+size-done c o a free low =
+    core-write-exact (c .connection) (c .message) (a .one .reading) (c .tables) (c .memory) (c .room) (a .answerable .fit) (a .one .is) (status 0 0) .1
+    (count-0 (a .count-0) (write-done (a .valid) (a .may-write) free low))
 
 size-past : (c : Call) (o : Open) → AsksSize c o → (LockBetween c o → ⊥) → 4096 < coreOffset (c .message) FIRST → Says c 3 39
 unfolding callerOf
-size-past c o a free past = demand-1 .status-for-its-reason .set-size c (a .answerable) (a .one) (a .count-0) (status 3 39) .1 (write-space (a .valid) (a .may-write) free past)
+size-past c o a free past =
+    core-write-exact (c .connection) (c .message) (a .one .reading) (c .tables) (c .memory) (c .room) (a .answerable .fit) (a .one .is) (status 3 39) .1
+    (count-0 (a .count-0) (write-space (a .valid) (a .may-write) free past))
 
 sizes : SetsTheSize
 unfolding status
@@ -300,6 +315,16 @@ sizes =
         λ h. (λ b. let n = two-codes h (size-covers c o a .1 b) in omega arith, size-set c o a h .0),
         λ h. size-done c o a (h .0) (h .1),
       );
+    }
+
+counterparts : SameAsCounterpart
+counterparts =
+    record {
+      alone = λ c other core counterpart i b one two equal.
+          core-calls (c .connection) (c .message) other equal b (one .is) (two .is) (i .same-sender) (one .reading) (two .reading) (c .tables) (c .memory) (c .room) (i .answerable .fit)
+          (i .other-answerable .fit);
+      in-a-chain = λ c other core counterpart i w x y z r q same is is′ equal.
+          chain-calls (c .connection) (c .message) other same is is′ equal (i .same-sender) r q (c .tables) (c .memory) (c .room) (i .answerable .fit) (i .other-answerable .fit);
     }
 
 longest-reply : (c : Call) {command : ℕ} → Core command → DoneAlone c command → gives c .length ≤ 32 + 16 + 4096
@@ -333,21 +358,20 @@ lock-codes (lock-barred _ _) = (λ e. omega arith, λ e. omega arith)
 lock-codes (lock-full _ _ _) = (λ e. omega arith, λ e. omega arith)
 lock-codes (lock-done _ _ _) = (λ e. omega arith, λ e. omega arith)
 
-refused : Refusals
+nothing-unlocked : (c : Call) (o : Open) → Answerable c → OneCommand c UNLOCK_BYTE_RANGE → ValidCoreOpen c o
+    → Says c 1 158 ↔ ((l : Lock) → In l (locksOf (c .tables)) → Named (firstFid (c .message) FIRST) (coreAsked c) l → ⊥)
 unfolding status
-refused =
-    record {
-      statuses = demand-1 .status-for-its-reason;
-      unlock-of-nothing = λ c o a one valid.
-          let exact = demand-1 .status-for-its-reason .unlock c a one in (
-            λ h l i named. let n = two-codes h (exact (status 0 0) .1 (unlock-done valid (record { lock = l; listed = i; named = named }))) in omega arith,
-            λ none. exact (status 1 158) .1 (unlock-unnamed valid (λ w. none (w .lock) (w .listed) (w .named))),
-          );
-      cannot-arise = λ c a one.
-          let exact = demand-1 .status-for-its-reason .lock c a one in
-          (λ h. lock-codes (exact (status 2 65535) .0 h) .0 refl, λ h. lock-codes (exact (status 1 87) .0 h) .1 refl);
-      bad-data-block = λ c a bad. bad-data-block (c .connection) (c .message) bad (c .tables) (c .memory) (c .room) (a .fit);
-    }
+nothing-unlocked c o a one valid =
+    let exact = unlock-exact (c .connection) (c .message) (one .reading) (c .tables) (c .memory) (c .room) (a .fit) (one .is) in (
+      λ h l i named. let n = two-codes h (exact (status 0 0) .1 (unlock-done valid (record { lock = l; listed = i; named = named }))) in omega arith,
+      λ none. exact (status 1 158) .1 (unlock-unnamed valid (λ w. none (w .lock) (w .listed) (w .named))),
+    )
+
+never-arise : (c : Call) → Answerable c → OneCommand c LOCK_BYTE_RANGE → (Says c 2 65535 → ⊥) × (Says c 1 87 → ⊥)
+unfolding status
+never-arise c a one =
+    let exact = lock-exact (c .connection) (c .message) (one .reading) (c .tables) (c .memory) (c .room) (a .fit) (one .is) in
+    (λ h. lock-codes (exact (status 2 65535) .0 h) .0 refl, λ h. lock-codes (exact (status 1 87) .0 h) .1 refl)
 
 -- what is said of tables, a file and a file memory, of those that they are
 moved : (P : Tables → ℕ → List ℕ → Type 0) {t u : Tables} {i j : ℕ} {m n : List ℕ} → t ≡ u → i ≡ j → m ≡ n → P t i m → P u j n
@@ -401,27 +425,20 @@ pub request-3 : Request3
 request-3 =
     record {
       on-the-wire = on-wire;
-      stands-alone = record {
-        stands = λ c spans r. core-stands r;
-        follows = core-follows;
-        nothing-follows = λ command next core. core-last core;
-        alone = λ c command core. core-alone core;
-        ends = λ c command ends. core-ends ends;
-      };
+      stands-alone = standing;
       sets-the-size = sizes;
-      same-as-counterpart = record {
-        alone = λ c other core counterpart i b one two equal.
-            core-calls (c .connection) (c .message) other equal b (one .is) (two .is) (i .same-sender) (one .reading) (two .reading) (c .tables) (c .memory) (c .room) (i .answerable .fit)
-            (i .other-answerable .fit);
-        in-a-chain = λ c other core counterpart i w x y z r q same is is′ equal.
-            chain-calls (c .connection) (c .message) other same is is′ equal (i .same-sender) r q (c .tables) (c .memory) (c .room) (i .answerable .fit) (i .other-answerable .fit);
-      };
+      same-as-counterpart = counterparts;
       rows-gained = record {
         demand = demand-3;
         known = (known-core-read, known-core-write, known-lock, known-unlock);
         room = demand-1 .room-suffices;
         longest = λ c command. longest-reply c;
       };
-      refusals = refused;
+      refusals = record {
+        statuses = demand-1 .status-for-its-reason;
+        unlock-of-nothing = nothing-unlocked;
+        cannot-arise = never-arise;
+        bad-data-block = λ c a bad. bad-data-block (c .connection) (c .message) bad (c .tables) (c .memory) (c .room) (a .fit);
+      };
       old-bytes-never-show = old-bytes;
     }
