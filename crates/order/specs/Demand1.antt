@@ -58,14 +58,14 @@ pub record StatusForItsReason : Type 0 where
   pub logoff : (c : Call) → Answerable c → OneCommand c LOGOFF → (n : Status) → (statusGiven c ≡ n) ↔ SessionStatus (sender c) (c .tables) n
   pub exit : (c : Call) → Answerable c → OneCommand c PROCESS_EXIT → (n : Status) → (statusGiven c ≡ n) ↔ SessionStatus (sender c) (c .tables) n
   -- the core commands (document 02, CR 3): a READ by the reasons of READ_ANDX, a WRITE of some bytes by those of WRITE_ANDX; with count 0 by its own, where 1/33 comes
-  -- before 3/39. Of a LOCK 1/87 and 2/65535 can't arise.
+  -- before 3/39. Of a LOCK_BYTE_RANGE 2/65535 and 1/87 can't arise.
   pub core-read : (c : Call) → Answerable c → OneCommand c CORE-READ → (n : Status) → (statusGiven c ≡ n) ↔ ReadStatus (sender c) (c .tables) (coreReadFields (c .message)) n
   pub core-write : (c : Call) → Answerable c → OneCommand c CORE-WRITE → (coreCount (c .message) FIRST ≡ 0 → ⊥) → (n : Status)
       → (statusGiven c ≡ n) ↔ WriteStatus (sender c) (c .tables) (coreWriteFields (c .message)) n
   pub set-size : (c : Call) → Answerable c → OneCommand c CORE-WRITE → coreCount (c .message) FIRST ≡ 0 → (n : Status)
       → (statusGiven c ≡ n) ↔ SetSizeStatus (sender c) (c .tables) (coreWriteFields (c .message)) n
-  pub lock : (c : Call) → Answerable c → OneCommand c LOCK_BYTE_RANGE → (n : Status) → (statusGiven c ≡ n) ↔ LockStatus (sender c) (c .tables) (rangeFields (c .message) FIRST) n
-  pub unlock : (c : Call) → Answerable c → OneCommand c UNLOCK_BYTE_RANGE → (n : Status)
+  pub core-lock : (c : Call) → Answerable c → OneCommand c LOCK_BYTE_RANGE → (n : Status) → (statusGiven c ≡ n) ↔ LockStatus (sender c) (c .tables) (rangeFields (c .message) FIRST) n
+  pub core-unlock : (c : Call) → Answerable c → OneCommand c UNLOCK_BYTE_RANGE → (n : Status)
       → (statusGiven c ≡ n) ↔ UnlockStatus (sender c) (c .tables) (rangeFields (c .message) FIRST) n
 
 -- "and then every table and file byte stands as before that command": a call refused by its number writes nothing at all
@@ -164,8 +164,8 @@ demand-1 =
             Iff·trans (core-write-exact (c .connection) (c .message) (one .reading) (c .tables) (c .memory) (c .room) (a .fit) (one .is) n) (by-some more, some-count more);
         set-size = λ c a one e n.
             Iff·trans (core-write-exact (c .connection) (c .message) (one .reading) (c .tables) (c .memory) (c .room) (a .fit) (one .is) n) (by-none e, count-0 e);
-        lock = λ c a one n. lock-exact (c .connection) (c .message) (one .reading) (c .tables) (c .memory) (c .room) (a .fit) (one .is) n;
-        unlock = λ c a one n. unlock-exact (c .connection) (c .message) (one .reading) (c .tables) (c .memory) (c .room) (a .fit) (one .is) n;
+        core-lock = λ c a one n. lock-exact (c .connection) (c .message) (one .reading) (c .tables) (c .memory) (c .room) (a .fit) (one .is) n;
+        core-unlock = λ c a one n. unlock-exact (c .connection) (c .message) (one .reading) (c .tables) (c .memory) (c .room) (a .fit) (one .is) n;
       };
       refused-by-number = record {
         message = λ c. refused-writes-nothing (c .connection) (c .message) (c .tables) (c .memory) (c .room);

@@ -67,8 +67,8 @@ pub record CarriedOut : Type 0 where
   pub core-write : (c : Call) → DoneAlone c CORE-WRITE → 1 ≤ coreCount (c .message) FIRST → CoreWriteDone (c .connection) (c .message) (c .tables) (c .memory) (gives c)
   pub set-size : (c : Call) → DoneAlone c CORE-WRITE → coreCount (c .message) FIRST ≡ 0
       → SetSizeDone (sender c) (c .tables) (firstFid (c .message) FIRST) (coreOffset (c .message) FIRST) (c .memory) (gives c)
-  pub lock : (c : Call) → DoneAlone c LOCK_BYTE_RANGE → LockRangeDone (c .connection) (c .message) (c .tables) (c .memory) (gives c)
-  pub unlock : (c : Call) → DoneAlone c UNLOCK_BYTE_RANGE → UnlockRangeDone (c .connection) (c .message) (c .tables) (c .memory) (gives c)
+  pub core-lock : (c : Call) → DoneAlone c LOCK_BYTE_RANGE → LockRangeDone (c .connection) (c .message) (c .tables) (c .memory) (gives c)
+  pub core-unlock : (c : Call) → DoneAlone c UNLOCK_BYTE_RANGE → UnlockRangeDone (c .connection) (c .message) (c .tables) (c .memory) (gives c)
 
 -- what a host call leaves, and what stands
 pub record HostCallsDone : Type 0 where
@@ -185,8 +185,8 @@ demand-2 =
         core-read = λ c d. core-read-reading (c .connection) (c .message) (d .1 .reading) (c .tables) (c .memory) (c .room) (d .0 .good) (d .0 .fit) (d .2) (d .1 .is);
         core-write = λ c d. core-write-reading (c .connection) (c .message) (d .1 .reading) (c .tables) (c .memory) (c .room) (d .0 .good) (d .0 .fit) (d .2) (d .1 .is);
         set-size = λ c d. set-size-reading (c .connection) (c .message) (d .1 .reading) (c .tables) (c .memory) (c .room) (d .0 .good) (d .0 .fit) (d .2) (d .1 .is);
-        lock = λ c d. lock-reading (c .connection) (c .message) (d .1 .reading) (c .tables) (c .memory) (c .room) (d .0 .good) (d .0 .fit) (d .2) (d .1 .is);
-        unlock = λ c d. unlock-reading (c .connection) (c .message) (d .1 .reading) (c .tables) (c .memory) (c .room) (d .0 .good) (d .0 .fit) (d .2) (d .1 .is);
+        core-lock = λ c d. lock-reading (c .connection) (c .message) (d .1 .reading) (c .tables) (c .memory) (c .room) (d .0 .good) (d .0 .fit) (d .2) (d .1 .is);
+        core-unlock = λ c d. unlock-reading (c .connection) (c .message) (d .1 .reading) (c .tables) (c .memory) (c .room) (d .0 .good) (d .0 .fit) (d .2) (d .1 .is);
       };
       host-calls-done = record {
         session = addSession-frame;

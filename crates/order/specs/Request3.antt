@@ -146,8 +146,8 @@ pub record SentInstead (c : Call) (other : List ℕ) : Type 0 where
   pub other-answerable : Answerable (sending c other)
   pub same-sender : sender c ≡ sender (sending c other)
 
--- the four pairs are one list, `EqualFields`, each by the fields of the messages' bytes. Both calls give the same number, Status and holder and leave the same tables and
--- file memory, and their reply blocks say the same, each in its own form (`SameCalls`).
+-- the four pairs are one list, `EqualFields`, each by the fields of the messages' bytes; it asks of a WRITE a count that is not 0. Both calls give the same number, Status
+-- and holder and leave the same tables and file memory, and their reply blocks say the same, each in its own form (`SameCalls`).
 pub record SameAsCounterpart : Type 0 where
   pub alone : (c : Call) (other : List ℕ) (core counterpart : ℕ) → SentInstead c other → Bytes (c .message) → OneCommand c core → OneCommand (sending c other) counterpart
       → EqualFields (c .message) other core counterpart → SameCalls (BlocksAlike FIRST) (c .message) other (c .room) (gives c) (gives (sending c other))
