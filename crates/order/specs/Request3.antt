@@ -17,7 +17,7 @@ use Rattle.records.specs.declared.Tables.{Tables}
 use Rattle.records.specs.Held.{locksOf}
 use Rattle.locks.specs.declared.types.LockRange.{LockRange}
 use Rattle.host.specs.HostCall.{noTables}
-use Rattle.chain.specs.Layout.{LOCKING, READ, WRITE, CORE-READ, CORE-WRITE, LOCK_BYTE_RANGE, UNLOCK_BYTE_RANGE, headerCommand, FIRST, blockEnd, andxCommand, andxOffset, dataLength, firstFid, coreCount, coreOffset, rangeCount, rangeOffset}
+use Rattle.chain.specs.Layout.{LOCKING, READ, WRITE, CORE-READ, CORE-WRITE, LOCK_BYTE_RANGE, UNLOCK_BYTE_RANGE, headerCommand, FIRST, blockEnd, andxCommand, andxOffset, dataLength, firstFid, coreCount, coreOffset, rangeLength, rangeOffset}
 use Rattle.chain.specs.Grammar.{IsBlock, MayFollow, Span, spanAt, Reading}
 use Rattle.chain.specs.Parse.{rangeFields}
 use Rattle.chain.specs.declared.block.WriteFields.{WriteFields}
@@ -70,7 +70,7 @@ pub record ExclusiveTaken (c : Call) : Type 0 where
   pub of-fid : lock .fid ≡ firstFid (c .message) FIRST
   pub of-process : lock .process ≡ sender c .process
   pub of-offset : lock .offset ≡ rangeOffset (c .message) FIRST
-  pub of-length : lock .length ≡ rangeCount (c .message) FIRST
+  pub of-length : lock .length ≡ rangeLength (c .message) FIRST
   pub exclusive : lock .shared ≡ false
   pub behind : locksOf (gives c .tables) ≡ locksOf (c .tables) ++ (lock ∷ [])
 
@@ -86,13 +86,13 @@ pub record OnTheWire : Type 0 where
   pub offset-32 : (c : Call) → Bytes (c .message) → (coreOffset (c .message) FIRST < 2 ^ 32) × (rangeOffset (c .message) FIRST < 2 ^ 32)
   -- "the process from the header": the range that a LOCK_BYTE_RANGE or UNLOCK_BYTE_RANGE asks for. It never passes 2^64, so that 1/87 can't arise
   pub asks : (c : Call) → Bytes (c .message)
-      → coreAsked c ≡ record { process = sender c .process; offset = rangeOffset (c .message) FIRST; length = rangeCount (c .message) FIRST }
+      → coreAsked c ≡ record { process = sender c .process; offset = rangeOffset (c .message) FIRST; length = rangeLength (c .message) FIRST }
   pub within : (c : Call) → coreAsked c .offset + coreAsked c .length ≤ 2 ^ 64
   -- "the lock is exclusive"
   pub locks : (c : Call) → Bytes (c .message) → DoneAlone c LOCK_BYTE_RANGE → ExclusiveTaken c
   -- and an unlock takes the earliest lock "with equal FID, process, offset and length" out of the list
   pub unlocks : (c : Call) → Bytes (c .message) → DoneAlone c UNLOCK_BYTE_RANGE
-      → TakenOut (firstFid (c .message) FIRST) (record { process = sender c .process; offset = rangeOffset (c .message) FIRST; length = rangeCount (c .message) FIRST })
+      → TakenOut (firstFid (c .message) FIRST) (record { process = sender c .process; offset = rangeOffset (c .message) FIRST; length = rangeLength (c .message) FIRST })
       (locksOf (c .tables)) (locksOf (gives c .tables))
 
 -- ---- "Each stands alone in a message, save that READ and WRITE may end a chain after LOCKING_ANDX."
