@@ -57,8 +57,8 @@ use Rattle.order.specs.Demand1.{StatusForItsReason, RoomSuffices, demand
 use Rattle.order.specs.Demand2.{DoneAlone, ValidOpen, coreAsked, ValidCoreOpen, coveredFrom, coveredCount}
 use Rattle.order.specs.Demand3.{Demand3, demand-3}
 
--- READ and WRITE without more are document 01's AndX requests, in the papers and here; document 02's READ 0x0A and WRITE 0x0B are the core READ and WRITE (docs/DECISIONS.md,
--- 81). What each of the four leaves where it is carried out, with every byte of its reply block, is demand 2's `CarriedOut`; each Status with its reason is demand 1's
+-- In names READ and WRITE without more are the AndX requests, as in document 01; document 02's READ 0x0A and WRITE 0x0B, of which the comments here speak, are the core READ and
+-- WRITE (docs/DECISIONS.md, 81). What each of the four leaves where it is carried out, with every byte of its reply block, is demand 2's `CarriedOut`; each Status with its reason is demand 1's
 -- `StatusForItsReason`; who holds the lock in its way is Request2's `PlaceOfTheFirst`. Behind a LOCKING a command is what it is alone on the tables then left: demand 3's
 -- `OneToAMessage` and `EachAlone`. That the premises here can hold together: Possible3.antt.
 
