@@ -137,8 +137,8 @@ fn range_fields(s: &[u8], at: usize) -> RangeFields
     ensures { λ r. ⌜ r ≡ rangeFields (now (s .entry)) at ⌝ }
 {
     let fid = wire::le16_at(s, at + FIRST_FID);
-    let offset = wire::le32_at(s, at + RANGE_OFFSET);
-    let length = wire::le32_at(s, at + RANGE_LENGTH);
+    let offset = wire::le32_at(s, at + RANGE_OFFSET) as u64;
+    let length = wire::le32_at(s, at + RANGE_LENGTH) as u64;
     RangeFields {
         fid,
         offset,

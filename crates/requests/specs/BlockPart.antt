@@ -18,7 +18,6 @@ use Rattle.chain.specs.declared.block.Body.{Body}
 use Rattle.chain.specs.declared.block.Body.the-variants.{Locking, Read, Write, Close, Logoff, TreeDisconnect, ProcessExit, CoreRead, CoreWrite, LockByteRange, UnlockByteRange}
 use Rattle.chain.specs.declared.block.Next.{Next}
 use Rattle.chain.specs.declared.block.Block.{Block}
-use Rattle.chain.specs.declared.block.LockingFields.{LockingFields}
 use Rattle.chain.specs.declared.block.WriteFields.{WriteFields}
 use Rattle.chain.specs.declared.block.Parsed.the-variants.{Whole, Malformed}
 use Rattle.invariants.specs.BlockTests.{core-write-exact}
@@ -127,16 +126,3 @@ data-part s at f p =
     let left : byteCount s at - 3 ≡ f .count = omega arith in
     drop-take 3 (byteCount s at) (drop (byteArea s at) s)
     ∙ rw (drop-drop 3 (byteArea s at) s, left, p .from)
-
--- what the reader says of a LOCKING block, of a WRITE block, and of a core WRITE block
-pub locking-told : (s : List ℕ) (b : Block) (f : LockingFields) → parse s (b .command) (b .at) ≡ Whole b → b .body ≡ Locking f → LockingPart s (b .at) (b .length)
-unfolding Part
-locking-told s b f e q = let p : Part s (b .at) (b .length) (Locking f) = rw q at (block-part s (b .at) (b .command) b e) in p
-
-pub write-told : (s : List ℕ) (b : Block) (f : WriteFields) → parse s (b .command) (b .at) ≡ Whole b → b .body ≡ Write f → WritePart s (b .at) f
-unfolding Part
-write-told s b f e q = let p : Part s (b .at) (b .length) (Write f) = rw q at (block-part s (b .at) (b .command) b e) in p
-
-pub core-write-told : (s : List ℕ) (b : Block) (f : WriteFields) → parse s (b .command) (b .at) ≡ Whole b → b .body ≡ CoreWrite f → CoreWritePart s (b .at) f
-unfolding Part
-core-write-told s b f e q = let p : Part s (b .at) (b .length) (CoreWrite f) = rw q at (block-part s (b .at) (b .command) b e) in p

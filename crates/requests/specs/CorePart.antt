@@ -1,13 +1,19 @@
 -- What a counterpart answers, in the core command's reply block (document 02, CR 3): the same things are changed. Assumes nothing.
 use mathlib.Core.Path.{_≡_, refl, sym, ap, _∙_}
 use Prim.Native.Nat.{ℕ}
+use mathlib.Core.Bool.{Bool, true, false, cond}
 use mathlib.Core.List.{List}
+use Rattle.records.specs.declared.Open.{Open}
 use Rattle.records.specs.declared.Tables.{Tables}
-use Rattle.message.specs.Command.{Given, refused, done, coreSaid, asCore}
+use Rattle.message.specs.declared.caller.Caller.{Caller}
+use Rattle.message.specs.Command.{Given, refused, done, withOpen, coreSaid, asCore}
 use Rattle.message.specs.Given.{givenOf, inside, tablesAfter, memoryAfter, Gives}
 use Rattle.message.specs.declared.answer.Answer.{Answer}
 use Rattle.message.specs.declared.answer.Answer.the-variants.{Refused, Locked, LoggedOff, Read, Wrote, Plain, CoreRead, CoreWrote}
+use Rattle.requests.specs.declared.who.NamedOpen.{NamedOpen}
+use Rattle.requests.specs.declared.who.NamedOpen.the-variants.{Open as Named, Refused as NotNamed}
 use Rattle.requests.specs.Leaves.{Leaves, performed}
+use Rattle.requests.specs.Reach.{reached, onReached, with-reached}
 
 unfoldable pub coreAnswer : Answer → Answer
 coreAnswer (Refused why) = Refused why
@@ -68,3 +74,26 @@ gives-core {d} {t} {t′} {memory} {left} {a} g =
 pub leaves-core : {given : List ℕ → Given} {t t′ : Tables} {a : Answer} → Leaves given t (performed a t′)
     → Leaves (λ m. asCore (given m)) t (performed (coreAnswer a) t′)
 leaves-core g m = gives-core (g m)
+
+-- what a command gives and answers, in the reply block that it has
+unfoldable pub inForm : Bool → Given → Given
+inForm core d = cond core (asCore d) d
+
+unfoldable pub formed : Bool → Answer → Answer
+formed core a = cond core (coreAnswer a) a
+
+pub gives-formed : (core : Bool) {d : Given} {t t′ : Tables} {memory left : List ℕ} {a : Answer} → Gives d t memory (performed a t′) left
+    → Gives (inForm core d) t memory (performed (formed core a) t′) left
+unfolding inForm formed
+gives-formed true g = gives-core g
+gives-formed false g = g
+
+-- a core command on an open
+core-reached : (y : NamedOpen) (next : Open → Given) → asCore (onReached y next) ≡ onReached y (λ o. asCore (next o))
+unfolding asCore onReached
+core-reached (Named o) next = refl
+core-reached (NotNamed why) next = refl
+
+pub core-open : (c : Caller) (t : Tables) (fid : ℕ) (next : Open → Given) → asCore (withOpen c t fid next) ≡ withOpen c t fid (λ o. asCore (next o))
+core-open c t fid next =
+    ap asCore (with-reached c t fid next) ∙ core-reached (reached c t fid) next ∙ sym (with-reached c t fid (λ o. asCore (next o)))

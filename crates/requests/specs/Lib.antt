@@ -1,11 +1,12 @@
 pub mod Told
 pub mod Leaves
-pub mod CorePart
 pub mod LockPart
 pub mod BarPart
 pub mod Reach
+pub mod CorePart
 pub mod Steps
 pub mod ReadPart
 pub mod WritePart
 pub mod BlockPart
+pub mod WorkPart
 pub mod Numbers

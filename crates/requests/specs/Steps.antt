@@ -1,6 +1,6 @@
 -- What LOCKING, READ, WRITE and a core WRITE of count 0 do once it is known who asks: the parts of message/specs/Command.antt's definitions, and that these
 -- are those. Assumes nothing.
-use mathlib.Core.Path.{_≡_, refl}
+use mathlib.Core.Path.{_≡_, refl, ap, _∙_}
 use Prim.Native.Nat.{ℕ}
 use mathlib.Core.Bool.{cond}
 use mathlib.Core.List.{List}
@@ -9,28 +9,38 @@ use Rattle.records.specs.declared.Open.{Open}
 use Rattle.records.specs.declared.Tables.{Tables}
 use Rattle.records.specs.Held.{opensOf}
 use Rattle.locks.specs.Request.{locking}
+use Rattle.locks.specs.Wire.{smallForm}
 use Rattle.locks.specs.declared.types.Purpose.the-variants.{Read as Reading, Write as Writing}
 use Rattle.soundness.specs.File.{fileOf}
 use Rattle.chain.specs.declared.block.LockingFields.{LockingFields}
 use Rattle.chain.specs.declared.block.ReadFields.{ReadFields}
 use Rattle.chain.specs.declared.block.WriteFields.{WriteFields}
+use Rattle.chain.specs.declared.block.RangeFields.{RangeFields}
 use Rattle.message.specs.declared.caller.Caller.{Caller}
 use Rattle.message.specs.Contents.{sizeOf, readBytes, grown, written, withSize, resized}
 use Rattle.message.specs.declared.refusal.Refusal.the-variants.{NoAccess, LockType, NoSpace}
-use Rattle.message.specs.Command.{Given, refused, done, read, wrote, coreWrote, withOpen, servedType, requestOf, lockingAfter, doLocking, askBy, unlessBarred, barring, doRead, endsPast, doWrite, betweenSizes, doSetSize}
+use Rattle.message.specs.Command.{Given, refused, done, read, wrote, coreWrote, withOpen, servedType, requestOf, lockingAfter, doLocking, askBy, unlessBarred, barring, doRead, endsPast, doWrite, asCore, rangeBy, oneRange, doRange, betweenSizes, doSetSize}
+use Rattle.requests.specs.CorePart.{core-open}
 
 -- ---- LOCKING
 
+unfoldable pub lockSettled : Caller → Tables → List ℕ → LockingFields → List ℕ → Given
+lockSettled c t memory f area = lockingAfter t memory (locking (fileOf (opensOf t)) (t .locks) (t .nlocks) (requestOf c f) area)
+
 unfoldable pub lockOpen : Caller → Tables → List ℕ → LockingFields → List ℕ → Given
-lockOpen c t memory f area =
-    cond (servedType (f .kind))
-    (lockingAfter t memory (locking (fileOf (opensOf t)) (t .locks) (t .nlocks) (requestOf c f) area))
-    (refused LockType)
+lockOpen c t memory f area = cond (servedType (f .kind)) (lockSettled c t memory f area) (refused LockType)
 
 pub locking-steps : (c : Caller) (t : Tables) (memory : List ℕ) (f : LockingFields) (area : List ℕ)
     → doLocking c t memory f area ≡ withOpen c t (f .fid) (λ o. lockOpen c t memory f area)
-unfolding doLocking lockOpen
+unfolding doLocking lockOpen lockSettled
 locking-steps c t memory f area = refl
+
+-- the LOCKING of one range
+pub range-steps : (c : Caller) (t : Tables) (memory : List ℕ) (f : RangeFields) (unlocks locks : ℕ)
+    → doRange c t memory f unlocks locks ≡ withOpen c t (f .fid) (λ o. asCore (lockOpen c t memory (oneRange f unlocks locks) (smallForm (rangeBy c f))))
+unfolding doRange oneRange
+range-steps c t memory f unlocks locks =
+    ap asCore (locking-steps c t memory (oneRange f unlocks locks) (smallForm (rangeBy c f))) ∙ core-open c t (f .fid) _
 
 -- ---- READ
 

@@ -9,4 +9,5 @@ pub mod perform;
 mod reading;
 mod sizing;
 mod who;
+mod work;
 mod writing;

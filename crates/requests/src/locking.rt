@@ -18,7 +18,7 @@ ghost use Rattle.message.specs.Command.{servedType, requestOf, doLocking};
 ghost use Rattle.invariants.specs.Sound.{Good};
 ghost use Rattle.requests.specs.Leaves.{Leaves, performed};
 ghost use Rattle.requests.specs.LockPart.{lockAnswer};
-ghost use Rattle.requests.specs.Steps.{lockOpen};
+ghost use Rattle.requests.specs.Steps.{lockSettled, lockOpen};
 
 // 2/65535 otherwise: "lock type bit other than 0x01 and 0x10".
 fn served_type(kind: u8) -> bool
@@ -53,7 +53,7 @@ fn request_of(c: Caller, f: LockingFields) -> Request
 }
 
 // "1/158 no such lock to release; 1/87 lock range passes 2^64; 1/33 lock conflict; 1/8 no lock record free".
-fn lock_answer(outcome: Outcome) -> Answer
+pub(crate) fn lock_answer(outcome: Outcome) -> Answer
     ensures { λ r. ⌜ r ≡ lockAnswer outcome ⌝ }
 {
     match outcome {
@@ -66,6 +66,18 @@ fn lock_answer(outcome: Outcome) -> Answer
     }
 }
 
+// The request, over the files of the FIDs: all of it granted, or nothing changed.
+pub(crate) fn settle(c: Caller, words: &mut [u64], f: LockingFields, area: &[u8]) -> Outcome
+    requires { ⌜ length (now words) ≡ 1172 ⌝ }
+    requires { ⌜ Good (tablesOf (now words)) ⌝ }
+    ensures { λ r. ⌜ Leaves (λ m. lockSettled c (tablesOf (now (words .entry))) m f (now (area .entry))) (tablesOf (now (words .entry))) (performed (lockAnswer r) (tablesOf (now (words .exit)))) ⌝ }
+    ensures { λ _. ⌜ (inUseFit (now (words .entry)) ≡ true → inUseFit (now (words .exit)) ≡ true) ⌝ }
+{
+    let files = file_table(&words[130..515]);
+    let q = request_of(c, f);
+    lock_request(&files, &mut words[515..1156], q, area)
+}
+
 // The request on an open that the caller may use; "locks need no access".
 fn lock_open(c: Caller, words: &mut [u64], f: LockingFields, area: &[u8]) -> Answer
     requires { ⌜ length (now words) ≡ 1172 ⌝ }
@@ -76,9 +88,7 @@ fn lock_open(c: Caller, words: &mut [u64], f: LockingFields, area: &[u8]) -> Ans
     if !served_type(f.kind) {
         return Answer::Refused(Refusal::LockType);
     }
-    let files = file_table(&words[130..515]);
-    let q = request_of(c, f);
-    let outcome = lock_request(&files, &mut words[515..1156], q, area);
+    let outcome = settle(c, words, f, area);
     lock_answer(outcome)
 }
 

@@ -1,17 +1,18 @@
 // One block of a chain carried out.
 
-use crate::core::do_core_read;
-use crate::core::do_core_write;
 use crate::core::do_range;
+use crate::core::in_form;
 use crate::leaving::do_close;
 use crate::leaving::do_disconnect;
 use crate::leaving::do_exit;
 use crate::leaving::do_logoff;
 use crate::locking::do_locking;
 use crate::reading::do_read;
+use crate::sizing::do_set_size;
+use crate::work::Work;
+use crate::work::work_of;
 use crate::writing::do_write;
 use chain::block::Block;
-use chain::block::Body;
 use chain::block::LockingFields;
 use chain::block::WriteFields;
 use message::answer::Answer;
@@ -24,11 +25,12 @@ ghost use Rattle.tables.specs.Words.{tablesOf, inUseFit};
 ghost use Rattle.chain.specs.Layout.{byteArea, byteCount};
 ghost use Rattle.chain.specs.Parse.{parse};
 ghost use Rattle.chain.specs.declared.block.Parsed.the-variants.{Whole};
-ghost use Rattle.message.specs.Command.{doLocking, doWrite, doCoreWrite, perform};
+ghost use Rattle.message.specs.Command.{doLocking, doWrite, perform};
 ghost use Rattle.message.specs.Given.{Gives};
 ghost use Rattle.message.specs.Message.{areaOf, dataOf};
 ghost use Rattle.invariants.specs.Sound.{Good};
 ghost use Rattle.requests.specs.BlockPart.{LockingPart};
+ghost use Rattle.requests.specs.CorePart.{inForm};
 ghost use Rattle.requests.specs.Leaves.{Leaves, performed};
 
 // A LOCKING block has 8 words: its bytes start 3 + 2 * 8 places behind its own start.
@@ -54,44 +56,25 @@ fn locking_block(
     do_locking(c, words, f, &s[from..to])
 }
 
-// A WRITE block, its data being a part of the message.
+// A WRITE block, or a core WRITE block of some bytes, its data being a part of the message.
 fn writing_block(
     c: Caller,
     words: &mut [u64],
     f: WriteFields,
     s: &[u8],
     memory: &mut [u8],
+    core: bool,
 ) -> Answer
     requires { ⌜ length (now words) ≡ 1172 ⌝ }
     requires { ⌜ Good (tablesOf (now words)) ⌝ }
     requires { ⌜ length (now memory) ≡ 65536 ⌝ }
     requires { ⌜ f .from + f .count ≤ length (now s) ⌝ }
-    ensures { λ r. ⌜ Gives (doWrite c (tablesOf (now (words .entry))) (now (memory .entry)) f (take (f .count) (drop (f .from) (now (s .entry))))) (tablesOf (now (words .entry))) (now (memory .entry)) (performed r (tablesOf (now (words .exit)))) (now (memory .exit)) ⌝ }
+    ensures { λ r. ⌜ Gives (inForm core (doWrite c (tablesOf (now (words .entry))) (now (memory .entry)) f (take (f .count) (drop (f .from) (now (s .entry)))))) (tablesOf (now (words .entry))) (now (memory .entry)) (performed r (tablesOf (now (words .exit)))) (now (memory .exit)) ⌝ }
     ensures { λ _. ⌜ (inUseFit (now (words .entry)) ≡ true → inUseFit (now (words .exit)) ≡ true) ⌝ }
 {
     let from = f.from;
     let to = from + f.count as usize;
-    do_write(c, words, f, &s[from..to], memory)
-}
-
-// A core WRITE block: its data stand in its data block.
-fn core_writing_block(
-    c: Caller,
-    words: &mut [u64],
-    f: WriteFields,
-    s: &[u8],
-    memory: &mut [u8],
-) -> Answer
-    requires { ⌜ length (now words) ≡ 1172 ⌝ }
-    requires { ⌜ Good (tablesOf (now words)) ⌝ }
-    requires { ⌜ length (now memory) ≡ 65536 ⌝ }
-    requires { ⌜ f .from + f .count ≤ length (now s) ⌝ }
-    ensures { λ r. ⌜ Gives (doCoreWrite c (tablesOf (now (words .entry))) (now (memory .entry)) f (take (f .count) (drop (f .from) (now (s .entry))))) (tablesOf (now (words .entry))) (now (memory .entry)) (performed r (tablesOf (now (words .exit)))) (now (memory .exit)) ⌝ }
-    ensures { λ _. ⌜ (inUseFit (now (words .entry)) ≡ true → inUseFit (now (words .exit)) ≡ true) ⌝ }
-{
-    let from = f.from;
-    let to = from + f.count as usize;
-    do_core_write(c, words, f, &s[from..to], memory)
+    in_form(core, do_write(c, words, f, &s[from..to], memory))
 }
 
 // The block `b` of the message `s`.
@@ -104,17 +87,16 @@ pub fn perform_block(c: Caller, words: &mut [u64], s: &[u8], b: Block, memory: &
     ensures { λ _. ⌜ (inUseFit (now (words .entry)) ≡ true → inUseFit (now (words .exit)) ≡ true) ⌝ }
 {
     let body = b.body;
-    match body {
-        Body::Read(f) => do_read(c, words, f),
-        Body::Write(f) => writing_block(c, words, f, s, memory),
-        Body::Locking(f) => locking_block(c, words, f, s, b.at, b.length),
-        Body::Close(fid) => do_close(c, words, fid),
-        Body::Logoff => do_logoff(c, words),
-        Body::TreeDisconnect => do_disconnect(c, words),
-        Body::ProcessExit => do_exit(c, words),
-        Body::CoreRead(f) => do_core_read(c, words, f),
-        Body::CoreWrite(f) => core_writing_block(c, words, f, s, memory),
-        Body::LockByteRange(f) => do_range(c, words, f, 0, 1),
-        Body::UnlockByteRange(f) => do_range(c, words, f, 1, 0),
+    let work = work_of(body);
+    match work {
+        Work::Read(f, core) => in_form(core, do_read(c, words, f)),
+        Work::Write(f, core) => writing_block(c, words, f, s, memory, core),
+        Work::Locking(f) => locking_block(c, words, f, s, b.at, b.length),
+        Work::Close(fid) => do_close(c, words, fid),
+        Work::Logoff => do_logoff(c, words),
+        Work::TreeDisconnect => do_disconnect(c, words),
+        Work::ProcessExit => do_exit(c, words),
+        Work::SetSize(f) => do_set_size(c, words, f, memory),
+        Work::Range(f, unlocks, locks) => do_range(c, words, f, unlocks, locks),
     }
 }

@@ -16,11 +16,17 @@ add-le32-at c = search needs
 le32-at-requires : tie.Need-le32-at-requires
 le32-at-requires c κs = search needs
 
+cast-offset : tie.Need-cast-offset
+cast-offset c = search needs
+
 add-le32-at-2 : tie.Need-add-le32-at-2
 add-le32-at-2 c = search needs
 
 le32-at-requires-2 : tie.Need-le32-at-requires-2
 le32-at-requires-2 c κs = search needs
+
+cast-length : tie.Need-cast-length
+cast-length c = search needs
 
 returns : tie.Need-returns
 returns c = rw (c .before .before .le16-at .ensures, c .before .le32-at .ensures, c .le32-at2 .ensures)
@@ -33,6 +39,8 @@ range-fields-spec =
     le16-at-requires
     add-le32-at
     le32-at-requires
+    cast-offset
     add-le32-at-2
     le32-at-requires-2
+    cast-length
     returns)

@@ -1,45 +1,57 @@
--- `requests::core::do_range` meets its contract: the request is the LOCKING of one range, and its answer is made the core command's.
+-- `requests::core::do_range` meets its contract: the open is reached first, then the request is made.
 -- Assumes nothing.
 use borrow.Author.Needs.{needs}
-use Rattle.message.specs.Command.{oneRange, doRange}
-use Rattle.requests.specs.CorePart.{leaves-core}
+use mathlib.Core.Path.{refl, sym, _∙_}
+use Rattle.tables.specs.Words.{tablesOf}
+use Rattle.requests.specs.Leaves.{refusal}
+use Rattle.requests.specs.Reach.{not-reached, is-reached}
+use Rattle.requests.specs.Steps.{range-steps}
 use Rattle.requests.proofs.core.do_range.Statement.{statement}
 use Rattle.requests.proofs.core.do_range.Tie as tie
 
-range-by-requires : tie.Need-range-by-requires
-range-by-requires c κs = search needs
+reach-open-requires : tie.Need-reach-open-requires
+reach-open-requires c κs = search needs
 
-small-form-requires : tie.Need-small-form-requires
-small-form-requires c κs = search needs
+enum-told : tie.Need-enum-told
+enum-told c = search needs
 
-slice-aggregate-do-locking : tie.Need-slice-aggregate-do-locking
-slice-aggregate-do-locking c = search needs
+range-open-requires : tie.Need-range-open-requires
+range-open-requires c κs = search needs
 
-do-locking-requires : tie.Need-do-locking-requires
-do-locking-requires c κs = search needs
-
-core-answer-requires : tie.Need-core-answer-requires
-core-answer-requires c κs = search needs
+enum-known-at : tie.Need-enum-known-at
+enum-known-at c = search needs
 
 same-length : tie.Need-same-length
 same-length c = search needs
 
 returns : tie.Need-returns
-unfolding doRange oneRange
 returns c =
-    let done = c .before .before .before .do-locking in (
-      (λ m. rw (c .core-answer .ensures, ← (c .before .before .before .before .before .before .before .range-by .ensures), ← (c .before .before .before .before .before .before .small-form .ensures)) (leaves-core (done .ensures .0) m)),
-      done .ensures .1,
+    let args = c .before .before .before .before .before .before .before .before .before .args in
+    let t = tablesOf (args .words .now) in (
+      (λ m. rw (range-steps (args .c) t m (args .f) (args .unlocks) (args .locks)) (is-reached (args .c) t (args .f .fid) m _ _ m _ (sym (c .before .before .before .before .before .before .reach-open .ensures) ∙ c .before .before .before .before .enum-told .given .1) (c .before .before .range-open .ensures .0 m))),
+      c .before .before .range-open .ensures .1,
+    )
+
+same-length-2 : tie.Need-same-length-2
+same-length-2 c = search needs
+
+returns-2 : tie.Need-returns-2
+returns-2 c =
+    let args = c .before .before .before .before .before .before .args in
+    let t = tablesOf (args .words .now) in (
+      (λ m. rw (range-steps (args .c) t m (args .f) (args .unlocks) (args .locks)) (not-reached (args .c) t (args .f .fid) m (refusal _ t) _ _ (sym (c .before .before .before .reach-open .ensures) ∙ c .before .at .given .1) refl)),
+      λ h. h,
     )
 
 pub do-range-spec : {M : Type 1} → statement M
 do-range-spec =
     tie.close
     (tie.spec
-    range-by-requires
-    small-form-requires
-    slice-aggregate-do-locking
-    do-locking-requires
-    core-answer-requires
+    reach-open-requires
+    enum-told
+    range-open-requires
+    enum-known-at
     same-length
-    returns)
+    returns
+    same-length-2
+    returns-2)

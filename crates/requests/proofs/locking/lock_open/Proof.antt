@@ -1,17 +1,8 @@
--- `requests::locking::lock_open` meets its contract: the type is tested first, then the request is made over the files of the FIDs.
+-- `requests::locking::lock_open` meets its contract: the type is tested first, then the request is made.
 -- Assumes nothing.
 use borrow.Author.Needs.{needs}
-use mathlib.Core.Path.{_≡_, refl, _∙_}
-use native.Mathlib.Omega.{arith}
-use lib.ListN.{length}
-use Rattle.records.specs.Held.{opensOf}
-use Rattle.tables.specs.Words.{tablesOf}
-use Rattle.tables.specs.PartLaws.{length-part}
-use Rattle.tables.specs.WholeLaws.{told-fit, fit-locks}
-use Rattle.soundness.specs.SoundLaws.{table-serves}
-use Rattle.invariants.specs.SoundParts.{sound-says}
+use mathlib.Core.Path.{refl}
 use Rattle.requests.specs.Leaves.{gives-refused}
-use Rattle.requests.specs.LockPart.{settles-gives}
 use Rattle.requests.specs.Steps.{lockOpen}
 use Rattle.requests.specs.Told.{told-yes, told-no}
 use Rattle.requests.proofs.locking.lock_open.Statement.{statement}
@@ -22,35 +13,10 @@ served-type-requires c κs = search needs
 
 returns : tie.Need-returns
 unfolding lockOpen
-returns c =
-    ((λ m. gives-refused _ (rw (told-no (c .before .served-type .ensures) (c .if1 .taken))) refl), λ h. h)
+returns c = ((λ m. gives-refused _ (rw (told-no (c .before .served-type .ensures) (c .if1 .taken))) refl), λ h. h)
 
-sub-file-table : tie.Need-sub-file-table
-sub-file-table c = search needs
-
-part-file-table-start : tie.Need-part-file-table-start
-part-file-table-start c = search needs
-
-part-file-table-end : tie.Need-part-file-table-end
-part-file-table-end c = search needs
-
-file-table-requires : tie.Need-file-table-requires
-file-table-requires c κs = search needs
-
-request-of-requires : tie.Need-request-of-requires
-request-of-requires c κs = search needs
-
-sub-lock-request : tie.Need-sub-lock-request
-sub-lock-request c = search needs
-
-part-lock-request-start : tie.Need-part-lock-request-start
-part-lock-request-start c = search needs
-
-part-lock-request-end : tie.Need-part-lock-request-end
-part-lock-request-end c = search needs
-
-lock-request-requires : tie.Need-lock-request-requires
-lock-request-requires c κs = search needs
+settle-requires : tie.Need-settle-requires
+settle-requires c κs = search needs
 
 lock-answer-requires : tie.Need-lock-answer-requires
 lock-answer-requires c κs = search needs
@@ -59,20 +25,11 @@ same-length : tie.Need-same-length
 same-length c = search needs
 
 returns-2 : tie.Need-returns-2
-unfolding lockOpen tablesOf
-returns-2 c =
-    let args = c .before .before .before .before .before .before .before .before .before .before .before .before .before .before .args in
-    let w = args .words .now in
-    let t = tablesOf w in
-    let full : length w ≡ 1172 = c .before .before .before .before .before .before .before .before .before .before .before .before .before .before .pre .0 in
-    let done = c .before .before .before .lock-request in
-    let e = done .last .1 .0 in
-    let long : length e ≡ 641 = done .kept .1 .0 ∙ length-part w 515 641 (omega arith) in (
-      (λ m.
-          rw (told-yes (c .before .before .before .before .before .before .before .before .before .before .before .served-type .ensures) (c .before .before .before .before .before .before .before .before .before .before .if1 .left), ← (table-serves (opensOf t) (sound-says t (c .before .before .before .before .before .before .before .before .before .before .before .before .before .before .pre .1 .sound) .records .fids)), ← (c .before .before .before .before .before .before .before .file-table .ensures), ← (c .before .before .before .before .before .before .request-of .ensures), c .lock-answer .ensures)
-          (settles-gives w e m _ full long _ (done .ensures .0))),
-      λ h. fit-locks w e full long h (done .ensures .1 (told-fit w h .locks-fit)),
-    )
+unfolding lockOpen
+returns-2 c = (
+  (λ m. rw (told-yes (c .before .before .before .before .before .before .served-type .ensures) (c .before .before .before .before .before .if1 .left), c .lock-answer .ensures) (c .before .before .before .settle .ensures .0 m)),
+  c .before .before .before .settle .ensures .1,
+)
 
 pub lock-open-spec : {M : Type 1} → statement M
 lock-open-spec =
@@ -80,15 +37,7 @@ lock-open-spec =
     (tie.spec
     served-type-requires
     returns
-    sub-file-table
-    part-file-table-start
-    part-file-table-end
-    file-table-requires
-    request-of-requires
-    sub-lock-request
-    part-lock-request-start
-    part-lock-request-end
-    lock-request-requires
+    settle-requires
     lock-answer-requires
     same-length
     returns-2)

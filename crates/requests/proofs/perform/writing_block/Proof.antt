@@ -1,4 +1,4 @@
--- `requests::perform::writing_block` meets its contract: the part of the message handed on is the write's data.
+-- `requests::perform::writing_block` meets its contract: the part of the message handed on is the write's data, and the answer has its form.
 -- Assumes nothing.
 use borrow.Author.Needs.{needs}
 use mathlib.Core.Path.{_≡_, _∙_}
@@ -6,6 +6,7 @@ use Prim.Native.Nat.{_+_, _-_, _≤_}
 use lib.ListN.{length}
 use Rattle.tables.specs.PartLaws.{length-part}
 use native.Mathlib.Omega.{arith}
+use Rattle.requests.specs.CorePart.{gives-formed}
 use Rattle.requests.proofs.perform.writing_block.Statement.{statement}
 use Rattle.requests.proofs.perform.writing_block.Tie as tie
 
@@ -32,6 +33,9 @@ do-write-requires c κs =
     let cut : args .f .from + args .f .count - args .f .from ≡ args .f .count = omega arith in
     (pre .0, (pre .1 .0, (pre .1 .1 .0, length-part (args .s .now) (args .f .from) (args .f .from + args .f .count - args .f .from) (omega arith) ∙ cut)))
 
+in-form-requires : tie.Need-in-form-requires
+in-form-requires c κs = search needs
+
 same-length : tie.Need-same-length
 same-length c = search needs
 
@@ -40,9 +44,9 @@ same-length-2 c = search needs
 
 returns : tie.Need-returns
 returns c =
-    let args = c .before .before .before .before .before .before .before .before .before .before .before .before .args in
+    let args = c .before .before .before .before .before .before .before .before .before .before .before .before .before .args in
     let cut : args .f .from + args .f .count - args .f .from ≡ args .f .count = omega arith in
-    (rw cut at (c .before .before .before .before .do-write .ensures .0), c .before .before .before .before .do-write .ensures .1)
+    (rw (c .in-form .ensures) (gives-formed (args .core) (rw cut at (c .before .before .before .before .before .do-write .ensures .0))), c .before .before .before .before .before .do-write .ensures .1)
 
 pub writing-block-spec : {M : Type 1} → statement M
 writing-block-spec =
@@ -54,6 +58,7 @@ writing-block-spec =
     part-do-write-start
     part-do-write-end
     do-write-requires
+    in-form-requires
     same-length
     same-length-2
     returns)
