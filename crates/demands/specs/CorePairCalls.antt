@@ -6,7 +6,7 @@ use native.Mathlib.Nat.{zero-add, suc-add}
 use native.Mathlib.Omega.{arith}
 use mathlib.Core.List.{List, [], _∷_, _++_, append-nil}
 use mathlib.Core.Option.{some}
-use lib.ListN.{take, drop}
+use lib.ListN.{length, take, drop}
 use lib.Seq.{drop-drop, take-nil}
 use lib.Dec.{eqb}
 use borrow.Author.Tests.{eqb-true}
@@ -39,7 +39,8 @@ use Rattle.message.specs.Command.{Said, locked, Given, doLocking, perform}
 use Rattle.message.specs.Reply.{replyHeader, replyBlock, refusedBlock, replySize}
 use Rattle.message.specs.Message.{areaOf, dataOf, Ran, after, linkTo, afterGiven, run, answered, replyOf, Taken, replied, take-message}
 use Rattle.demands.specs.Malformed.{length-area}
-use Rattle.demands.specs.Calls.{statusRead, status-call, sentence-answered}
+use Rattle.demands.specs.Calls.{statusRead, status-call, length-call, sentence-answered}
+use Rattle.demands.specs.ChainReasons.{refusal-not-zero}
 use Rattle.demands.specs.CommandReasons.{OnlyTwoBits}
 use Rattle.demands.specs.LoneCall.{lockingFields}
 use Rattle.demands.specs.WireFields.{senderProcess, upperHalf, one-first, first-body, first-area, first-data}
@@ -70,13 +71,14 @@ pub data EqualFields (s t : List ℕ) : ℕ → ℕ → Type 0 where
   unlock-fields : fidAfterAndx t FIRST ≡ firstFid s FIRST → OnlyTwoBits (lockType t FIRST) → unlockCount t FIRST ≡ 1 → lockCount t FIRST ≡ 0
       → RangeOn t 0 (coreRange s) → EqualFields s t UNLOCK_BYTE_RANGE LOCKING
 
--- one reply block of each: refused alike, or what each says of the same
-pub data BlocksAlike (place : ℕ) : List ℕ → List ℕ → Type 0 where
-  refused-blocks : BlocksAlike place refusedBlock refusedBlock
-  said-blocks : {said said′ : Said} → SaidAlike said said′ → BlocksAlike place (replyBlock said place noLink) (replyBlock said′ place noLink)
+-- one reply block of each, with the Status of both: refused alike, or done and what each says of the same
+pub data BlocksAlike (place : ℕ) : Status → List ℕ → List ℕ → Type 0 where
+  refused-blocks : {why : Status} → (why ≡ status 0 0 → ⊥) → BlocksAlike place why refusedBlock refusedBlock
+  said-blocks : {said said′ : Said} → SaidAlike said said′ → BlocksAlike place (status 0 0) (replyBlock said place noLink) (replyBlock said′ place noLink)
 
--- two calls, with messages s and t, in the same room: the same number, holder, tables and file memory, the same Status, and reply blocks that are alike
-pub record SameCalls (Blocks : List ℕ → List ℕ → Type 0) (s t room : List ℕ) (one other : Taken) : Type 0 where
+-- two calls, with messages s and t, in the same room: the same number, holder, tables and file memory, the same Status, and reply blocks that are alike, with nothing
+-- behind them
+pub record SameCalls (Blocks : Status → List ℕ → List ℕ → Type 0) (s t room : List ℕ) (one other : Taken) : Type 0 where
   pub same-number : one .number ≡ other .number
   pub same-holder : one .holder ≡ other .holder
   pub same-tables : one .tables ≡ other .tables
@@ -88,7 +90,9 @@ pub record SameCalls (Blocks : List ℕ → List ℕ → Type 0) (s t room : Lis
   pub blocks-other : List ℕ
   pub reply-one : one .room ≡ put room 0 (replyHeader s why ++ blocks-one)
   pub reply-other : other .room ≡ put room 0 (replyHeader t why ++ blocks-other)
-  pub blocks-alike : Blocks blocks-one blocks-other
+  pub length-one : one .length ≡ 32 + length blocks-one
+  pub length-other : other .length ≡ 32 + length blocks-other
+  pub blocks-alike : Blocks why blocks-one blocks-other
 
 -- ---- from the bytes to the fields
 
@@ -162,19 +166,19 @@ fields-pair (unlock-fields fid bits u l on) b h k same c of = unlock-pair fid bi
 -- ---- the calls
 
 -- what two chains leave: the same, with reply blocks that are alike
-record RunsAlike (Blocks : List ℕ → List ℕ → Type 0) (one other : Ran) : Type 0 where
+record RunsAlike (Blocks : Status → List ℕ → List ℕ → Type 0) (one other : Ran) : Type 0 where
   same-status : one .status ≡ other .status
   same-holder : one .holder ≡ other .holder
   same-tables : one .tables ≡ other .tables
   same-memory : one .memory ≡ other .memory
-  blocks-alike : Blocks (one .blocks) (other .blocks)
+  blocks-alike : Blocks (one .status) (one .blocks) (other .blocks)
 
 -- of the last command of each
 last-alike : {g h : Given} → Alike g h → (c d : Caller) (s t : List ℕ) (place : ℕ) (u : Tables) (memory : List ℕ)
     → RunsAlike (BlocksAlike place) (afterGiven g [] place u memory (λ p v m. run c s [] p v m)) (afterGiven h [] place u memory (λ p v m. run d t [] p v m))
 unfolding afterGiven after run linkTo
 last-alike (refused-alike why) c d s t place u memory =
-    record { same-status = refl; same-holder = refl; same-tables = refl; same-memory = refl; blocks-alike = refused-blocks }
+    record { same-status = refl; same-holder = refl; same-tables = refl; same-memory = refl; blocks-alike = refused-blocks (refusal-not-zero why) }
 last-alike (done-alike {said = said} {said′ = said′} says) c d s t place u memory =
     record {
       same-status = refl;
@@ -185,7 +189,7 @@ last-alike (done-alike {said = said} {said′ = said′} says) c d s t place u m
     }
 
 -- of two messages fit to be answered
-calls-alike : {Blocks : List ℕ → List ℕ → Type 0} (connection : ℕ) (s t : List ℕ) (u : Tables) (memory room : List ℕ) → Fit s u memory room → Fit t u memory room
+calls-alike : {Blocks : Status → List ℕ → List ℕ → Type 0} (connection : ℕ) (s t : List ℕ) (u : Tables) (memory room : List ℕ) → Fit s u memory room → Fit t u memory room
     → RunsAlike Blocks (answered connection s u memory) (answered connection t u memory)
     → SameCalls Blocks s t room (take-message connection s u memory room) (take-message connection t u memory room)
 unfolding replied replyOf
@@ -206,6 +210,8 @@ calls-alike connection s t u memory room f g alike =
       blocks-other = q .blocks;
       reply-one = ap (λ (k : Taken). k .room) one;
       reply-other = ap (λ (k : Taken). k .room) other ∙ ap (λ (n : Status). put room 0 (replyHeader t n ++ q .blocks)) (sym (alike .same-status));
+      length-one = length-call connection s u memory room f;
+      length-other = length-call connection t u memory room g;
       blocks-alike = alike .blocks-alike;
     }
 
@@ -247,10 +253,10 @@ pub record SameLocking (s t : List ℕ) : Type 0 where
   pub same-ranges : areaAt s FIRST ≡ areaAt t FIRST
 
 -- the reply blocks: LOCKING is refused in both, or its block, which stands at 32 and names the next command and its place, has the other command's behind it
-pub data ChainsAlike (core other : ℕ) : List ℕ → List ℕ → Type 0 where
-  locking-refused-alike : ChainsAlike core other refusedBlock refusedBlock
-  locking-then : {one two : List ℕ} → BlocksAlike 39 one two
-      → ChainsAlike core other (replyBlock locked FIRST (next core 39) ++ one) (replyBlock locked FIRST (next other 39) ++ two)
+pub data ChainsAlike (core other : ℕ) : Status → List ℕ → List ℕ → Type 0 where
+  locking-refused-alike : {why : Status} → (why ≡ status 0 0 → ⊥) → ChainsAlike core other why refusedBlock refusedBlock
+  locking-then : {why : Status} {one two : List ℕ} → BlocksAlike 39 why one two
+      → ChainsAlike core other why (replyBlock locked FIRST (next core 39) ++ one) (replyBlock locked FIRST (next other 39) ++ two)
 
 -- a reading of two blocks, from a place on
 record TwoBlocks (s : List ℕ) (command at : ℕ) : Type 0 where
@@ -279,8 +285,8 @@ locking-before : {g : Given} → LockingSays g → (b d : Block) (u : Tables) (m
     → ((place : ℕ) (v : Tables) (m : List ℕ) → RunsAlike (BlocksAlike place) (one place v m) (other place v m))
     → RunsAlike (ChainsAlike (b .command) (d .command)) (afterGiven g (b ∷ []) FIRST u memory one) (afterGiven g (d ∷ []) FIRST u memory other)
 unfolding afterGiven after linkTo replySize
-locking-before locking-refused b d u memory one other alike =
-    record { same-status = refl; same-holder = refl; same-tables = refl; same-memory = refl; blocks-alike = locking-refused-alike }
+locking-before (locking-refused {why}) b d u memory one other alike =
+    record { same-status = refl; same-holder = refl; same-tables = refl; same-memory = refl; blocks-alike = locking-refused-alike (refusal-not-zero why) }
 locking-before (locking-done {t = v} {memory = m}) b d u memory one other alike =
     let k = alike 39 v m in
     record {
