@@ -109,7 +109,7 @@ drop-taken (suc n) m [] = ap (drop (suc n)) (take-nil (suc n + m)) ∙ sym (take
 drop-taken (suc n) m (x ∷ xs) = ap (λ (k : ℕ). drop (suc n) (take k (x ∷ xs))) (suc-add n m) ∙ drop-taken n m xs
 
 -- a core WRITE's data stand behind the mark and the length of its data block
-marked-part : {s : List ℕ} {at : ℕ} → IsBlock s at CORE-WRITE → drop 3 (areaAt s at) ≡ part s (markedData s at) (coreCount s at)
+pub marked-part : {s : List ℕ} {at : ℕ} → IsBlock s at CORE-WRITE → drop 3 (areaAt s at) ≡ part s (markedData s at) (coreCount s at)
 marked-part {s} {at} h =
     rw (marked-block h .filled) (drop-taken 3 (coreCount s at) (drop (byteArea s at) s) ∙ ap (take (coreCount s at)) (drop-drop 3 (byteArea s at) s))
 

@@ -64,3 +64,4 @@ pub mod HolderWire
 pub mod Processes
 pub mod CorePairCalls
 pub mod CorePairCases
+pub mod CoreMoved
