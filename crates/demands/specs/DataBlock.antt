@@ -16,6 +16,7 @@ use Rattle.message.specs.declared.refusal.HeldBy.the-variants.{Nobody}
 use Rattle.message.specs.Message.{served, Taken, take-message}
 use Rattle.demands.specs.Calls.{statusRead, malformed-call}
 use Rattle.demands.specs.RefusedCall.{Untouched}
+use Rattle.demands.specs.ReplyBytes.{PlainBlock}
 use Rattle.demands.specs.NoSentence.{no-sentence-taken}
 
 -- ---- the plain words
@@ -31,12 +32,14 @@ pub data BadCoreWrite (s : List ℕ) : Type 0 where
   alone : headerCommand s ≡ CORE-WRITE → BadDataBlock s FIRST → BadCoreWrite s
   behind-locking : headerCommand s ≡ LOCKING → andxCommand s FIRST ≡ CORE-WRITE → BadDataBlock s (andxOffset s FIRST) → BadCoreWrite s
 
--- "Answered as malformed: 0, Status 2/1": no table and no file byte is changed, the reply is the header and one refused block, and there is no holder
+-- "Answered as malformed: 0, Status 2/1": no table and no file byte is changed, the reply is the header and one refused block (WordCount 0, ByteCount 0), and
+-- there is no holder
 pub record AnsweredMalformed (t : Tables) (memory : List ℕ) (call : Taken) : Type 0 where
   pub number : call .number ≡ 0
   pub status-given : statusRead (call .room) ≡ status 2 1
   pub untouched : Untouched t memory call
   pub one-block : call .length ≡ 35
+  pub its-bytes : PlainBlock (call .room)
   pub nobody : call .holder ≡ Nobody
 
 -- ---- it is no sentence
@@ -79,4 +82,4 @@ pub bad-data-block : (connection : ℕ) (s : List ℕ) → BadCoreWrite s → (t
 bad-data-block connection s bad t memory room fit =
     let says = malformed-call connection s t memory room fit (bad-served bad) .1 (bad-no-sentence bad) in
     let leaves = no-sentence-taken connection s t memory room fit (bad-no-sentence bad) in
-    record { number = says .0; status-given = says .1; untouched = leaves .0; one-block = leaves .1; nobody = leaves .2 }
+    record { number = says .0; status-given = says .1; untouched = leaves .0; one-block = leaves .1; its-bytes = leaves .3; nobody = leaves .2 }

@@ -1,7 +1,8 @@
 -- "2/22 header command not served", "2/1": a message fit to be answered that is no sentence, whatever its command, changes no table and no file byte, its reply is the
 -- header and one refused block, and there is no holder. Assumes nothing.
-use mathlib.Core.Path.{_≡_, ap, _∙_}
-use Prim.Native.Nat.{ℕ, _+_}
+use mathlib.Core.Path.{_≡_, sym, ap, subst, _∙_}
+use Prim.Native.Nat.{ℕ, _+_, _≤_}
+use native.Mathlib.Omega.{arith}
 use mathlib.Core.Bool.{true, false}
 use mathlib.Core.Logic.{inl, inr}
 use mathlib.Core.List.{List}
@@ -13,27 +14,31 @@ use Rattle.chain.specs.Grammar.{Sentence}
 use Rattle.message.specs.Reply.{refusedBlock}
 use Rattle.message.specs.declared.refusal.Status.{Status}
 use Rattle.message.specs.declared.refusal.HeldBy.the-variants.{Nobody}
-use Rattle.message.specs.Message.{Ran, served, onlyStatus, answered, Taken, replied, take-message}
+use Rattle.message.specs.Message.{Ran, served, onlyStatus, answered, replyOf, Taken, replied, take-message}
 use Rattle.invariants.specs.Fit.{Fit, fit-answered}
 use Rattle.demands.specs.Malformed.{malformed-nothing, not-served}
+use Rattle.demands.specs.Taken.{not-short}
 use Rattle.demands.specs.Calls.{length-call}
+use Rattle.demands.specs.ReplyBytes.{PlainBlock, refused-block}
 use Rattle.demands.specs.RefusedCall.{Untouched}
 
 module _ (connection : ℕ) (s : List ℕ) (t : Tables) (memory room : List ℕ) (fit : Fit s t memory room) where
   -- the message is answered with a status alone
   only-status : (n : Status) → answered connection s t memory ≡ onlyStatus n t memory
       → Untouched t memory (take-message connection s t memory room) × (take-message connection s t memory room .length ≡ 35)
-      × (take-message connection s t memory room .holder ≡ Nobody)
-  unfolding replied onlyStatus refusedBlock
+      × (take-message connection s t memory room .holder ≡ Nobody) × PlainBlock (take-message connection s t memory room .room)
+  unfolding replied replyOf onlyStatus refusedBlock
   only-status n e =
-      let given = fit-answered connection s t memory room fit ∙ ap (replied s room) e in (
+      let given = fit-answered connection s t memory room fit ∙ ap (replied s room) e in
+      let long : 35 ≤ length s = not-short s (fit .not-dropped) in (
         record { same-tables = ap (λ (k : Taken). k .tables) given; same-memory = ap (λ (k : Taken). k .memory) given },
         length-call connection s t memory room fit ∙ ap (λ (r : Ran). 32 + length (r .blocks)) e,
         ap (λ (k : Taken). k .holder) given,
+        subst PlainBlock (sym (ap (λ (k : Taken). k .room) given)) (refused-block s (omega arith) room n),
       )
 
   pub no-sentence-taken : (Sentence s → ⊥) → Untouched t memory (take-message connection s t memory room) × (take-message connection s t memory room .length ≡ 35)
-      × (take-message connection s t memory room .holder ≡ Nobody)
+      × (take-message connection s t memory room .holder ≡ Nobody) × PlainBlock (take-message connection s t memory room .room)
   no-sentence-taken none =
       elim (decided (served (headerCommand s))) [
         | inl v ↦ only-status _ (malformed-nothing connection s t memory v none)

@@ -10,9 +10,10 @@ use Rattle.lists.specs.Put.{put}
 use Rattle.wire.specs.LittleEndian.{byteAt, le16At}
 use Rattle.chain.specs.Layout.{FIRST}
 use Rattle.message.specs.Refusal.{status}
+use Rattle.message.specs.declared.refusal.Status.{Status}
 use Rattle.message.specs.declared.link.Link.the-variants.{None as noLink}
 use Rattle.message.specs.Command.{Said, read, wrote, plain, coreRead, coreWrote}
-use Rattle.message.specs.Reply.{two, linkWords, replyHeader, replyBlock}
+use Rattle.message.specs.Reply.{two, linkWords, replyHeader, replyBlock, refusedBlock}
 use Rattle.invariants.specs.ReplySize.{length-header}
 
 -- ---- the core commands' blocks, which stand at 32
@@ -33,10 +34,36 @@ pub record CoreWriteBlock (count : ℕ) (room : List ℕ) : Type 0 where
   pub count-said : le16At room 33 ≡ count
   pub no-bytes : le16At room 35 ≡ 0
 
--- LOCK_BYTE_RANGE and UNLOCK_BYTE_RANGE: no words, no bytes
+-- LOCK_BYTE_RANGE and UNLOCK_BYTE_RANGE: no words, no bytes; so is the block of what is refused
 pub record PlainBlock (room : List ℕ) : Type 0 where
   pub no-words : byteAt room 32 ≡ 0
   pub no-bytes : le16At room 33 ≡ 0
+
+-- "Blocks stand end to end from 32": a reply of that Status and block, laid over the front of the room, and a byte of the block
+module _ (s : List ℕ) (long : 32 ≤ length s) (room : List ℕ) (n : Status) (block : List ℕ) where
+  abbrev behindAll : List ℕ
+  behindAll = drop (0 + length (replyHeader s n ++ block)) room
+
+  reply-parts : put room 0 (replyHeader s n ++ block) ≡ replyHeader s n ++ (block ++ behindAll)
+  unfolding put
+  reply-parts = append-assoc (replyHeader s n) block behindAll
+
+  reply-byte : (k : ℕ) → byteAt (put room 0 (replyHeader s n ++ block)) (32 + k) ≡ getD (block ++ behindAll) k 0
+  reply-byte k =
+      ap (λ (l : List ℕ). byteAt l (32 + k)) reply-parts
+      ∙ ap (λ (m : ℕ). byteAt (replyHeader s n ++ (block ++ behindAll)) (m + k)) (sym (length-header s n long))
+      ∙ getD-append-add (replyHeader s n) (block ++ behindAll) k 0
+
+-- "A refused command or message gives WordCount 0 and ByteCount 0"
+pub refused-block : (s : List ℕ) → 32 ≤ length s → (room : List ℕ) (n : Status) → PlainBlock (put room 0 (replyHeader s n ++ refusedBlock))
+unfolding le16At refusedBlock
+refused-block s long room n =
+    let at = reply-byte s long room n refusedBlock in
+    let k : byteAt (put room 0 (replyHeader s n ++ refusedBlock)) 33 ≡ 0 = at 1 in
+    let k′ : byteAt (put room 0 (replyHeader s n ++ refusedBlock)) 34 ≡ 0 = at 2 in
+    record { no-words = at 0; no-bytes = omega arith }
+
+-- ---- done
 
 module _ (s : List ℕ) (long : 32 ≤ length s) (room : List ℕ) (said : Said) where
   -- the block, the reply laid over the front of the room, and what stands in the room behind it
@@ -50,15 +77,11 @@ module _ (s : List ℕ) (long : 32 ≤ length s) (room : List ℕ) (said : Said)
   rest = drop (0 + length (replyHeader s (status 0 0) ++ block)) room
 
   answer-parts : answer ≡ replyHeader s (status 0 0) ++ (block ++ rest)
-  unfolding put
-  answer-parts = append-assoc (replyHeader s (status 0 0)) block rest
+  answer-parts = reply-parts s long room (status 0 0) block
 
-  -- "Blocks stand end to end from 32": a byte of the block, and what stands behind some of its bytes
+  -- a byte of the block, and what stands behind some of its bytes
   answer-byte : (k : ℕ) → byteAt answer (32 + k) ≡ getD (block ++ rest) k 0
-  answer-byte k =
-      ap (λ (l : List ℕ). byteAt l (32 + k)) answer-parts
-      ∙ ap (λ (n : ℕ). byteAt (replyHeader s (status 0 0) ++ (block ++ rest)) (n + k)) (sym (length-header s (status 0 0) long))
-      ∙ getD-append-add (replyHeader s (status 0 0)) (block ++ rest) k 0
+  answer-byte k = reply-byte s long room (status 0 0) block k
 
   answer-behind : (k : ℕ) → drop (32 + k) answer ≡ drop k (block ++ rest)
   answer-behind k =

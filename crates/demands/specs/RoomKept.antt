@@ -40,9 +40,10 @@ module _ (connection : ℕ) (s : List ℕ) (t : Tables) (memory room : List ℕ)
 
 -- ---- a reply
 
--- the reply room after a call: as long as before, and past the reply as before
+-- the reply room after a call: as long as before, and past the reply as before; in a larger room too the reply is no longer than "reply room 12,292"
 pub record RoomKept (room : List ℕ) (call : Taken) : Type 0 where
   pub fits : call .length ≤ length room
+  pub at-most : call .length ≤ 12292
   pub same-length : length (call .room) ≡ length room
   pub rest : drop (call .length) (call .room) ≡ drop (call .length) room
 
@@ -77,14 +78,15 @@ module _ (connection : ℕ) (s : List ℕ) (t : Tables) (memory room : List ℕ)
 -- where nothing is written, all of it stands
 nothing-kept : (number : ℕ) (t : Tables) (memory room : List ℕ) → RoomKept room (notTaken number t memory room)
 unfolding notTaken
-nothing-kept number t memory room = record { fits = omega arith; same-length = refl; rest = refl }
+nothing-kept number t memory room = record { fits = omega arith; at-most = omega arith; same-length = refl; rest = refl }
 
 reply-kept : (s : List ℕ) (room : List ℕ) (connection : ℕ) (t : Tables) (memory : List ℕ) → length (replyOf s (answered connection s t memory)) ≤ length room
-    → RoomKept room (replied s room (answered connection s t memory))
+    → length (replyOf s (answered connection s t memory)) ≤ 12292 → RoomKept room (replied s room (answered connection s t memory))
 unfolding replied
-reply-kept s room connection t memory h =
+reply-kept s room connection t memory h most =
     record {
       fits = h;
+      at-most = most;
       same-length = length-put room (replyOf s (answered connection s t memory)) 0 (omega arith);
       rest = put-rest room (replyOf s (answered connection s t memory));
     }
@@ -100,4 +102,4 @@ module _ (connection : ℕ) (s : List ℕ) (t : Tables) (memory room : List ℕ)
       cond-case (RoomKept room) (dropped s) (notTaken 1 t memory room) (replied s room (answered connection s t memory)) (λ _. nothing-kept 1 t memory room) λ w.
       let l : length (replyOf s (answered connection s t memory)) ≤ 12292 =
       reply-room connection s t memory (record { sound = not-false (sound t) v; shaped = arrays }) (not-short s w) (not-long s w) in
-      reply-kept s room connection t memory (omega arith)
+      reply-kept s room connection t memory (omega arith) l
