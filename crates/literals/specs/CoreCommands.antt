@@ -266,8 +266,13 @@ sizeConflicts =
 
 -- ---- chains
 
+-- LOCKING_ANDX of that type, of the sender's 3 bytes from 6 on, which are those between the size 6 and the size 9; a WRITE stands behind it
+unfoldable pub lockBetween : ℕ → List ℕ
+lockBetween kind = lockBlock 0x0B kind 0 1 10 (0x1A ∷ 0x1B ∷ 6 ∷ 0 ∷ 0 ∷ 0 ∷ 3 ∷ 0 ∷ 0 ∷ 0 ∷ [])
+
 -- "READ and WRITE may end a chain after LOCKING_ANDX": its reply block names 0x0A or 0x0B at 39, where the other stands. Refused there: 1/6, 3/39, and 1/33 by the lock
--- just granted, of process 0x0D0C0051 on 2 to 12. LOCK_BYTE_RANGE and UNLOCK_BYTE_RANGE may not follow, nor the core READ after WRITE_ANDX: 2/1.
+-- just granted, of process 0x0D0C0051 on 2 to 12. A WRITE of count 0 is done where the LOCKING took the bytes between the sizes for the sender alone; where it took them shared (type
+-- 0x01) that lock, just granted, is in the way. LOCK_BYTE_RANGE and UNLOCK_BYTE_RANGE may not follow, nor the core READ after WRITE_ANDX: 2/1.
 unfoldable pub chains : List Row
 chains =
     row fewRecords 0x24 (lock100 0x0A ++ coreRead 4 3 2)
@@ -280,6 +285,10 @@ chains =
     (reply 42 0x24 3 0x27 0 0x88 0x01 ((0x02 ∷ 0x0B ∷ 0x00 ∷ 0x27 ∷ 0x00 ∷ 0x00 ∷ 0x00 ∷ []) ++ (0x00 ∷ 0x00 ∷ 0x00 ∷ [])))
     ∷ row fewRecords 0x24 (lockBlock 0x0A 0 0 1 10 (rangeOf 0x51 2) ++ coreRead 4 3 2)
     (heldAt 4 0x0D0C0051 0 2 10 false (reply 42 0x24 1 0x21 0 0x88 0x01 ((0x02 ∷ 0x0A ∷ 0x00 ∷ 0x27 ∷ 0x00 ∷ 0x00 ∷ 0x00 ∷ []) ++ (0x00 ∷ 0x00 ∷ 0x00 ∷ []))))
+    ∷ row fewRecords 0x24 (lockBetween 0x00 ++ sizeTo 9 0)
+    (success 44 0x24 ((0x02 ∷ 0x0B ∷ 0x00 ∷ 0x27 ∷ 0x00 ∷ 0x00 ∷ 0x00 ∷ []) ++ (0x01 ∷ 0x00 ∷ 0x00 ∷ 0x00 ∷ 0x00 ∷ [])))
+    ∷ row fewRecords 0x24 (lockBetween 0x01 ++ sizeTo 9 0)
+    (heldAt 4 0x0D0C1B1A 0 6 3 true (reply 42 0x24 1 0x21 0 0x88 0x01 ((0x02 ∷ 0x0B ∷ 0x00 ∷ 0x27 ∷ 0x00 ∷ 0x00 ∷ 0x00 ∷ []) ++ (0x00 ∷ 0x00 ∷ 0x00 ∷ []))))
     ∷ row fewRecords 0x24 (lock100 0x0C ++ byteRange 4 10 0) (refusal 0x24 2 0x01 0x00)
     ∷ row fewRecords 0x24 (lock100 0x0D ++ byteRange 4 10 100) (refusal 0x24 2 0x01 0x00)
     ∷ row fewRecords 0x2F (writeBlock 0x0A 2 0 ++ coreRead 4 3 2) (refusal 0x2F 2 0x01 0x00)
@@ -292,7 +301,7 @@ table = readReplies ++ (writeReplies ++ (sizeReplies ++ (rangeReplies ++ (whoMay
 
 -- what the definitions give is what the documents say, in every row
 pub core-replies : map (λ r. given (r .tables) (r .request)) table ≡ map (λ r. r .said) table
-unfolding table longWrite longRead topRange farSize emptyReply readReplies writeReplies resizedReply sizeReplies rangeReplies whoMayAsk ownShared conflicts sizeConflicts chains row sent coreRead coreWrite writeTo sizeTo byteRange holderOf message fewRecords tablesWith session tree open-of sizes memory given taken take-message dropped startsSmb isReply answered served replied replyOf replyHeader put runChain onlyStatus blocks blocksFrom blocksWithin afterParse afterBlock before parse answer linkFits linkAt mayFollow shaped bare le16At le32At callerOf run afterGiven after linkTo perform areaOf dataOf status statusOf replyBlock refusedBlock replySize linkWords two withSession isSession withTree withOpen isOpen openAt found foundFrom sound withinRoom fileOk treeOk permits holdsOpen openOk soundRecords lockOk agree agreeAll soundLocks fileOf isTree contains numberOk numbered any all allTails overlaps passesEnd reply success lock100 lockBlock range100 parseLocking lockingFits isLarge rangeSize doLocking servedType requestOf locking request releaseAll afterFind removeAt named afterReleases grantAll afterWalk afterGrants settle rangesOf ofHeader rangesAt rangeAt rangeFrom numberAt rangePasses askOf lockOf answers answersFor inWay bars owns lockingAfter lockingEnd withLockList stored wideOffset doRead unlessBarred barring askBy readBytes contents sizeOf writeBlock parseWrite writeFits dataInside doWrite endsPast resized written withFiles parseBare withLocks refusal opened lock heldAt contested rangeOf holderAt parseCoreWrite coreWriteFits coreSaid asCore rangeBy oneRange doRange smallForm betweenSizes doSetSize doCoreWrite
+unfolding table longWrite longRead topRange farSize emptyReply readReplies writeReplies resizedReply sizeReplies rangeReplies whoMayAsk ownShared conflicts sizeConflicts lockBetween chains row sent coreRead coreWrite writeTo sizeTo byteRange holderOf message fewRecords tablesWith session tree open-of sizes memory given taken take-message dropped startsSmb isReply answered served replied replyOf replyHeader put runChain onlyStatus blocks blocksFrom blocksWithin afterParse afterBlock before parse answer linkFits linkAt mayFollow shaped bare le16At le32At callerOf run afterGiven after linkTo perform areaOf dataOf status statusOf replyBlock refusedBlock replySize linkWords two withSession isSession withTree withOpen isOpen openAt found foundFrom sound withinRoom fileOk treeOk permits holdsOpen openOk soundRecords lockOk agree agreeAll soundLocks fileOf isTree contains numberOk numbered any all allTails overlaps passesEnd reply success lock100 lockBlock range100 parseLocking lockingFits isLarge rangeSize doLocking servedType requestOf locking request releaseAll afterFind removeAt named afterReleases grantAll afterWalk afterGrants settle rangesOf ofHeader rangesAt rangeAt rangeFrom numberAt rangePasses askOf lockOf answers answersFor inWay bars owns lockingAfter lockingEnd withLockList stored wideOffset doRead unlessBarred barring askBy readBytes contents sizeOf writeBlock parseWrite writeFits dataInside doWrite endsPast resized written withFiles parseBare withLocks refusal opened lock heldAt contested rangeOf holderAt parseCoreWrite coreWriteFits coreSaid asCore rangeBy oneRange doRange smallForm betweenSizes doSetSize doCoreWrite
 core-replies = refl
 
 -- ---- what else the call leaves
@@ -338,7 +347,8 @@ sizes-left = (refl, refl, refl, refl, refl, refl, refl, refl, refl, refl)
 unfoldable pub three : Tables
 three = opened 2 (lock 0x0D0C1B1A 50 1 ∷ lock 0x0D0C1B1A 100 10 ∷ lock 0x0D0C1B1A 200 1 ∷ [])
 
--- "the process from the header; the lock is exclusive"; an unlock removes that lock; in a chain the LOCKING before a WRITE stands, done or refused
+-- "the process from the header; the lock is exclusive"; an unlock removes that lock; in a chain the LOCKING before a WRITE stands, done or refused; refused, a
+-- count of 0 leaves the size as it was
 pub locks-left : (taken fewRecords (sent 0x0C (byteRange 4 10 100)) .tables .locks ≡ record { fid = 4; process = 0x0D0C1B1A; offset = 100; length = 10; shared = false } ∷ [])
     × (taken fewRecords (sent 0x0C (byteRange 4 10 100)) .tables .nlocks ≡ 1)
     × (taken fewRecords (sent 0x0C topRange) .tables .locks ≡ lock 0x0D0C1B1A 4294967295 4294967295 ∷ [])
@@ -347,5 +357,7 @@ pub locks-left : (taken fewRecords (sent 0x0C (byteRange 4 10 100)) .tables .loc
     × (taken fewRecords (sent 0x24 (lock100 0x0B ++ writeTo 2 0)) .tables .locks ≡ lock 0x0D0C1B1A 100 10 ∷ [])
     × (taken fewRecords (sent 0x24 (lock100 0x0B ++ writeTo 2 0)) .memory ≡ file1 (0xA0 ∷ 0xA1 ∷ 0xBB ∷ 0xCC ∷ 0xA4 ∷ 0xA5 ∷ []) 61434)
     × (taken fewRecords (sent 0x24 (lock100 0x0B ++ sizeTo 0x01 0x10)) .tables .locks ≡ lock 0x0D0C1B1A 100 10 ∷ [])
-unfolding three topRange file1 sent coreRead coreWrite writeTo sizeTo byteRange holderOf message fewRecords tablesWith session tree open-of sizes memory taken take-message dropped startsSmb isReply answered served replied replyOf replyHeader put runChain onlyStatus blocks blocksFrom blocksWithin afterParse afterBlock before parse answer linkFits linkAt mayFollow shaped bare le16At le32At callerOf run afterGiven after linkTo perform areaOf dataOf status statusOf replyBlock refusedBlock replySize linkWords two withSession isSession withTree withOpen isOpen openAt found foundFrom sound withinRoom fileOk treeOk permits holdsOpen openOk soundRecords lockOk agree agreeAll soundLocks fileOf isTree contains numberOk numbered any all allTails overlaps passesEnd lock100 lockBlock range100 parseLocking lockingFits isLarge rangeSize doLocking servedType requestOf locking request releaseAll afterFind removeAt named afterReleases grantAll afterWalk afterGrants settle rangesOf ofHeader rangesAt rangeAt rangeFrom numberAt rangePasses askOf lockOf answers answersFor inWay bars owns lockingAfter lockingEnd withLockList stored doRead unlessBarred barring askBy readBytes contents sizeOf doWrite endsPast resized written withFiles parseBare withLocks opened lock parseCoreWrite coreWriteFits coreSaid asCore rangeBy oneRange doRange smallForm betweenSizes doSetSize doCoreWrite
-locks-left = (refl, refl, refl, refl, refl, refl, refl, refl)
+    × (taken fewRecords (sent 0x24 (lockBetween 0x01 ++ sizeTo 9 0)) .tables .locks ≡ record { fid = 4; process = 0x0D0C1B1A; offset = 6; length = 3; shared = true } ∷ [])
+    × (sizesIn (taken fewRecords (sent 0x24 (lockBetween 0x01 ++ sizeTo 9 0)) .tables) ≡ 0 ∷ 6 ∷ replicate 14 0)
+unfolding lockBetween sizesIn three topRange file1 sent coreRead coreWrite writeTo sizeTo byteRange holderOf message fewRecords tablesWith session tree open-of sizes memory taken take-message dropped startsSmb isReply answered served replied replyOf replyHeader put runChain onlyStatus blocks blocksFrom blocksWithin afterParse afterBlock before parse answer linkFits linkAt mayFollow shaped bare le16At le32At callerOf run afterGiven after linkTo perform areaOf dataOf status statusOf replyBlock refusedBlock replySize linkWords two withSession isSession withTree withOpen isOpen openAt found foundFrom sound withinRoom fileOk treeOk permits holdsOpen openOk soundRecords lockOk agree agreeAll soundLocks fileOf isTree contains numberOk numbered any all allTails overlaps passesEnd lock100 lockBlock range100 parseLocking lockingFits isLarge rangeSize doLocking servedType requestOf locking request releaseAll afterFind removeAt named afterReleases grantAll afterWalk afterGrants settle rangesOf ofHeader rangesAt rangeAt rangeFrom numberAt rangePasses askOf lockOf answers answersFor inWay bars owns lockingAfter lockingEnd withLockList stored doRead unlessBarred barring askBy readBytes contents sizeOf doWrite endsPast resized written withFiles parseBare withLocks opened lock parseCoreWrite coreWriteFits coreSaid asCore rangeBy oneRange doRange smallForm betweenSizes doSetSize doCoreWrite
+locks-left = (refl, refl, refl, refl, refl, refl, refl, refl, refl, refl)
