@@ -111,9 +111,9 @@ pub record SoundStays : Type 0 where
   pub one-call : (t after : Tables) (memory left : List ℕ) → HostCall t memory after left → Good t → Good after
   pub for-ever : (t : Tables) → Reached t → Good t
 
--- document 01, "reply room 12,292": the reply fits in it, and no byte behind the reply is written
+-- document 01, "reply room 12,292": the reply fits in it, in a larger room too it is no longer than that, and no byte behind the reply is written
 abbrev pub RoomSuffices : Type 0
-RoomSuffices = (c : Call) → Good (c .tables) → RoomKept (c .room) (gives c)
+RoomSuffices = (c : Call) → Good (c .tables) → (gives c .length ≤ 12292) × RoomKept (c .room) (gives c)
 
 pub record Demand1 : Type 0 where
   pub number-for-its-reason : NumberForItsReason
@@ -192,5 +192,5 @@ demand-1 =
             later-not-begun = q .not-begun;
           };
       sound-stays = record { one-call = λ t after memory left call g. call-good call g; for-ever = λ t r. reached-good r };
-      room-suffices = λ c g. room-kept (c .connection) (c .message) (c .tables) (c .memory) (c .room) (g .shaped);
+      room-suffices = λ c g. let kept = room-kept (c .connection) (c .message) (c .tables) (c .memory) (c .room) (g .shaped) in (kept .at-most, kept);
     }
