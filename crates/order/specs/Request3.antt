@@ -49,7 +49,10 @@ use Rattle.demands.specs.FileCommands.{WroteFile}
 use Rattle.demands.specs.Effects.{read-reading, write-reading, core-read-reading, core-write-reading}
 use Rattle.demands.specs.SetSize.{SizeSet, set-size-reading}
 use Rattle.demands.specs.LockEffects.{lock-reading, unlock-reading}
-use Rattle.demands.specs.Processes.{range-whole}
+use Rattle.demands.specs.Processes.{range-whole, alone-sender}
+use Rattle.demands.specs.Taken.{not-long}
+use Rattle.demands.specs.SpansOneByOne.{aloneSpan}
+use Rattle.demands.specs.CoreMoved.{SameBlock, core-sent}
 use Rattle.demands.specs.Reached.{take-message-memory}
 use Rattle.demands.specs.OldBytes.{ZeroFrom, cut-then-grown, cut-then-written, zero-in-reply, zero-in-core-reply, Asked, history, never-shows, first-never-shows}
 use Rattle.order.specs.Call.{Call, gives, Answerable, OneCommand, Says, sender, sending}
@@ -74,7 +77,8 @@ pub record ExclusiveTaken (c : Call) : Type 0 where
   pub exclusive : lock .shared ≡ false
   pub behind : locksOf (gives c .tables) ≡ locksOf (c .tables) ++ (lock ∷ [])
 
--- the fields where the message has them, the block standing at 32; of a message of bytes (below 256, which the type says of code) an offset has 32 bits. The rules of
+-- the fields where the message has them, the block standing at 32. `coreReadFields`, `coreWriteFields` and `rangeFields` are what the rows of demands 1 and 2 speak of; here
+-- they are spelled at their byte places. Of a message of bytes (below 256, which the type says of code) an offset has 32 bits. The rules of
 -- the counterparts are `SameAsCounterpart` below.
 pub record OnTheWire : Type 0 where
   -- READ, WRITE: 5 words, FID 2, count 2, offset 4; a WRITE's data at 48, behind the mark and the length of its data block
@@ -110,6 +114,15 @@ pub record StandsAlone : Type 0 where
   pub ends : (c : Call) (command : ℕ) → EndsChain command → headerCommand (c .message) ≡ LOCKING → IsBlock (c .message) FIRST LOCKING → andxCommand (c .message) FIRST ≡ command
       → blockEnd (c .message) FIRST ≤ andxOffset (c .message) FIRST → IsBlock (c .message) (andxOffset (c .message) FIRST) command
       → Reading (c .message) (spanAt (c .message) LOCKING FIRST ∷ spanAt (c .message) command (andxOffset (c .message) FIRST) ∷ [])
+
+-- document 01, "Sent one to a message": "each block in turn makes a message of the chain's header with the block's command, then the block at 32". Of a READ or WRITE behind a LOCKING
+-- (and of one alone) that message has at 32 the FID, the count, the offset and the data that the chain has at the block's place, and the chain's sender. What the chain gives is
+-- what these messages give in turn (demand 3's `OneToAMessage`), each fit to be answered and one command alone (`EachAlone`): so the rows here say what a WRITE of
+-- count 0 does behind a LOCKING, on the tables that the LOCKING left, with its locks.
+abbrev pub SentAlone : Type 0
+SentAlone =
+    (c : Call) (spans : List Span) → Reading (c .message) spans → Answerable c → (x : Span) → In x spans → EndsChain (x .command)
+    → SameBlock (c .message) (x .place) (aloneSpan (c .message) x) (x .command) × (sender (sending c (aloneSpan (c .message) x)) ≡ sender c)
 
 -- ---- "A core WRITE of count 0 sets the file's size to the offset (past 4,096 is 3/39), with zeros where it grows and no byte changed where it shrinks; for locks it
 -- ---- covers the bytes between the old and the new size."
@@ -165,7 +178,7 @@ pub record RowsGained : Type 0 where
   pub demand : Demand3
   pub known : Known CORE-READ × Known CORE-WRITE × Known LOCK_BYTE_RANGE × Known UNLOCK_BYTE_RANGE
   pub room : RoomSuffices
-  -- alone the longest is a READ's: the header, 16 bytes and a whole file
+  -- alone the longest is a READ's, at most the header, 16 bytes and a whole file
   pub longest : (c : Call) (command : ℕ) → Core command → DoneAlone c command → gives c .length ≤ 32 + 16 + 4096
 
 -- ---- "Refusals: as for the counterparts; a data block not marked 0x01 or whose lengths disagree is 2/1."
@@ -212,6 +225,7 @@ pub record OldBytesNeverShow : Type 0 where
 pub record Request3 : Type 0 where
   pub on-the-wire : OnTheWire
   pub stands-alone : StandsAlone
+  pub sent-alone : SentAlone
   pub sets-the-size : SetsTheSize
   pub same-as-counterpart : SameAsCounterpart
   pub rows-gained : RowsGained
@@ -426,6 +440,8 @@ request-3 =
     record {
       on-the-wire = on-wire;
       stands-alone = standing;
+      sent-alone = λ c spans r a x i ends.
+          (core-sent (c .message) r (not-long (c .message) (a .fit .not-dropped)) x i ends, alone-sender (c .connection) (c .message) r x);
       sets-the-size = sizes;
       same-as-counterpart = counterparts;
       rows-gained = record {
