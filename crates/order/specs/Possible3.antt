@@ -1,4 +1,4 @@
--- The premises of change request 3's page are possible: a count of 0 that is done, one past 4,096, a file that is cut and grows again over bytes that are not 0, a LOCK that is
+-- The premises of change request 3's page are possible: a count of 0 that is done, one past 4,096, one past 4,096 that meets a lock, a file that is cut and grows again over bytes that are not 0, a LOCK that is
 -- refused, an UNLOCK of what isn't locked, each of the four pairs of messages, a chain of a LOCKING and a READ, and a data block that is none. Each is an instance that the
 -- checker computes. (Whole replies: literals/specs/CoreCommands.antt.) Assumes nothing.
 use mathlib.Core.Path.{_≡_, refl, ap, _∙_}
@@ -134,7 +134,8 @@ Given r class code size held = (r .status ≡ status class code) × (length (r .
 unfoldable pub othersHold : HeldBy
 othersHold = held-by (record { lock = record { fid = 4; process = 9; offset = 105; length = 20; shared = true }; place = 0 })
 
--- a cut and, on what it left, a growth; one past 4,096; a LOCK where the others' lock is, an UNLOCK where its own is not and where it is; a READ, a WRITE; the chain
+-- a cut and, on what it left, a growth; one past 4,096; a LOCK where the others' lock is, an UNLOCK where its own is not and where it is; a READ, a WRITE; the chain; the size
+-- past 4,096 over the others' lock
 given-here : Given (answered 5 cut (bench others 0) memory) 0 0 5 Nobody
     × Given (answered 5 grow (answered 5 cut (bench others 0) memory .tables) (answered 5 cut (bench others 0) memory .memory)) 0 0 5 Nobody
     × Given (answered 5 tooLarge (bench others 0) memory) 3 39 3 Nobody
@@ -144,8 +145,10 @@ given-here : Given (answered 5 cut (bench others 0) memory) 0 0 5 Nobody
     × Given (answered 5 (sent CORE-READ coreRead) (bench others 0) memory) 0 0 19 Nobody
     × Given (answered 5 (sent CORE-WRITE coreWrite) (bench others 0) memory) 0 0 5 Nobody
     × Given (answered 5 lockThenRead (bench others 0) memory) 0 0 26 Nobody
+    × Given (answered 5 tooLarge (bench others 1) memory) 1 33 3 othersHold
 unfolding Given cut grow tooLarge lockThenRead othersHold sent sizeTo coreWriteOf coreRead coreWrite coreBytes andxLocking short100 bench others own memory blocks blocksFrom blocksWithin afterParse afterBlock before parse parseLocking parseBare parseCoreWrite answer lockingFits coreWriteFits linkFits linkAt mayFollow shaped bare isLarge le16At le32At rangeSize answered served runChain run afterGiven after perform withOpen withTree withSession isSession isTree isOpen openAt found foundFrom any servedType requestOf lockingAfter lockingEnd withLockList doLocking locking rangesOf ofHeader rangesAt rangeFrom rangeAt numberAt request afterReleases afterGrants grantAll afterWalk holderAt holderOf releaseAll afterFind removeAt rangePasses passesEnd askOf lockOf answers answersFor inWay bars named owns overlaps settle stored doRead unlessBarred barring askBy fileOf callerOf areaOf dataOf status statusOf readBytes contents sizeOf replySize replyBlock refusedBlock linkTo linkWords two coreSaid asCore rangeBy oneRange doRange smallForm betweenSizes doSetSize doCoreWrite doWrite endsPast resized written put withFiles
 given-here = (
+  (refl, refl, refl),
   (refl, refl, refl),
   (refl, refl, refl),
   (refl, refl, refl),
@@ -181,9 +184,12 @@ one-write = (
   record { span = record { command = CORE-WRITE; place = 32; size = 16 }; reading = reader-sound tooLarge _ refl; is = refl },
 )
 
-valid-open : ValidCoreOpen (asked cut (bench others 0)) benchOpen × ValidCoreOpen (asked tooLarge (bench others 0)) benchOpen
+valid-open : ValidCoreOpen (asked cut (bench others 0)) benchOpen
+    × ValidCoreOpen (asked tooLarge (bench others 0)) benchOpen
+    × ValidCoreOpen (asked tooLarge (bench others 1)) benchOpen
 unfolding asked cut tooLarge sent sizeTo coreWriteOf bench benchOpen callerOf le16At SessionHere HasTree
 valid-open = (
+  record { session = (_, first refl, refl, refl); tree = (_, first refl, refl, refl); opened = record { listed = first refl; of-fid = refl; of-uid = refl; of-tid = refl } },
   record { session = (_, first refl, refl, refl); tree = (_, first refl, refl, refl); opened = record { listed = first refl; of-fid = refl; of-uid = refl; of-tid = refl } },
   record { session = (_, first refl, refl, refl); tree = (_, first refl, refl, refl); opened = record { listed = first refl; of-fid = refl; of-uid = refl; of-tid = refl } },
 )
@@ -218,6 +224,22 @@ too-large-asked =
 pub too-large-refused : Says (asked tooLarge (bench others 0)) 3 39 × (gives (asked tooLarge (bench others 0)) .length ≡ 35)
     × (gives (asked tooLarge (bench others 0)) .holder ≡ Nobody)
 too-large-refused = call-says tooLarge (bench others 0) (too-large-asked .answerable) 3 39 3 Nobody (given-here .2)
+
+-- past 4,096 and over the others' lock on 105 to 124, which is between the sizes: 1/33 stands before 3/39
+pub too-large-barred-asked : AsksSize (asked tooLarge (bench others 1)) benchOpen
+unfolding asked tooLarge sent sizeTo coreWriteOf benchOpen le16At
+too-large-barred-asked =
+    record {
+      answerable = answerable tooLarge (bench others 1) (good others 1 (bench-sound .1)) (kept .2);
+      one = record { span = one-write .1 .span; reading = one-write .1 .reading; is = refl };
+      count-0 = refl;
+      valid = valid-open .2;
+      may-write = λ e. let z : _≡_ {A = ℕ} 2 0 = e in omega arith;
+    }
+
+pub too-large-barred : Says (asked tooLarge (bench others 1)) 1 33 × (gives (asked tooLarge (bench others 1)) .length ≡ 35)
+    × (gives (asked tooLarge (bench others 1)) .holder ≡ othersHold)
+too-large-barred = call-says tooLarge (bench others 1) (too-large-barred-asked .answerable) 1 33 3 othersHold (given-here .9)
 
 -- ---- and grows again to 9, on what the cut left
 
