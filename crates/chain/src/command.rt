@@ -96,33 +96,30 @@ pub fn is_served(command: u8) -> bool
     }
 }
 
-// Whether `next` is in the last column of the grammar's table, in the row of `command`.
+// What may follow what: document 01's column "May be followed by", row by row in its order, and last in LOCKING's row the
+// two of document 02's CR 3. READ and WRITE are READ_ANDX and WRITE_ANDX here, CORE_READ and CORE_WRITE that request's READ and
+// WRITE. CLOSE, LOGOFF, TREE_DISCONNECT, PROCESS_EXIT and the core commands are followed by nothing.
 pub fn may_follow(command: u8, next: u8) -> bool
     ensures { λ r. ⌜ r ≡ mayFollow command next ⌝ }
 {
-    if command == LOCKING {
-        if next == READ {
-            return true;
-        }
-        if next == WRITE {
-            return true;
-        }
-        if next == CORE_READ {
-            return true;
-        }
-        return next == CORE_WRITE;
+    match command {
+        LOCKING => match next {
+            READ => true,
+            WRITE => true,
+            CORE_READ => true,
+            CORE_WRITE => true,
+            _ => false,
+        },
+        READ => match next {
+            CLOSE => true,
+            _ => false,
+        },
+        WRITE => match next {
+            WRITE => true,
+            READ => true,
+            CLOSE => true,
+            _ => false,
+        },
+        _ => false,
     }
-    if command == READ {
-        return next == CLOSE;
-    }
-    if command == WRITE {
-        if next == WRITE {
-            return true;
-        }
-        if next == READ {
-            return true;
-        }
-        return next == CLOSE;
-    }
-    false
 }
