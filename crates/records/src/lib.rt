@@ -14,7 +14,8 @@ pub struct Tree {
     pub right: u8,
 }
 
-// An open file: access 0 is read, 1 is write, 2 is both.
+// An open file: access 0 is read, 1 is write, 2 is both; sharing is what it denies to others (document 02, CR 6): 1 both, 2 write,
+// 3 read, 4 nothing.
 pub struct Open {
     pub fid: u16,
     pub uid: u16,
@@ -22,6 +23,7 @@ pub struct Open {
     pub process: u32,
     pub file: u8,
     pub access: u8,
+    pub sharing: u8,
 }
 
 // A byte-range lock. The locks of the table stand in order of grant.
@@ -38,6 +40,13 @@ pub struct File {
     pub size: usize,
 }
 
+// A name of the catalogue (document 02, CR 6): the first `length` bytes of its text, and the file that it names.
+pub struct Name {
+    pub length: u8,
+    pub text: [u8; 12],
+    pub file: u8,
+}
+
 // All tables.
 pub struct Tables {
     pub sessions: [Session; 16],
@@ -49,4 +58,6 @@ pub struct Tables {
     pub locks: [Lock; 128],
     pub nlocks: usize,
     pub files: [File; 16],
+    pub names: [Name; 16],
+    pub nnames: usize,
 }

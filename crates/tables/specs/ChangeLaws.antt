@@ -9,7 +9,7 @@ use lib.Seq.{getD-set-same}
 use Rattle.lists.specs.Put.{put}
 use Rattle.lists.specs.StoredLaws.{stored-add, length-add}
 use Rattle.lists.specs.Walk.{all}
-use Rattle.tables.specs.Words.{word, recordAt, within, recordsFit, sessionOf, treeOf, openOf, lockOf, sessionArray, treeArray, openArray, lockArray}
+use Rattle.tables.specs.Words.{word, recordAt, within, recordsFit, sessionOf, treeOf, openOf, lockOf, nameOf, sessionArray, treeArray, openArray, lockArray, nameArray}
 use Rattle.tables.specs.Written.{Wrote, Holds}
 use Rattle.tables.specs.PartLaws.{stores-put, part-behind}
 use Rattle.tables.specs.ArrayLaws.{length-array, array-count, upTo-same}
@@ -26,11 +26,15 @@ length-treeArray w = length-array treeOf 3 32 w
 
 pub length-openArray : (w : List ℕ) → length (openArray w) ≡ 64
 unfolding openArray
-length-openArray w = length-array openOf 6 64 w
+length-openArray w = length-array openOf 7 64 w
 
 pub length-lockArray : (w : List ℕ) → length (lockArray w) ≡ 128
 unfolding lockArray
 length-lockArray w = length-array lockOf 5 128 w
+
+pub length-nameArray : (w : List ℕ) → length (nameArray w) ≡ 16
+unfolding nameArray
+length-nameArray w = length-array nameOf 14 16 w
 
 module _ (w : List ℕ) (count : ℕ) (h : 0 < length w) where
   pub sessionArray-count : sessionArray (set w 0 count) ≡ sessionArray w
@@ -43,7 +47,7 @@ module _ (w : List ℕ) (count : ℕ) (h : 0 < length w) where
 
   pub openArray-count : openArray (set w 0 count) ≡ openArray w
   unfolding openArray
-  openArray-count = array-count openOf 6 64 w count h
+  openArray-count = array-count openOf 7 64 w count h
 
   pub lockArray-count : lockArray (set w 0 count) ≡ lockArray w
   unfolding lockArray

@@ -16,10 +16,10 @@ use Rattle.lists.specs.Walk.{all, rest}
 use Rattle.lists.specs.WalkLaws.{all-yes, all-no, all-end}
 use Rattle.lists.specs.Members.{all-each, all-snoc}
 use Rattle.lists.specs.PairLaws.{place-in}
-use Rattle.records.specs.Empty.{noSession, noTree, noOpen, noLock}
-use Rattle.tables.specs.Words.{word, upTo, recordAt, arrayOf, within, recordsFit, inUse, sessionOf, treeOf, openOf, lockOf, sessionArray, treeArray, openArray, lockArray, sessionLimits, treeLimits, openLimits, lockLimits}
-use Rattle.tables.specs.Written.{Wrote, sessionWords, treeWords, openWords, lockWords}
-use Rattle.tables.specs.RecordLaws.{Within, within-holds, within-told, within-each, each-within, session-exact, tree-exact, open-exact, lock-exact}
+use Rattle.records.specs.Empty.{noSession, noTree, noOpen, noLock, noName}
+use Rattle.tables.specs.Words.{word, upTo, recordAt, arrayOf, within, recordsFit, inUse, sessionOf, treeOf, openOf, lockOf, nameOf, sessionArray, treeArray, openArray, lockArray, nameArray, sessionLimits, treeLimits, openLimits, lockLimits, nameLimits}
+use Rattle.tables.specs.Written.{Wrote, sessionWords, treeWords, openWords, lockWords, nameWords}
+use Rattle.tables.specs.RecordLaws.{Within, within-holds, within-told, within-each, each-within, session-exact, tree-exact, open-exact, lock-exact, name-exact}
 use Rattle.tables.specs.PartLaws.{row, part-row}
 use Rattle.tables.specs.ArrayLaws.{length-upTo, getD-upTo, record-room, record-at}
 
@@ -170,12 +170,12 @@ unfolding treeArray
 trees-faithful w i long e h =
     faithful treeOf treeWords treeLimits 32 (λ w at. tree-exact (word w at) (word w (at + 1)) (word w (at + 2))) w (inUse w 32) i noTree long e h (omega arith)
 
-pub opens-faithful : (w : List ℕ) (i : ℕ) → length w ≡ 385 → recordsFit openLimits (inUse w 64) w ≡ true → i < inUse w 64
-    → openWords (getD (openArray w) i noOpen) ≡ recordAt 6 w i
+pub opens-faithful : (w : List ℕ) (i : ℕ) → length w ≡ 449 → recordsFit openLimits (inUse w 64) w ≡ true → i < inUse w 64
+    → openWords (getD (openArray w) i noOpen) ≡ recordAt 7 w i
 unfolding openArray
 opens-faithful w i long e h =
     faithful openOf openWords openLimits 64
-    (λ w at. open-exact (word w at) (word w (at + 1)) (word w (at + 2)) (word w (at + 3)) (word w (at + 4)) (word w (at + 5)))
+    (λ w at. open-exact (word w at) (word w (at + 1)) (word w (at + 2)) (word w (at + 3)) (word w (at + 4)) (word w (at + 5)) (word w (at + 6)))
     w (inUse w 64) i noOpen long e h (omega arith)
 
 pub locks-faithful : (w : List ℕ) (i : ℕ) → length w ≡ 641 → recordsFit lockLimits (inUse w 128) w ≡ true → i < inUse w 128
@@ -185,3 +185,11 @@ locks-faithful w i long e h =
     faithful lockOf lockWords lockLimits 128
     (λ w at. lock-exact (word w at) (word w (at + 1)) (word w (at + 2)) (word w (at + 3)) (word w (at + 4)))
     w (inUse w 128) i noLock long e h (omega arith)
+
+pub names-faithful : (w : List ℕ) (i : ℕ) → length w ≡ 225 → recordsFit nameLimits (inUse w 16) w ≡ true → i < inUse w 16
+    → nameWords (getD (nameArray w) i noName) ≡ recordAt 14 w i
+unfolding nameArray
+names-faithful w i long e h =
+    faithful nameOf nameWords nameLimits 16
+    (λ w at. name-exact (word w at) (word w (at + 1)) (word w (at + 2)) (word w (at + 3)) (word w (at + 4)) (word w (at + 5)) (word w (at + 6)) (word w (at + 7)) (word w (at + 8)) (word w (at + 9)) (word w (at + 10)) (word w (at + 11)) (word w (at + 12)) (word w (at + 13)))
+    w (inUse w 16) i noName long e h (omega arith)

@@ -15,8 +15,8 @@ use Rattle.records.specs.declared.Session.{Session}
 use Rattle.records.specs.declared.Tree.{Tree}
 use Rattle.records.specs.declared.Open.{Open}
 use Rattle.records.specs.declared.Lock.{Lock}
-use Rattle.tables.specs.Words.{word, within, sessionOf, treeOf, openOf, lockOf, sessionLimits, treeLimits, openLimits, lockLimits}
-use Rattle.tables.specs.Written.{sessionWords, treeWords, openWords, lockWords}
+use Rattle.tables.specs.Words.{word, within, sessionOf, treeOf, openOf, lockOf, nameOf, sessionLimits, treeLimits, openLimits, lockLimits, nameLimits}
+use Rattle.tables.specs.Written.{sessionWords, treeWords, openWords, lockWords, nameWords}
 
 -- each word is at most its limit
 abbrev pub Within : List ℕ → List ℕ → Type 0
@@ -99,6 +99,7 @@ open-back o h =
       process = uncut (o .process) 4294967295 (h .1 .1 .1 .0) i;
       file = uncut (o .file) 255 (h .1 .1 .1 .1 .0) i;
       access = uncut (o .access) 255 (h .1 .1 .1 .1 .1 .0) i;
+      sharing = uncut (o .sharing) 255 (h .1 .1 .1 .1 .1 .1 .0) i;
     }
 
 pub lock-back : (l : Lock) → Within lockLimits (lockWords l) → lockOf (lockWords l) ≡ l
@@ -122,10 +123,10 @@ pub tree-exact : (a b c : ℕ) → Within treeLimits (a ∷ b ∷ c ∷ []) → 
 unfolding treeOf
 tree-exact a b c h = λ i. uncut a 65535 (h .0) i ∷ uncut b 65535 (h .1 .0) i ∷ uncut c 255 (h .1 .1 .0) i ∷ []
 
-pub open-exact : (a b c d e f : ℕ) → Within openLimits (a ∷ b ∷ c ∷ d ∷ e ∷ f ∷ [])
-    → openWords (openOf (a ∷ b ∷ c ∷ d ∷ e ∷ f ∷ [])) ≡ a ∷ b ∷ c ∷ d ∷ e ∷ f ∷ []
+pub open-exact : (a b c d e f g : ℕ) → Within openLimits (a ∷ b ∷ c ∷ d ∷ e ∷ f ∷ g ∷ [])
+    → openWords (openOf (a ∷ b ∷ c ∷ d ∷ e ∷ f ∷ g ∷ [])) ≡ a ∷ b ∷ c ∷ d ∷ e ∷ f ∷ g ∷ []
 unfolding openOf
-open-exact a b c d e f h =
+open-exact a b c d e f g h =
     λ i.
     uncut a 65535 (h .0) i
     ∷ uncut b 65535 (h .1 .0) i
@@ -133,6 +134,7 @@ open-exact a b c d e f h =
     ∷ uncut d 4294967295 (h .1 .1 .1 .0) i
     ∷ uncut e 255 (h .1 .1 .1 .1 .0) i
     ∷ uncut f 255 (h .1 .1 .1 .1 .1 .0) i
+    ∷ uncut g 255 (h .1 .1 .1 .1 .1 .1 .0) i
     ∷ []
 
 pub lock-exact : (a b c d e : ℕ) → Within lockLimits (a ∷ b ∷ c ∷ d ∷ e ∷ [])
@@ -140,3 +142,24 @@ pub lock-exact : (a b c d e : ℕ) → Within lockLimits (a ∷ b ∷ c ∷ d �
 unfolding lockOf
 lock-exact a b c d e h =
     λ i. uncut a 65535 (h .0) i ∷ uncut b 4294967295 (h .1 .0) i ∷ c ∷ d ∷ flag-exact e (h .1 .1 .1 .1 .0) i ∷ []
+
+pub name-exact : (a b c d e f g h k l m n o p : ℕ) → Within nameLimits (a ∷ b ∷ c ∷ d ∷ e ∷ f ∷ g ∷ h ∷ k ∷ l ∷ m ∷ n ∷ o ∷ p ∷ [])
+    → nameWords (nameOf (a ∷ b ∷ c ∷ d ∷ e ∷ f ∷ g ∷ h ∷ k ∷ l ∷ m ∷ n ∷ o ∷ p ∷ [])) ≡ a ∷ b ∷ c ∷ d ∷ e ∷ f ∷ g ∷ h ∷ k ∷ l ∷ m ∷ n ∷ o ∷ p ∷ []
+unfolding nameOf
+name-exact a b c d e f g h k l m n o p s =
+    λ i.
+    uncut a 255 (s .0) i
+    ∷ uncut b 255 (s .1 .0) i
+    ∷ uncut c 255 (s .1 .1 .0) i
+    ∷ uncut d 255 (s .1 .1 .1 .0) i
+    ∷ uncut e 255 (s .1 .1 .1 .1 .0) i
+    ∷ uncut f 255 (s .1 .1 .1 .1 .1 .0) i
+    ∷ uncut g 255 (s .1 .1 .1 .1 .1 .1 .0) i
+    ∷ uncut h 255 (s .1 .1 .1 .1 .1 .1 .1 .0) i
+    ∷ uncut k 255 (s .1 .1 .1 .1 .1 .1 .1 .1 .0) i
+    ∷ uncut l 255 (s .1 .1 .1 .1 .1 .1 .1 .1 .1 .0) i
+    ∷ uncut m 255 (s .1 .1 .1 .1 .1 .1 .1 .1 .1 .1 .0) i
+    ∷ uncut n 255 (s .1 .1 .1 .1 .1 .1 .1 .1 .1 .1 .1 .0) i
+    ∷ uncut o 255 (s .1 .1 .1 .1 .1 .1 .1 .1 .1 .1 .1 .1 .0) i
+    ∷ uncut p 255 (s .1 .1 .1 .1 .1 .1 .1 .1 .1 .1 .1 .1 .1 .0) i
+    ∷ []

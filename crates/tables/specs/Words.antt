@@ -1,15 +1,16 @@
--- What the words say that the host lends: 1172 words of 64 bits, in the order in which a C struct has them.
+-- What the words say that the host lends: 1461 words of 64 bits, in the order in which a C struct has them.
 --
 --   0     how many sessions;  1     16 x (UID, connection)
 --   33    how many trees;     34    32 x (TID, UID, right)
---   130   how many opens;     131   64 x (FID, UID, TID, process, file, access)
---   515   how many locks;     516   128 x (FID, process, offset, length, shared)
---   1156  16 x (size)
+--   130   how many opens;     131   64 x (FID, UID, TID, process, file, access, sharing)
+--   579   how many locks;     580   128 x (FID, process, offset, length, shared)
+--   1220  16 x (size)
+--   1236  how many names;     1237  16 x (length, 12 x (byte), file)
 --
 -- Assumes nothing.
 use Prim.Native.Nat.{ℕ, zero, suc, min, _+_, _*_, _%_}
 use mathlib.Core.Bool.{Bool, true, _&&_}
-use mathlib.Core.List.{List, [], _∷_, _++_}
+use mathlib.Core.List.{List, [], _∷_, _++_, map}
 use lib.ListN.{length, take, drop, getD}
 use lib.Dec.{leb, eqb}
 use Rattle.lists.specs.Walk.{all}
@@ -18,6 +19,7 @@ use Rattle.records.specs.declared.Tree.{Tree}
 use Rattle.records.specs.declared.Open.{Open}
 use Rattle.records.specs.declared.Lock.{Lock}
 use Rattle.records.specs.declared.File.{File}
+use Rattle.records.specs.declared.Name.{Name}
 use Rattle.records.specs.declared.Tables.{Tables}
 
 -- the word at a place
@@ -51,6 +53,7 @@ openOf r =
       process = word r 3 % 4294967296;
       file = word r 4 % 256;
       access = word r 5 % 256;
+      sharing = word r 6 % 256;
     }
 
 unfoldable pub lockOf : List ℕ → Lock
@@ -62,6 +65,9 @@ lockOf r =
       length = word r 3;
       shared = eqb (word r 4 % 2) 1;
     }
+
+unfoldable pub nameOf : List ℕ → Name
+nameOf r = record { length = word r 0 % 256; text = map (λ x. x % 256) (part r 1 12); file = word r 13 % 256 }
 
 abbrev pub fileOf : ℕ → File
 fileOf size = record { size = size }
@@ -83,10 +89,13 @@ unfoldable pub treeArray : List ℕ → List Tree
 treeArray w = arrayOf treeOf 3 32 w
 
 unfoldable pub openArray : List ℕ → List Open
-openArray w = arrayOf openOf 6 64 w
+openArray w = arrayOf openOf 7 64 w
 
 unfoldable pub lockArray : List ℕ → List Lock
 lockArray w = arrayOf lockOf 5 128 w
+
+unfoldable pub nameArray : List ℕ → List Name
+nameArray w = arrayOf nameOf 14 16 w
 
 -- the files have no count
 unfoldable pub fileArray : List ℕ → List File
@@ -101,11 +110,13 @@ tablesOf w =
       nsessions = word (part w 0 33) 0;
       trees = treeArray (part w 33 97);
       ntrees = word (part w 33 97) 0;
-      opens = openArray (part w 130 385);
-      nopens = word (part w 130 385) 0;
-      locks = lockArray (part w 515 641);
-      nlocks = word (part w 515 641) 0;
-      files = fileArray (part w 1156 16);
+      opens = openArray (part w 130 449);
+      nopens = word (part w 130 449) 0;
+      locks = lockArray (part w 579 641);
+      nlocks = word (part w 579 641) 0;
+      files = fileArray (part w 1220 16);
+      names = nameArray (part w 1236 225);
+      nnames = word (part w 1236 225) 0;
     }
 
 -- ---- whether the words in use fit: each word of a record in use is a value of its field
@@ -118,10 +129,13 @@ abbrev pub treeLimits : List ℕ
 treeLimits = 65535 ∷ 65535 ∷ 255 ∷ []
 
 abbrev pub openLimits : List ℕ
-openLimits = 65535 ∷ 65535 ∷ 65535 ∷ 4294967295 ∷ 255 ∷ 255 ∷ []
+openLimits = 65535 ∷ 65535 ∷ 65535 ∷ 4294967295 ∷ 255 ∷ 255 ∷ 255 ∷ []
 
 abbrev pub lockLimits : List ℕ
 lockLimits = 65535 ∷ 4294967295 ∷ 18446744073709551615 ∷ 18446744073709551615 ∷ 1 ∷ []
+
+abbrev pub nameLimits : List ℕ
+nameLimits = 255 ∷ 255 ∷ 255 ∷ 255 ∷ 255 ∷ 255 ∷ 255 ∷ 255 ∷ 255 ∷ 255 ∷ 255 ∷ 255 ∷ 255 ∷ 255 ∷ []
 
 -- each word of a record is at most its limit
 unfoldable pub within : List ℕ → List ℕ → Bool
@@ -144,5 +158,6 @@ unfoldable pub inUseFit : List ℕ → Bool
 inUseFit w =
     tableFits sessionLimits 16 (part w 0 33)
     && (tableFits treeLimits 32 (part w 33 97)
-    && (tableFits openLimits 64 (part w 130 385)
-    && tableFits lockLimits 128 (part w 515 641)))
+    && (tableFits openLimits 64 (part w 130 449)
+    && (tableFits lockLimits 128 (part w 579 641)
+    && tableFits nameLimits 16 (part w 1236 225))))

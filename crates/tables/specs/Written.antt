@@ -3,14 +3,15 @@
 use Prim.Native.Nat.{ℕ}
 use mathlib.Core.Path.{_≡_}
 use mathlib.Core.Bool.{true, cond}
-use mathlib.Core.List.{List, [], _∷_}
+use mathlib.Core.List.{List, [], _∷_, _++_}
 use lib.ListN.{length, take, set}
 use Rattle.lists.specs.Stored.{stored}
 use Rattle.records.specs.declared.Session.{Session}
 use Rattle.records.specs.declared.Tree.{Tree}
 use Rattle.records.specs.declared.Open.{Open}
 use Rattle.records.specs.declared.Lock.{Lock}
-use Rattle.tables.specs.Words.{word, recordAt, within, sessionArray, treeArray, openArray, lockArray}
+use Rattle.records.specs.declared.Name.{Name}
+use Rattle.tables.specs.Words.{word, recordAt, within, sessionArray, treeArray, openArray, lockArray, nameArray}
 
 -- record i of a table is now x, and its words fit; the words of every other record stand, and so does the count
 pub record Wrote {A : Type 0} (arrayIn : List ℕ → List A) (limits before after : List ℕ) (i : ℕ) (x : A) : Type 0 where
@@ -32,10 +33,13 @@ abbrev pub treeWords : Tree → List ℕ
 treeWords t = t .tid ∷ t .uid ∷ t .right ∷ []
 
 abbrev pub openWords : Open → List ℕ
-openWords o = o .fid ∷ o .uid ∷ o .tid ∷ o .process ∷ o .file ∷ o .access ∷ []
+openWords o = o .fid ∷ o .uid ∷ o .tid ∷ o .process ∷ o .file ∷ o .access ∷ o .sharing ∷ []
 
 abbrev pub lockWords : Lock → List ℕ
 lockWords l = l .fid ∷ l .process ∷ l .offset ∷ l .length ∷ cond (l .shared) 1 0 ∷ []
+
+abbrev pub nameWords : Name → List ℕ
+nameWords n = n .length ∷ (n .text ++ (n .file ∷ []))
 
 -- the records in use, from the words of their own table
 abbrev pub sessionsIn : List ℕ → List Session
@@ -49,3 +53,6 @@ opensIn w = take (word w 0) (openArray w)
 
 abbrev pub locksIn : List ℕ → List Lock
 locksIn w = take (word w 0) (lockArray w)
+
+abbrev pub namesIn : List ℕ → List Name
+namesIn w = take (word w 0) (nameArray w)

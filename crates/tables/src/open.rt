@@ -1,4 +1,4 @@
-// The opens: 385 words, the count and 64 records.
+// The opens: 449 words, the count and 64 records.
 
 use crate::cut::low8;
 use crate::cut::low16;
@@ -13,16 +13,17 @@ ghost use Rattle.tables.specs.Written.{Wrote};
 
 // The record at a place.
 pub fn open_at(words: &[u64], i: usize) -> Open
-    requires { ⌜ (length (now words) ≡ 385) × (i < 64) ⌝ }
+    requires { ⌜ (length (now words) ≡ 449) × (i < 64) ⌝ }
     ensures { λ r. ⌜ r ≡ getD (openArray (now (words .entry))) i noOpen ⌝ }
 {
-    let at = 1 + 6 * i;
+    let at = 1 + 7 * i;
     let fid = low16(words[at]);
     let uid = low16(words[at + 1]);
     let tid = low16(words[at + 2]);
     let process = low32(words[at + 3]);
     let file = low8(words[at + 4]);
     let access = low8(words[at + 5]);
+    let sharing = low8(words[at + 6]);
     Open {
         fid,
         uid,
@@ -30,19 +31,21 @@ pub fn open_at(words: &[u64], i: usize) -> Open
         process,
         file,
         access,
+        sharing,
     }
 }
 
 // The record at a place, written.
 pub fn put_open(words: &mut [u64], i: usize, o: Open)
-    requires { ⌜ (length (now words) ≡ 385) × (i < 64) ⌝ }
+    requires { ⌜ (length (now words) ≡ 449) × (i < 64) ⌝ }
     ensures { λ _. ⌜ Wrote openArray openLimits (now (words .entry)) (now (words .exit)) i o ⌝ }
 {
-    let at = 1 + 6 * i;
+    let at = 1 + 7 * i;
     words[at] = o.fid as u64;
     words[at + 1] = o.uid as u64;
     words[at + 2] = o.tid as u64;
     words[at + 3] = o.process as u64;
     words[at + 4] = o.file as u64;
     words[at + 5] = o.access as u64;
+    words[at + 6] = o.sharing as u64;
 }

@@ -82,12 +82,24 @@ shared-slice-read-low8-2 c = search needs
 low8-requires-2 : tie.Need-low8-requires-2
 low8-requires-2 c κs = search needs
 
+add-low8-3 : tie.Need-add-low8-3
+add-low8-3 c = search needs
+
+mul-low8-3 : tie.Need-mul-low8-3
+mul-low8-3 c = search needs
+
+shared-slice-read-low8-3 : tie.Need-shared-slice-read-low8-3
+shared-slice-read-low8-3 c = search needs
+
+low8-requires-3 : tie.Need-low8-requires-3
+low8-requires-3 c κs = search needs
+
 returns : tie.Need-returns
 unfolding openOf openArray
 returns c =
-    let start = c .before .before .before .before .before .before .before .before .before .before .before .before .before in
-    rw (c .before .before .before .before .before .before .before .before .before .before .low16 .ensures, c .before .before .before .before .before .before .before .before .low162 .ensures, c .before .before .before .before .before .before .low163 .ensures, c .before .before .before .before .low32 .ensures, c .before .before .low8 .ensures, c .low82 .ensures)
-    (sym (record-at openOf 6 64 (start .args .words .now) (start .args .i) noOpen (start .pre .1) (start .pre .0)))
+    let start = c .before .before .before .before .before .before .before .before .before .before .before .before .before .before .before in
+    rw (c .before .before .before .before .before .before .before .before .before .before .before .before .low16 .ensures, c .before .before .before .before .before .before .before .before .before .before .low162 .ensures, c .before .before .before .before .before .before .before .before .low163 .ensures, c .before .before .before .before .before .before .low32 .ensures, c .before .before .before .before .low8 .ensures, c .before .before .low82 .ensures, c .low83 .ensures)
+    (sym (record-at openOf 7 64 (start .args .words .now) (start .args .i) noOpen (start .pre .1) (start .pre .0)))
 
 pub open-at-spec : {M : Type 1} → statement M
 open-at-spec =
@@ -118,4 +130,8 @@ open-at-spec =
     mul-low8-2
     shared-slice-read-low8-2
     low8-requires-2
+    add-low8-3
+    mul-low8-3
+    shared-slice-read-low8-3
+    low8-requires-3
     returns)

@@ -85,15 +85,27 @@ mul-words-6 c = search needs
 slice-write-words-6 : tie.Need-slice-write-words-6
 slice-write-words-6 c = simp length-set (omega arith)
 
+cast-words-7 : tie.Need-cast-words-7
+cast-words-7 c = search needs
+
+add-words-6 : tie.Need-add-words-6
+add-words-6 c = search needs
+
+mul-words-7 : tie.Need-mul-words-7
+mul-words-7 c = search needs
+
+slice-write-words-7 : tie.Need-slice-write-words-7
+slice-write-words-7 c = simp length-set (omega arith)
+
 same-length : tie.Need-same-length
 same-length c = search needs
 
 returns : tie.Need-returns
 unfolding openArray
 returns c =
-    let start = c .before .before .before .before .before .before in
+    let start = c .before .before .before .before .before .before .before in
     let args = start .args in
-    let narrow : Within openLimits (openWords (args .o)) = (omega arith, (omega arith, (omega arith, (omega arith, (omega arith, (omega arith, tt)))))) in
+    let narrow : Within openLimits (openWords (args .o)) = (omega arith, (omega arith, (omega arith, (omega arith, (omega arith, (omega arith, (omega arith, tt))))))) in
     wrote openOf openLimits 64 (args .words .now) (openWords (args .o)) (args .i) (args .o) (start .pre .1) (start .pre .0) refl narrow (open-back (args .o) narrow)
 
 pub put-open-spec : {M : Type 1} → statement M
@@ -125,5 +137,9 @@ put-open-spec =
     add-words-5
     mul-words-6
     slice-write-words-6
+    cast-words-7
+    add-words-6
+    mul-words-7
+    slice-write-words-7
     same-length
     returns)
