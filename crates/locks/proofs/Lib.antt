@@ -7,5 +7,4 @@ pub mod Unlocked
 pub mod Granted
 pub mod Holding
 pub mod Appended
-pub mod Copied
 pub mod Settling

@@ -3,7 +3,6 @@
 // table of 65 entries, made from the opens, so that a walk over the locks looks at no open.
 
 pub mod answer;
-pub mod copy;
 pub mod grant;
 pub mod grants;
 pub mod locking;

@@ -1,7 +1,6 @@
 // A LOCKING request as a whole, on the words of the list: unlocks, then 1/87 over all locks, then
 // conflicts in order, then 1/8. A refused request leaves the list untouched, its unlocks included.
 
-use crate::copy::copy_words;
 use crate::grant::some_passes;
 use crate::grants::append_locks;
 use crate::grants::first_conflict;
@@ -11,6 +10,7 @@ use crate::types::Request;
 use crate::unlock::release_all;
 use crate::wire_form::range_size;
 use lists::Found;
+use tables::copy::copy_words;
 ghost use mathlib.Core.Path.{_≡_};
 ghost use mathlib.Core.Bool.{true};
 ghost use mathlib.Core.Option.{some};

@@ -2,3 +2,4 @@ pub mod Number
 pub mod Column
 pub mod ByNumber
 pub mod ColumnWords
+pub mod NewOpen
