@@ -14,6 +14,7 @@ use Rattle.records.specs.declared.Open.{Open}
 use Rattle.numbers.specs.Number.{numberOk, numbered}
 use Rattle.tables.specs.Words.{word, upTo, recordAt, arrayOf, within, tableFits}
 use Rattle.numbers.specs.ByNumber.{numberFree}
+use Rattle.soundness.specs.Sound.{sharingOk}
 
 -- the words of each of the n records of a table, k to a record
 abbrev pub rows : ℕ → ℕ → List ℕ → List (List ℕ)
@@ -70,13 +71,13 @@ unfoldable pub holdsAt : List ℕ → ℕ → ℕ → ℕ → Bool
 holdsAt codes tid uid access = leb uid 65535 && (ltb tid (length codes) && codeHolds (getD codes tid 0) uid access)
 
 unfoldable pub openIn : List ℕ → Open → Bool
-openIn codes o = leb (o .file) 15 && (leb (o .access) 2 && codeHolds (getD codes (o .tid) 0) (o .uid) (o .access))
+openIn codes o = leb (o .file) 15 && (leb (o .access) 2 && (sharingOk (o .sharing) && codeHolds (getD codes (o .tid) 0) (o .uid) (o .access)))
 
 unfoldable pub openStands : List ℕ → List ℕ → List ℕ → Bool
 openStands codes files r =
     numberFree 255 files (word r 0)
     && (leb (word r 3) 4294967295
-    && (leb (word r 4) 15 && (leb (word r 5) 2 && holdsAt codes (word r 2) (word r 1) (word r 5))))
+    && (leb (word r 4) 15 && (leb (word r 5) 2 && (sharingOk (word r 6) && holdsAt codes (word r 2) (word r 1) (word r 5)))))
 
 -- ---- locks
 

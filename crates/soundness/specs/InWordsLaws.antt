@@ -25,6 +25,7 @@ use Rattle.tables.specs.PartLaws.{row, part-row}
 use Rattle.tables.specs.ArrayLaws.{record-at}
 use Rattle.soundness.specs.LockFits.{lockFits}
 use Rattle.numbers.specs.ByNumber.{last-false, uncut, entry, byNumber, free-number}
+use Rattle.soundness.specs.Sound.{sharingOk}
 use Rattle.soundness.specs.InWords.{rows, inOrder, tableInOrder, marked, sessionStands, treeCode, treeIn, treeStands, codeHolds, holdsAt, openIn, openStands, lockStands}
 
 -- ---- lists of values of a function, and of its first ones
@@ -177,19 +178,21 @@ tree-stands w i later uids codes long few h e q =
     (tree-words (word w (1 + 3 * i)) (word w (1 + 3 * i + 1)) (word w (1 + 3 * i + 2)) later uids codes h e q)
 
 -- opens
-open-sorted : (a o u t p e e′ g g′ h h′ : Bool) → (g ≡ true → h ≡ h′)
-    → (a && o) && (p && ((e && e′) && ((g && g′) && (u && (t && h)))))
-    ≡ (a && (u && (t && (p && (e && (g && true)))))) && (o && (e′ && (g′ && h′)))
-open-sorted false o u t p e e′ g g′ h h′ k = refl
-open-sorted true false u t p e e′ g g′ h h′ k = simp last-false
-open-sorted true true u t false e e′ g g′ h h′ k = simp last-false
-open-sorted true true u t true false e′ g g′ h h′ k = simp last-false
-open-sorted true true u t true true false g g′ h h′ k = simp last-false
-open-sorted true true u t true true true false g′ h h′ k = simp last-false
-open-sorted true true u t true true true true false h h′ k = simp last-false
-open-sorted true true false t true true true true true h h′ k = refl
-open-sorted true true true false true true true true true h h′ k = refl
-open-sorted true true true true true true true true true h h′ k = k refl
+open-sorted : (a o u t p e e′ g g′ s s′ h h′ : Bool) → (g ≡ true → h ≡ h′)
+    → (a && o) && (p && ((e && e′) && ((g && g′) && ((s && s′) && (u && (t && h))))))
+    ≡ (a && (u && (t && (p && (e && (g && (s && true))))))) && (o && (e′ && (g′ && (s′ && h′))))
+open-sorted false o u t p e e′ g g′ s s′ h h′ k = refl
+open-sorted true false u t p e e′ g g′ s s′ h h′ k = simp last-false
+open-sorted true true u t false e e′ g g′ s s′ h h′ k = simp last-false
+open-sorted true true u t true false e′ g g′ s s′ h h′ k = simp last-false
+open-sorted true true u t true true false g g′ s s′ h h′ k = simp last-false
+open-sorted true true u t true true true false g′ s s′ h h′ k = simp last-false
+open-sorted true true u t true true true true false s s′ h h′ k = simp last-false
+open-sorted true true u t true true true true true false s′ h h′ k = simp last-false
+open-sorted true true u t true true true true true true false h h′ k = simp last-false
+open-sorted true true false t true true true true true true true h h′ k = refl
+open-sorted true true true false true true true true true true true h h′ k = refl
+open-sorted true true true true true true true true true true true h h′ k = k refl
 
 abbrev pub rowFid : List ℕ → ℕ
 rowFid r = fidOf (openOf r)
@@ -226,28 +229,38 @@ holds-looked codes tid uid access h =
       | no k ↦ rw (lt-leb uid 65535 (omega arith))
     ])
 
-open-words : (a b c d f g : ℕ) (later : List (List ℕ)) (codes files : List ℕ) → length codes ≤ 65536 → allTails (openRule codes) later ≡ true
+-- a sharing code is among those listed where the word is one
+sharing-bound : (x : ℕ) → sharingOk x ≡ leb x 255 && sharingOk (x % 256)
+unfolding sharingOk
+sharing-bound x =
+    elim (decLe x 255) [
+      | yes k ↦ rw (le-leb x 255 k, uncut x 255 k)
+      | no k ↦ rw (lt-leb x 255 (omega arith), lt-leb x 4 (omega arith), le-leb 1 x (omega arith))
+    ]
+
+open-words : (a b c d f g s : ℕ) (later : List (List ℕ)) (codes files : List ℕ) → length codes ≤ 65536 → allTails (openRule codes) later ≡ true
     → files ≡ byNumber rowFid rowFile 255 65 later
-    → openStands codes files (a ∷ b ∷ c ∷ d ∷ f ∷ g ∷ []) ≡ openRule codes (a ∷ b ∷ c ∷ d ∷ f ∷ g ∷ []) later
+    → openStands codes files (a ∷ b ∷ c ∷ d ∷ f ∷ g ∷ s ∷ []) ≡ openRule codes (a ∷ b ∷ c ∷ d ∷ f ∷ g ∷ s ∷ []) later
 unfolding openStands inOrder openOf within openIn
-open-words a b c d f g later codes files h e q =
+open-words a b c d f g s later codes files h e q =
     rw (
       free-number rowFid rowFile 255 (openRule codes) (open-some codes) 64 later files a (omega arith) e q,
       bound f 15 255 (omega arith),
       bound g 2 255 (omega arith),
+      sharing-bound s,
       holds-looked codes c b g h,
     )
     (open-sorted (leb a 65535) (numberOk 64 (a % 65536) (map rowFid later)) (leb b 65535) (leb c 65535) (leb d 4294967295) (leb f 255)
-    (leb (f % 256) 15) (leb g 255) (leb (g % 256) 2) (codeHolds (getD codes (c % 65536) 0) (b % 65536) g)
+    (leb (f % 256) 15) (leb g 255) (leb (g % 256) 2) (leb s 255) (sharingOk (s % 256)) (codeHolds (getD codes (c % 65536) 0) (b % 65536) g)
     (codeHolds (getD codes (c % 65536) 0) (b % 65536) (g % 256))
     (λ k. ap (codeHolds (getD codes (c % 65536) 0) (b % 65536)) (sym (uncut g 255 (leb-true g 255 k)))))
 
-pub open-stands : (w : List ℕ) (i : ℕ) (later : List (List ℕ)) (codes files : List ℕ) → length w ≡ 385 → i < 64 → length codes ≤ 65536
+pub open-stands : (w : List ℕ) (i : ℕ) (later : List (List ℕ)) (codes files : List ℕ) → length w ≡ 449 → i < 64 → length codes ≤ 65536
     → allTails (openRule codes) later ≡ true → files ≡ byNumber rowFid rowFile 255 65 later
-    → openStands codes files (recordAt 6 w i) ≡ openRule codes (recordAt 6 w i) later
+    → openStands codes files (recordAt 7 w i) ≡ openRule codes (recordAt 7 w i) later
 open-stands w i later codes files long few h e q =
-    rw (part-row w (1 + 6 * i) 6 (omega arith))
-    (open-words (word w (1 + 6 * i)) (word w (1 + 6 * i + 1)) (word w (1 + 6 * i + 2)) (word w (1 + 6 * i + 3)) (word w (1 + 6 * i + 4)) (word w (1 + 6 * i + 5))
+    rw (part-row w (1 + 7 * i) 7 (omega arith))
+    (open-words (word w (1 + 7 * i)) (word w (1 + 7 * i + 1)) (word w (1 + 7 * i + 2)) (word w (1 + 7 * i + 3)) (word w (1 + 7 * i + 4)) (word w (1 + 7 * i + 5)) (word w (1 + 7 * i + 6))
     later codes files h e q)
 
 -- locks

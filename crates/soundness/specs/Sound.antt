@@ -1,4 +1,5 @@
--- When tables are sound (document 01, "Tables and room", second paragraph), rule by rule. Assumes nothing.
+-- When tables are sound (document 01, "Tables and room", second paragraph; document 02, CR 6: "Soundness gains sharing codes and the
+-- catalogue's rules"), rule by rule. Assumes nothing.
 use Prim.Native.Nat.{ℕ}
 use mathlib.Core.Bool.{Bool, not, _&&_, _||_}
 use mathlib.Core.List.{List, map}
@@ -14,6 +15,7 @@ use Rattle.records.specs.declared.Tables.{Tables}
 use Rattle.records.specs.Held.{sessionsOf, treesOf, opensOf, locksOf}
 use Rattle.numbers.specs.Number.{contains, numbered}
 use Rattle.numbers.specs.Column.{uidOf, tidOf, fidOf}
+use Rattle.catalogue.specs.Name.{catalogueOk}
 use Rattle.soundness.specs.File.{fileOf}
 
 -- "counts .. are within these limits"
@@ -36,10 +38,14 @@ permits right access = leb 1 right || eqb access 0
 unfoldable pub holdsOpen : Open → Tree → Bool
 holdsOpen o t = eqb (t .tid) (o .tid) && (eqb (t .uid) (o .uid) && permits (t .right) (o .access))
 
--- an open's file and access are among those listed, and its tree exists and permits it. Its session exists because its
+-- "sharing codes 1 to 4"
+unfoldable pub sharingOk : ℕ → Bool
+sharingOk sharing = leb 1 sharing && leb sharing 4
+
+-- an open's file, access and sharing code are among those listed, and its tree exists and permits it. Its session exists because its
 -- tree's does.
 unfoldable pub openOk : List Tree → Open → Bool
-openOk trees o = leb (o .file) 15 && (leb (o .access) 2 && any (holdsOpen o) trees)
+openOk trees o = leb (o .file) 15 && (leb (o .access) 2 && (sharingOk (o .sharing) && any (holdsOpen o) trees))
 
 -- "numbers are distinct and lie in 1 to 16, 1 to 32 and 1 to 64", and the rules for trees and opens
 unfoldable pub soundRecords : List Session → List Tree → List Open → Bool
@@ -66,4 +72,4 @@ soundLocks opens locks = all (lockOk (map fidOf opens)) locks && agreeAll (fileO
 unfoldable pub sound : Tables → Bool
 sound t =
     withinRoom (t .nsessions) (t .ntrees) (t .nopens) (t .nlocks)
-    && (all fileOk (t .files) && (soundRecords (sessionsOf t) (treesOf t) (opensOf t) && soundLocks (opensOf t) (locksOf t)))
+    && (all fileOk (t .files) && (soundRecords (sessionsOf t) (treesOf t) (opensOf t) && (soundLocks (opensOf t) (locksOf t) && catalogueOk (t .names) (t .nnames))))

@@ -16,10 +16,12 @@ use Rattle.locks.specs.Answer.{fileIn}
 use Rattle.records.specs.declared.Tree.{Tree}
 use Rattle.records.specs.declared.Tables.{Tables}
 use Rattle.records.specs.declared.Open.{Open}
+use Rattle.records.specs.Held.{sessionsOf, treesOf, opensOf, locksOf}
+use Rattle.catalogue.specs.Name.{catalogueOk}
 use Rattle.numbers.specs.Number.{contains, numberOk, numbered}
 use Rattle.numbers.specs.Column.{fidOf}
 use Rattle.soundness.specs.File.{fileOf, fileTable, fileTable-at, length-fileTable}
-use Rattle.soundness.specs.Sound.{withinRoom, openOk, lockOk, sound}
+use Rattle.soundness.specs.Sound.{withinRoom, fileOk, openOk, lockOk, soundRecords, soundLocks, sound}
 use Rattle.soundness.specs.LockFits.{lockFits}
 
 -- what the test of the counts says
@@ -93,3 +95,12 @@ unfolding sound
 sound-room t e =
     room (t .nsessions) (t .ntrees) (t .nopens) (t .nlocks)
     (both-hold (withinRoom (t .nsessions) (t .ntrees) (t .nopens) (t .nlocks)) _ e .0)
+
+-- their catalogue keeps its rules
+pub sound-catalogue : (t : Tables) → sound t ≡ true → catalogueOk (t .names) (t .nnames) ≡ true
+unfolding sound
+sound-catalogue t e =
+    let a = both-hold (withinRoom (t .nsessions) (t .ntrees) (t .nopens) (t .nlocks)) _ e in
+    let b = both-hold (all fileOk (t .files)) _ (a .1) in
+    let c = both-hold (soundRecords (sessionsOf t) (treesOf t) (opensOf t)) _ (b .1) in
+    both-hold (soundLocks (opensOf t) (locksOf t)) (catalogueOk (t .names) (t .nnames)) (c .1) .1

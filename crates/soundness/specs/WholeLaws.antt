@@ -21,10 +21,11 @@ use Rattle.records.specs.declared.Open.{Open}
 use Rattle.records.specs.declared.Lock.{Lock}
 use Rattle.numbers.specs.Number.{contains, numberOk, numbered}
 use Rattle.numbers.specs.Column.{uidOf, tidOf, fidOf}
-use Rattle.tables.specs.Words.{word, part, arrayOf, tablesOf, inUseFit, tableFits, fileArray, sessionArray, treeArray, openArray, sessionOf, treeOf, openOf, sessionLimits, treeLimits, openLimits, lockLimits}
+use Rattle.tables.specs.Words.{word, part, arrayOf, tablesOf, inUseFit, tableFits, fileArray, nameArray, sessionArray, treeArray, openArray, sessionOf, treeOf, openOf, sessionLimits, treeLimits, openLimits, lockLimits, nameLimits}
 use Rattle.tables.specs.Written.{sessionsIn, treesIn, opensIn, locksIn}
+use Rattle.catalogue.specs.Name.{catalogueOk}
 use Rattle.soundness.specs.File.{fileOf}
-use Rattle.soundness.specs.Sound.{withinRoom, fileOk, treeOk, permits, holdsOpen, openOk, lockOk, agreeAll, soundRecords, soundLocks, sound}
+use Rattle.soundness.specs.Sound.{withinRoom, fileOk, treeOk, permits, holdsOpen, sharingOk, openOk, lockOk, agreeAll, soundRecords, soundLocks, sound}
 use Rattle.soundness.specs.SoundLaws.{fits-is-ok}
 use Rattle.soundness.specs.LockFits.{lockFits}
 use Rattle.numbers.specs.ByNumber.{last-false, entry, entry-mark, byNumber, byNumber-serves}
@@ -106,7 +107,7 @@ unfolding openIn openOk
 codes-serve us ts codes e f q =
     fun-ext
     (λ o.
-    ap (λ (b : Bool). leb (o .file) 15 && (leb (o .access) 2 && b))
+    ap (λ (b : Bool). leb (o .file) 15 && (leb (o .access) 2 && (sharingOk (o .sharing) && b)))
     (ap (λ (l : List ℕ). codeHolds (getD l (o .tid) 0) (o .uid) (o .access)) q
     ∙ ap (λ (x : ℕ). codeHolds x (o .uid) (o .access)) (byNumber-serves tidOf treeCode 0 32 ts (o .tid) e)
     ∙ entry-holds us ts o e f))
@@ -141,21 +142,23 @@ fits-in-bounds file (l ∷ ls) e =
 pub part-first : (w : List ℕ) (from n : ℕ) → 0 < n → word (part w from n) 0 ≡ word w from
 part-first w from n h = getD-take n (drop from w) 0 0 h ∙ getD-drop from w 0 0 ∙ ap (word w) (add-zero from)
 
-judged : (room files fs ns ft nt at fo nn ao fl lo la : Bool)
-    → (fs && (ft && (fo && fl))) && (room && (files && ((ns && (nt && (nn && (at && ao)))) && (lo && la))))
-    ≡ room && (files && ((fs && (ns && true)) && ((ft && (nt && at)) && ((fo && (nn && ao)) && ((fl && lo) && la)))))
-judged false files fs ns ft nt at fo nn ao fl lo la = simp last-false
-judged true false fs ns ft nt at fo nn ao fl lo la = simp last-false
-judged true true false ns ft nt at fo nn ao fl lo la = refl
-judged true true true false ft nt at fo nn ao fl lo la = simp last-false
-judged true true true true false nt at fo nn ao fl lo la = refl
-judged true true true true true false at fo nn ao fl lo la = simp last-false
-judged true true true true true true at false nn ao fl lo la = simp last-false
-judged true true true true true true at true false ao fl lo la = simp last-false
-judged true true true true true true false true true ao fl lo la = simp last-false
-judged true true true true true true true true true false fl lo la = simp last-false
-judged true true true true true true true true true true false lo la = refl
-judged true true true true true true true true true true true lo la = refl
+judged : (room files fs ns ft nt at fo nn ao fl lo la fn ca : Bool)
+    → (fs && (ft && (fo && (fl && fn)))) && (room && (files && ((ns && (nt && (nn && (at && ao)))) && ((lo && la) && ca))))
+    ≡ room && (files && ((fs && (ns && true)) && ((ft && (nt && at)) && ((fo && (nn && ao)) && (((fl && lo) && la) && (fn && ca))))))
+judged false files fs ns ft nt at fo nn ao fl lo la fn ca = simp last-false
+judged true false fs ns ft nt at fo nn ao fl lo la fn ca = simp last-false
+judged true true false ns ft nt at fo nn ao fl lo la fn ca = refl
+judged true true true false ft nt at fo nn ao fl lo la fn ca = simp last-false
+judged true true true true false nt at fo nn ao fl lo la fn ca = refl
+judged true true true true true false at fo nn ao fl lo la fn ca = simp last-false
+judged true true true true true true at false nn ao fl lo la fn ca = simp last-false
+judged true true true true true true at true false ao fl lo la fn ca = simp last-false
+judged true true true true true true false true true ao fl lo la fn ca = simp last-false
+judged true true true true true true true true true false fl lo la fn ca = simp last-false
+judged true true true true true true true true true true false lo la fn ca = refl
+judged true true true true true true true true true true true false la fn ca = simp last-false
+judged true true true true true true true true true true true true false fn ca = simp last-false
+judged true true true true true true true true true true true true true fn ca = refl
 
 all-true : {A : Type 0} (xs : List A) → all (λ _. true) xs ≡ true
 unfolding all
@@ -164,31 +167,33 @@ all-true (x ∷ xs) = all-true xs
 
 -- the tests table by table
 pub sound-words : (w : List ℕ) → inUseFit w && sound (tablesOf w)
-    ≡ withinRoom (word (part w 0 33) 0) (word (part w 33 97) 0) (word (part w 130 385) 0) (word (part w 515 641) 0)
-    && (all fileOk (fileArray (part w 1156 16))
+    ≡ withinRoom (word (part w 0 33) 0) (word (part w 33 97) 0) (word (part w 130 449) 0) (word (part w 579 641) 0)
+    && (all fileOk (fileArray (part w 1220 16))
     && (tableInOrder sessionLimits 16 sessionOf 16 uidOf (λ _. true) (part w 0 33)
     && (tableInOrder treeLimits 32 treeOf 32 tidOf (treeOk (map uidOf (sessionsIn (part w 0 33)))) (part w 33 97)
-    && (tableInOrder openLimits 64 openOf 64 fidOf (openOk (treesIn (part w 33 97))) (part w 130 385)
-    && ((tableFits lockLimits 128 (part w 515 641) && all (lockOk (map fidOf (opensIn (part w 130 385)))) (locksIn (part w 515 641)))
-    && agreeAll (fileOf (opensIn (part w 130 385))) (locksIn (part w 515 641)))))))
+    && (tableInOrder openLimits 64 openOf 64 fidOf (openOk (treesIn (part w 33 97))) (part w 130 449)
+    && (((tableFits lockLimits 128 (part w 579 641) && all (lockOk (map fidOf (opensIn (part w 130 449)))) (locksIn (part w 579 641)))
+    && agreeAll (fileOf (opensIn (part w 130 449))) (locksIn (part w 579 641)))
+    && (tableFits nameLimits 16 (part w 1236 225) && catalogueOk (nameArray (part w 1236 225)) (word (part w 1236 225) 0)))))))
 unfolding inUseFit sound soundRecords soundLocks tablesOf tableInOrder sessionArray treeArray openArray
 sound-words w =
     let ss = sessionsIn (part w 0 33) in
     let ts = treesIn (part w 33 97) in
-    let os = opensIn (part w 130 385) in
-    let ls = locksIn (part w 515 641) in
+    let os = opensIn (part w 130 449) in
+    let ls = locksIn (part w 579 641) in
     rw (all-true ss)
-    (judged (withinRoom (word (part w 0 33) 0) (word (part w 33 97) 0) (word (part w 130 385) 0) (word (part w 515 641) 0)) (all fileOk (fileArray (part w 1156 16)))
+    (judged (withinRoom (word (part w 0 33) 0) (word (part w 33 97) 0) (word (part w 130 449) 0) (word (part w 579 641) 0)) (all fileOk (fileArray (part w 1220 16)))
     (tableFits sessionLimits 16 (part w 0 33)) (numbered 16 (map uidOf ss))
     (tableFits treeLimits 32 (part w 33 97)) (numbered 32 (map tidOf ts)) (all (treeOk (map uidOf ss)) ts)
-    (tableFits openLimits 64 (part w 130 385)) (numbered 64 (map fidOf os)) (all (openOk ts) os)
-    (tableFits lockLimits 128 (part w 515 641)) (all (lockOk (map fidOf os)) ls) (agreeAll (fileOf os) ls))
+    (tableFits openLimits 64 (part w 130 449)) (numbered 64 (map fidOf os)) (all (openOk ts) os)
+    (tableFits lockLimits 128 (part w 579 641)) (all (lockOk (map fidOf os)) ls) (agreeAll (fileOf os) ls)
+    (tableFits nameLimits 16 (part w 1236 225)) (catalogueOk (nameArray (part w 1236 225)) (word (part w 1236 225) 0)))
 
 -- the counts, as they stand in all words
-pub counts : (w : List ℕ) → withinRoom (word (part w 0 33) 0) (word (part w 33 97) 0) (word (part w 130 385) 0) (word (part w 515 641) 0)
-    ≡ withinRoom (word w 0) (word w 33) (word w 130) (word w 515)
+pub counts : (w : List ℕ) → withinRoom (word (part w 0 33) 0) (word (part w 33 97) 0) (word (part w 130 449) 0) (word (part w 579 641) 0)
+    ≡ withinRoom (word w 0) (word w 33) (word w 130) (word w 579)
 counts w =
-    rw (part-first w 0 33 (omega arith), part-first w 33 97 (omega arith), part-first w 130 385 (omega arith), part-first w 515 641 (omega arith))
+    rw (part-first w 0 33 (omega arith), part-first w 33 97 (omega arith), part-first w 130 449 (omega arith), part-first w 579 641 (omega arith))
 
 -- a table in order has its numbers in order, and each of its records passes
 pub order-told : {A : Type 0} (limits : List ℕ) (n : ℕ) (f : List ℕ → A) (limit : ℕ) (key : A → ℕ) (ok : A → Bool) (w : List ℕ)

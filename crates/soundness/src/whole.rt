@@ -7,6 +7,7 @@ use crate::lock_words::locks_fit;
 use crate::open_words::opens_marked;
 use crate::session_words::sessions_marked;
 use crate::tree_words::trees_marked;
+use catalogue::rules::catalogue_ok;
 ghost use mathlib.Core.Path.{_≡_};
 ghost use mathlib.Core.Bool.{_&&_};
 ghost use Prim.Native.Nat.{_≤_};
@@ -20,8 +21,8 @@ ghost use Rattle.soundness.specs.LockFits.{lockFits};
 
 // Whether the counts are within the room of their tables.
 fn within_room(words: &[u64]) -> bool
-    requires { ⌜ length (now words) ≡ 1172 ⌝ }
-    ensures { λ r. ⌜ r ≡ withinRoom (word (now (words .entry)) 0) (word (now (words .entry)) 33) (word (now (words .entry)) 130) (word (now (words .entry)) 515) ⌝ }
+    requires { ⌜ length (now words) ≡ 1461 ⌝ }
+    ensures { λ r. ⌜ r ≡ withinRoom (word (now (words .entry)) 0) (word (now (words .entry)) 33) (word (now (words .entry)) 130) (word (now (words .entry)) 579) ⌝ }
 {
     if 16 < words[0] {
         return false;
@@ -32,7 +33,7 @@ fn within_room(words: &[u64]) -> bool
     if 64 < words[130] {
         return false;
     }
-    words[515] <= 128
+    words[579] <= 128
 }
 
 // The rules for locks; `files` has the file of each FID.
@@ -48,13 +49,13 @@ fn locks_ok(files: &[u8; 65], words: &[u64]) -> bool
 
 // Whether the words in use fit their fields and the tables are sound.
 pub fn is_sound(words: &[u64]) -> bool
-    requires { ⌜ length (now words) ≡ 1172 ⌝ }
+    requires { ⌜ length (now words) ≡ 1461 ⌝ }
     ensures { λ r. ⌜ r ≡ inUseFit (now (words .entry)) && sound (tablesOf (now (words .entry))) ⌝ }
 {
     if !within_room(words) {
         return false;
     }
-    if !files_ok(&words[1156..1172]) {
+    if !files_ok(&words[1220..1236]) {
         return false;
     }
     let sessions = sessions_marked(&words[0..33]);
@@ -67,10 +68,13 @@ pub fn is_sound(words: &[u64]) -> bool
         return false;
     }
     let codes = trees.codes;
-    let opens = opens_marked(&codes, &words[130..515]);
+    let opens = opens_marked(&codes, &words[130..579]);
     if !opens.sound {
         return false;
     }
     let files = opens.files;
-    locks_ok(&files, &words[515..1156])
+    if !locks_ok(&files, &words[579..1220]) {
+        return false;
+    }
+    catalogue_ok(&words[1236..1461])
 }
