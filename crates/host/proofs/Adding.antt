@@ -38,11 +38,11 @@ trees-count w = first-word w 33 97 (omega arith)
 
 pub opens-count : (w : List ℕ) → tablesOf w .nopens ≡ word w 130
 unfolding tablesOf
-opens-count w = first-word w 130 385 (omega arith)
+opens-count w = first-word w 130 449 (omega arith)
 
 -- ---- one record more in a part that was lent: the tables with it, and words in use that fit where they did
 
-module _ (w e : List ℕ) (full : length w ≡ 1172) where
+module _ (w e : List ℕ) (full : length w ≡ 1461) where
   pub sessions-appended : (x : Session) → length e ≡ 33 → Appended sessionArray sessionLimits 16 noSession (part w 0 33) e x
       → (tablesOf (lent w 0 33 e) ≡ withSessions (tablesOf w) (sessionsOf (tablesOf w) ++ (x ∷ []))) × (inUseFit w ≡ true → inUseFit (lent w 0 33 e) ≡ true)
   unfolding tablesOf
@@ -59,11 +59,11 @@ module _ (w e : List ℕ) (full : length w ≡ 1172) where
     λ f. fit-trees w e full long f (a .fit (told-fit w f .trees-fit)),
   )
 
-  pub opens-appended : (x : Open) → length e ≡ 385 → Appended openArray openLimits 64 noOpen (part w 130 385) e x
-      → (tablesOf (lent w 130 385 e) ≡ withOpens (tablesOf w) (opensOf (tablesOf w) ++ (x ∷ []))) × (inUseFit w ≡ true → inUseFit (lent w 130 385 e) ≡ true)
+  pub opens-appended : (x : Open) → length e ≡ 449 → Appended openArray openLimits 64 noOpen (part w 130 449) e x
+      → (tablesOf (lent w 130 449 e) ≡ withOpens (tablesOf w) (opensOf (tablesOf w) ++ (x ∷ []))) × (inUseFit w ≡ true → inUseFit (lent w 130 449 e) ≡ true)
   unfolding tablesOf
   opens-appended x long a = (
-    with-opens w e full (opensIn (part w 130 385) ++ (x ∷ [])) long (a .holds),
+    with-opens w e full (opensIn (part w 130 449) ++ (x ∷ [])) long (a .holds),
     λ f. fit-opens w e full long f (a .fit (told-fit w f .opens-fit)),
   )
 
@@ -114,8 +114,8 @@ module _ (t : Tables) (uid right : ℕ) where
 -- ---- an open
 
 module _ (t : Tables) (uid tid process file access : ℕ) where
-  abbrev pub openWith : ℕ → Open
-  openWith fid = record { fid = fid; uid = uid; tid = tid; process = process; file = file; access = access }
+  abbrev pub openBy : ℕ → Open
+  openBy fid = record { fid = fid; uid = uid; tid = tid; process = process; file = file; access = access; sharing = 4 }
 
   pub open-unsound : sound t ≡ false → addOpen t uid tid process file access ≡ refused 4 t
   unfolding addOpen
@@ -136,25 +136,25 @@ module _ (t : Tables) (uid tid process file access : ℕ) where
       open-orphan e = rw (ok, le-ltb 15 file listed, le-ltb 2 access range, e)
 
       module _ (known : any (isTree tid uid) (treesOf t) ≡ true) (fid : ℕ) (free : fid ≡ smallestFree (map fidOf (opensOf t))) where
-        at-free : (b : Bool) → any (holdsOpen (openWith fid)) (treesOf t) ≡ b → any (holdsOpen (newOpen t uid tid process file access)) (treesOf t) ≡ b
+        at-free : (b : Bool) → any (holdsOpen (openBy fid)) (treesOf t) ≡ b → any (holdsOpen (newOpen t uid tid process file access)) (treesOf t) ≡ b
         unfolding newOpen
-        at-free b e = ap (λ (k : ℕ). any (holdsOpen (openWith k)) (treesOf t)) (sym free) ∙ e
+        at-free b e = ap (λ (k : ℕ). any (holdsOpen (openBy k)) (treesOf t)) (sym free) ∙ e
 
-        pub open-exceeds : any (holdsOpen (openWith fid)) (treesOf t) ≡ false → addOpen t uid tid process file access ≡ refused 8 t
+        pub open-exceeds : any (holdsOpen (openBy fid)) (treesOf t) ≡ false → addOpen t uid tid process file access ≡ refused 8 t
         unfolding addOpen
         open-exceeds e = rw (ok, le-ltb 15 file listed, le-ltb 2 access range, known, at-free false e)
 
-        module _ (held : any (holdsOpen (openWith fid)) (treesOf t) ≡ true) where
+        module _ (held : any (holdsOpen (openBy fid)) (treesOf t) ≡ true) where
           pub open-full : 64 ≤ t .nopens → addOpen t uid tid process file access ≡ refused 5 t
           unfolding addOpen
           open-full h = rw (ok, le-ltb 15 file listed, le-ltb 2 access range, known, at-free true held, le-leb 64 (t .nopens) h)
 
           given : done (newOpen t uid tid process file access .fid) (withOpens t (opensOf t ++ (newOpen t uid tid process file access ∷ [])))
-              ≡ done fid (withOpens t (opensOf t ++ (openWith fid ∷ [])))
+              ≡ done fid (withOpens t (opensOf t ++ (openBy fid ∷ [])))
           unfolding newOpen
-          given = ap (λ (k : ℕ). done k (withOpens t (opensOf t ++ (openWith k ∷ [])))) (sym free)
+          given = ap (λ (k : ℕ). done k (withOpens t (opensOf t ++ (openBy k ∷ [])))) (sym free)
 
-          pub open-added : t .nopens < 64 → addOpen t uid tid process file access ≡ done fid (withOpens t (opensOf t ++ (openWith fid ∷ [])))
+          pub open-added : t .nopens < 64 → addOpen t uid tid process file access ≡ done fid (withOpens t (opensOf t ++ (openBy fid ∷ [])))
           unfolding addOpen
           open-added h =
               rw (ok, le-ltb 15 file listed, le-ltb 2 access range, known, at-free true held, lt-leb 64 (t .nopens) h) given

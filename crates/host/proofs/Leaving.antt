@@ -10,10 +10,10 @@ use lib.Seq.{getD-take, getD-drop}
 use Rattle.lists.specs.Truth.{both-hold, test-cases}
 use Rattle.lists.specs.Walk.{all}
 use Rattle.records.specs.declared.Tables.{Tables}
-use Rattle.records.specs.Held.{sessionsOf, treesOf, opensOf, locksOf}
+use Rattle.records.specs.Held.{sessionsOf, treesOf, opensOf}
 use Rattle.numbers.specs.Number.{numbered}
 use Rattle.numbers.specs.Column.{uidOf, tidOf, fidOf}
-use Rattle.soundness.specs.Sound.{sound, soundRecords, soundLocks, withinRoom, fileOk}
+use Rattle.soundness.specs.Sound.{sound, soundRecords, withinRoom, fileOk}
 use Rattle.removal.specs.Filter.{Numbered}
 use Rattle.tables.specs.Words.{word, part, tablesOf, inUseFit}
 use Rattle.host.specs.declared.answer.Returned.{Returned}
@@ -76,7 +76,7 @@ unfolding sound soundRecords
 sound-numbered t e =
     let a = both-hold (withinRoom (t .nsessions) (t .ntrees) (t .nopens) (t .nlocks)) _ e in
     let b = both-hold (all fileOk (t .files)) _ (a .1) in
-    let c = both-hold (soundRecords (sessionsOf t) (treesOf t) (opensOf t)) (soundLocks (opensOf t) (locksOf t)) (b .1) in
+    let c = both-hold (soundRecords (sessionsOf t) (treesOf t) (opensOf t)) _ (b .1) in
     let d = both-hold (numbered 16 (map uidOf (sessionsOf t))) _ (c .0) in
     let f = both-hold (numbered 32 (map tidOf (treesOf t))) _ (d .1) in
     let g = both-hold (numbered 64 (map fidOf (opensOf t))) _ (f .1) in

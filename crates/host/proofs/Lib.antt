@@ -3,3 +3,4 @@ pub mod Appending
 pub mod Leaving
 pub mod Emptied
 pub mod Adding
+pub mod Naming

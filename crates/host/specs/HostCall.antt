@@ -1,5 +1,5 @@
--- The host calls (document 01, "What a call returns"): adding a session, a tree or an open, loading a file, dropping a
--- connection. Each refusal is tested in document 01's order 2, 4, 7, 6, 8, 9, 5; a refusal changes nothing, and the number
+-- The host calls (document 01, "What a call returns"; document 02, CR 6): adding a session, a tree or an open, loading a file, dropping a
+-- connection, setting the catalogue. Each refusal is tested in document 01's order 2, 4, 7, 6, 8, 9, 5; a refusal changes nothing, and the number
 -- beside it is 0. Assumes nothing.
 use Prim.Native.Nat.{ℕ, _-_, _*_}
 use mathlib.Core.Bool.{Bool, cond, not, _||_}
@@ -11,11 +11,14 @@ use Rattle.lists.specs.Put.{put}
 use Rattle.records.specs.declared.Session.{Session}
 use Rattle.records.specs.declared.Tree.{Tree}
 use Rattle.records.specs.declared.Open.{Open}
+use Rattle.records.specs.declared.Name.{Name}
 use Rattle.records.specs.declared.Tables.{Tables}
-use Rattle.records.specs.Empty.{noSession, noTree, noOpen, noLock, noFile}
-use Rattle.records.specs.Held.{sessionsOf, treesOf, opensOf, withSessions, withTrees, withOpens, withFiles}
+use Rattle.records.specs.Empty.{noSession, noTree, noOpen, noLock, noFile, noName}
+use Rattle.records.specs.Held.{sessionsOf, treesOf, opensOf, withSessions, withTrees, withOpens, withFiles, withCatalogue}
 use Rattle.numbers.specs.Number.{contains, smallestFree}
-use Rattle.numbers.specs.Column.{uidOf, tidOf, fidOf}
+use Rattle.numbers.specs.Column.{uidOf, tidOf}
+use Rattle.numbers.specs.NewOpen.{openWith}
+use Rattle.catalogue.specs.Name.{catalogueOk}
 use Rattle.soundness.specs.Lookup.{isTree}
 use Rattle.soundness.specs.Sound.{sound, holdsOpen}
 use Rattle.removal.specs.Removal.{remove}
@@ -35,6 +38,8 @@ noTables =
       locks = replicate 128 noLock;
       nlocks = 0;
       files = replicate 16 noFile;
+      names = replicate 16 noName;
+      nnames = 0;
     }
 
 -- refused with that number: the tables stay
@@ -69,11 +74,10 @@ addTree t uid right =
     (cond (leb 32 (t .ntrees)) (refused 5 t)
     (done (newTree t uid right .tid) (withTrees t (treesOf t ++ (newTree t uid right ∷ [])))))))
 
--- ---- adding an open
+-- ---- adding an open: "opens by the host deny nothing" (document 02, CR 6), sharing code 4
 
 unfoldable pub newOpen : Tables → ℕ → ℕ → ℕ → ℕ → ℕ → Open
-newOpen t uid tid process file access =
-    record { fid = smallestFree (map fidOf (opensOf t)); uid = uid; tid = tid; process = process; file = file; access = access }
+newOpen t uid tid process file access = openWith t uid tid process file access 4
 
 unfoldable pub addOpen : Tables → ℕ → ℕ → ℕ → ℕ → ℕ → Returned
 addOpen t uid tid process file access =
@@ -118,3 +122,11 @@ loadMemory t file bytes memory =
 
 unfoldable pub dropConnection : Tables → ℕ → Returned
 dropConnection t connection = cond (not (sound t)) (refused 4 t) (done 0 (remove (Connection connection) t))
+
+-- ---- setting the catalogue (document 02, CR 6): "7: over 16 names, a name of another length, with a zero byte or doubled, a file above 15"; the
+-- old one is kept. It looks at no open.
+
+unfoldable pub setCatalogue : Tables → List Name → ℕ → Returned
+setCatalogue t names count =
+    cond (not (sound t)) (refused 4 t)
+    (cond (not (catalogueOk names count)) (refused 7 t) (done 0 (withCatalogue t names count)))

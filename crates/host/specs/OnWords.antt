@@ -7,11 +7,12 @@ use mathlib.Core.Bool.{true, cond, not}
 use mathlib.Core.List.{List, [], _∷_, _++_}
 use lib.ListN.{length, take}
 use lib.Dec.{eqb}
-use Rattle.tables.specs.Words.{word, tableFits, tablesOf, inUseFit}
+use Rattle.tables.specs.Words.{word, nameArray, nameLimits, tableFits, tablesOf, inUseFit}
 use Rattle.tables.specs.Written.{Holds}
+use Rattle.soundness.specs.Sound.{sound}
 use Rattle.host.specs.declared.answer.Returned.{Returned}
 use Rattle.host.specs.declared.answer.Row.{Row}
-use Rattle.host.specs.HostCall.{refused, loadFile, loadMemory}
+use Rattle.host.specs.HostCall.{refused, loadFile, loadMemory, setCatalogue}
 
 unfoldable pub onWords : List ℕ → Returned → Returned
 onWords w a = cond (inUseFit w) a (refused 4 (tablesOf w))
@@ -23,6 +24,15 @@ loadOnWords w file bytes memory =
 
 unfoldable pub memoryOnWords : List ℕ → ℕ → List ℕ → List ℕ → List ℕ
 memoryOnWords w file bytes memory = cond (inUseFit w) (loadMemory (tablesOf w) file bytes memory) memory
+
+-- a catalogue: 225 words in the form of the tables' own. A word of a name in use that is no byte makes no name: 7
+unfoldable pub setOnSound : List ℕ → List ℕ → Returned
+setOnSound w given =
+    cond (not (sound (tablesOf w))) (refused 4 (tablesOf w))
+    (cond (tableFits nameLimits 16 given) (setCatalogue (tablesOf w) (nameArray given) (word given 0)) (refused 7 (tablesOf w)))
+
+unfoldable pub setOnWords : List ℕ → List ℕ → Returned
+setOnWords w given = onWords w (setOnSound w given)
 
 -- what a call that answers a leaves, where the words were `before`: the row and the number given out, words of the tables after the
 -- call, every word as it was where it is refused, and words in use that fit where they did

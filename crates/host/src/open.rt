@@ -23,9 +23,12 @@ ghost use Rattle.soundness.specs.Sound.{sound};
 ghost use Rattle.host.specs.HostCall.{addOpen};
 ghost use Rattle.host.specs.OnWords.{onWords, Left, Appended};
 
+// "opens by the host deny nothing" (document 02, CR 6).
+const DENY_NONE: u8 = 4;
+
 // An open behind those in use.
-fn append_open(words: &mut [u64], o: Open)
-    requires { ⌜ (length (now words) ≡ 385) × (word (now words) 0 < 64) ⌝ }
+pub fn append_open(words: &mut [u64], o: Open)
+    requires { ⌜ (length (now words) ≡ 449) × (word (now words) 0 < 64) ⌝ }
     ensures { λ _. ⌜ Appended openArray openLimits 64 noOpen (now (words .entry)) (now (words .exit)) o ⌝ }
 {
     let count = words[0] as usize;
@@ -35,7 +38,7 @@ fn append_open(words: &mut [u64], o: Open)
 
 // An open in sound tables.
 fn add_sound(words: &mut [u64], uid: u16, tid: u16, process: u32, file: u8, access: u8) -> Row
-    requires { ⌜ (length (now words) ≡ 1172) × (sound (tablesOf (now words)) ≡ true) ⌝ }
+    requires { ⌜ (length (now words) ≡ 1461) × (sound (tablesOf (now words)) ≡ true) ⌝ }
     ensures { λ r. ⌜ Left (addOpen (tablesOf (now (words .entry))) uid tid process file access) (now (words .entry)) (now (words .exit)) r ⌝ }
 {
     if 15 < file {
@@ -56,7 +59,7 @@ fn add_sound(words: &mut [u64], uid: u16, tid: u16, process: u32, file: u8, acce
             id: 0,
         };
     }
-    let fid = free_fid(&words[130..515]);
+    let fid = free_fid(&words[130..579]);
     let o = Open {
         fid,
         uid,
@@ -64,6 +67,7 @@ fn add_sound(words: &mut [u64], uid: u16, tid: u16, process: u32, file: u8, acce
         process,
         file,
         access,
+        sharing: DENY_NONE,
     };
     if !some_tree_holds(&words[33..130], o) {
         return Row {
@@ -77,7 +81,7 @@ fn add_sound(words: &mut [u64], uid: u16, tid: u16, process: u32, file: u8, acce
             id: 0,
         };
     }
-    append_open(&mut words[130..515], o);
+    append_open(&mut words[130..579], o);
     Row {
         number: DONE,
         id: fid,
@@ -86,7 +90,7 @@ fn add_sound(words: &mut [u64], uid: u16, tid: u16, process: u32, file: u8, acce
 
 // An open of a file through a tree of a session; the number given out is its FID.
 pub fn add_open(
-    words: &mut [u64; 1172],
+    words: &mut [u64; 1461],
     uid: u16,
     tid: u16,
     process: u32,

@@ -72,10 +72,10 @@ put-size-requires : tie.Need-put-size-requires
 put-size-requires c κs =
     let args = c .before .before .before .before .before .before .before .before .before .before .before .args in
     let w = args .words .now in
-    let full : length w ≡ 1172 = c .before .before .before .before .before .before .before .before .before .before .before .pre .0 in
+    let full : length w ≡ 1461 = c .before .before .before .before .before .before .before .before .before .before .before .pre .0 in
     let l = loadable (tablesOf w) (args .file) (length (args .contents .now)) 65536 (sym (c .before .before .before .before .before .before .load-number .ensures) ∙ c .before .before .before .before .before .if1 .left) in
     let f = l .known-file in
-    (length-part w 1156 16 (omega arith), omega arith)
+    (length-part w 1220 16 (omega arith), omega arith)
 
 same-length-2 : tie.Need-same-length-2
 same-length-2 c = search needs
@@ -93,14 +93,14 @@ returns-2 c =
     let fill-file = c .before .before .before .before .before .before .fill-file in
     let args = c .before .before .before .before .before .before .before .before .before .before .before .before .before .before .args in
     let w = args .words .now in
-    let full : length w ≡ 1172 = pre .0 in
+    let full : length w ≡ 1461 = pre .0 in
     let e = put-size .last .0 in
-    let long : length e ≡ 16 = put-size .kept .0 ∙ length-part w 1156 16 (omega arith) in
+    let long : length e ≡ 16 = put-size .kept .0 ∙ length-part w 1220 16 (omega arith) in
     let l = loadable (tablesOf w) (args .file) (length (args .contents .now)) 65536 (sym (load-number .ensures) ∙ if1 .left) in
     let whole : length (args .memory .now) ≡ 65536 = pre .1 .1 in
     let f = l .known-file in
     let d = load-done (tablesOf w) (args .file) (args .contents .now) (args .memory .now) (load-number .result) (pre .1 .1) (load-number .ensures) (if1 .left) in (
-      left-done w (lent w 1156 16 e) 0 (loadFile (tablesOf w) (args .file) (args .contents .now) (args .memory .now)) (withSize (tablesOf w) (args .file) (length (args .contents .now))) (d .0) (tables-files w e full long ∙ ap (withFiles (tablesOf w)) (put-size .ensures)) (fit-files w e full long),
+      left-done w (lent w 1220 16 e) 0 (loadFile (tablesOf w) (args .file) (args .contents .now) (args .memory .now)) (withSize (tablesOf w) (args .file) (length (args .contents .now))) (d .0) (tables-files w e full long ∙ ap (withFiles (tablesOf w)) (put-size .ensures)) (fit-files w e full long),
       filled-memory (args .memory .now) (fill-file .last .1 .0) (args .contents .now) (args .file * 4096) (args .file * 4096 + 4096) refl (omega arith) (l .fitting) (fill-file .ensures) ∙ sym (d .1),
     )
 
