@@ -1,10 +1,10 @@
--- The grammar of a chain (document 01, with document 02's CR 3), as a relation on the bytes of a message. It cites the layout alone.
+-- The grammar of a chain (document 01, with document 02's CR 3 and CR 6), as a relation on the bytes of a message. It cites the layout alone.
 -- docs/GRAMMAR.md has it in words. Assumes nothing.
 use mathlib.Core.Path.{_≡_}
-use Prim.Native.Nat.{ℕ, _+_, _-_, _*_, _/_, _%_, _≤_}
+use Prim.Native.Nat.{ℕ, _+_, _-_, _*_, _/_, _%_, _≤_, _<_}
 use mathlib.Core.List.{List, [], _∷_}
 use lib.ListN.{length}
-use Rattle.chain.specs.Layout.{CLOSE, PROCESS_EXIT, LOCKING, READ, WRITE, TREE_DISCONNECT, LOGOFF, CORE-READ, CORE-WRITE, LOCK_BYTE_RANGE, UNLOCK_BYTE_RANGE, NO_COMMAND, headerCommand, FIRST, wordCount, byteArea, byteCount, blockEnd, andxCommand, andxOffset, lockType, unlockCount, lockCount, dataLength, dataOffset, coreCount, dataMark, markedLength}
+use Rattle.chain.specs.Layout.{CLOSE, PROCESS_EXIT, LOCKING, READ, WRITE, TREE_DISCONNECT, LOGOFF, CORE-READ, CORE-WRITE, LOCK_BYTE_RANGE, UNLOCK_BYTE_RANGE, OPEN, NO_COMMAND, headerCommand, FIRST, wordCount, byteArea, byteCount, blockEnd, areaByte, andxCommand, andxOffset, lockType, unlockCount, lockCount, dataLength, dataOffset, coreCount, dataMark, markedLength}
 
 -- "A block is WordCount, the words, ByteCount, the bytes, all inside the message": a block of that many words at a place
 pub record Shape (s : List ℕ) (at words : ℕ) : Type 0 where
@@ -35,6 +35,13 @@ pub record MarkedData (s : List ℕ) (at : ℕ) : Type 0 where
   pub agreed : markedLength s at ≡ coreCount s at
   pub filled : byteCount s at ≡ 3 + coreCount s at
 
+-- an OPEN block: "The byte area is a name of any length, even none, without zero bytes, then one zero byte"
+pub record Name (s : List ℕ) (at : ℕ) : Type 0 where
+  pub shape : Shape s at 15
+  pub some : 1 ≤ byteCount s at
+  pub ends : areaByte s at (byteCount s at - 1) ≡ 0
+  pub only : (k : ℕ) → k + 1 < byteCount s at → areaByte s at k ≡ 0 → ⊥
+
 -- The rows of the table: the block at a place, by its command. Type bit 0x10 makes a range 20 bytes long.
 pub data IsBlock (s : List ℕ) (at : ℕ) : ℕ → Type 0 where
   locking-10 : lockType s at / 16 % 2 ≡ 0 → Ranges s at 10 → IsBlock s at LOCKING
@@ -51,8 +58,10 @@ pub data IsBlock (s : List ℕ) (at : ℕ) : ℕ → Type 0 where
   core-write : MarkedData s at → IsBlock s at CORE-WRITE
   lock-byte-range : Bare s at 5 → IsBlock s at LOCK_BYTE_RANGE
   unlock-byte-range : Bare s at 5 → IsBlock s at UNLOCK_BYTE_RANGE
+  open-15 : Name s at → IsBlock s at OPEN
 
--- The last column: what may follow what. Document 02, CR 3: "READ and WRITE may end a chain after LOCKING_ANDX".
+-- The last column: what may follow what. Document 02, CR 3: "READ and WRITE may end a chain after LOCKING_ANDX"; CR 6: "READ_ANDX may
+-- follow (CR 5's eight pairs become nine)".
 pub data MayFollow : ℕ → ℕ → Type 0 where
   locking-read : MayFollow LOCKING READ
   locking-write : MayFollow LOCKING WRITE
@@ -62,6 +71,7 @@ pub data MayFollow : ℕ → ℕ → Type 0 where
   write-write : MayFollow WRITE WRITE
   write-read : MayFollow WRITE READ
   write-close : MayFollow WRITE CLOSE
+  open-read : MayFollow OPEN READ
 
 -- the requests whose words begin with AndX, and the others
 pub data NamedAndx : ℕ → Type 0 where
@@ -69,6 +79,7 @@ pub data NamedAndx : ℕ → Type 0 where
   read-andx : NamedAndx READ
   write-andx : NamedAndx WRITE
   logoff-andx : NamedAndx LOGOFF
+  open-andx : NamedAndx OPEN
 
 pub data Plain : ℕ → Type 0 where
   close-plain : Plain CLOSE

@@ -1,4 +1,4 @@
--- Where each field of a block stands (document 01, "The grammar of a chain"; document 02, CR 3): WordCount, the words, ByteCount, the bytes.
+-- Where each field of a block stands (document 01, "The grammar of a chain"; document 02, CR 3 and CR 6): WordCount, the words, ByteCount, the bytes.
 -- A block stands at a place counted from the header's start; numbers are little-endian.
 -- Assumes nothing.
 use Prim.Native.Nat.{ℕ, _+_, _*_}
@@ -41,6 +41,10 @@ LOCK_BYTE_RANGE = 0x0C
 abbrev pub UNLOCK_BYTE_RANGE : ℕ
 UNLOCK_BYTE_RANGE = 0x0D
 
+-- document 02, CR 6: "OPEN_ANDX 0x2D"
+abbrev pub OPEN : ℕ
+OPEN = 0x2D
+
 -- the AndXCommand that ends a chain
 abbrev pub NO_COMMAND : ℕ
 NO_COMMAND = 0xFF
@@ -64,6 +68,10 @@ byteCount s at = le16At s (at + 1 + 2 * wordCount s at)
 
 abbrev pub blockEnd : List ℕ → ℕ → ℕ
 blockEnd s at = byteArea s at + byteCount s at
+
+-- one of its bytes
+abbrev pub areaByte : List ℕ → ℕ → ℕ → ℕ
+areaByte s at k = byteAt s (byteArea s at + k)
 
 -- AndX words: AndXCommand (1), reserved (1), AndXOffset (2)
 abbrev pub andxCommand : List ℕ → ℕ → ℕ
@@ -132,3 +140,14 @@ rangeLength s at = le32At s (at + 3)
 
 abbrev pub rangeOffset : List ℕ → ℕ → ℕ
 rangeOffset s at = le32At s (at + 7)
+
+-- OPEN after AndX: Flags 2, AccessMode 2, SearchAttrs 2, FileAttrs 2, CreationTime 4, OpenMode 2, AllocationSize 4, Timeout 4, Reserved 4. Of Flags bit 0
+-- alone counts, and "Other AccessMode bits are ignored" (document 02, CR 6), those from 7 up too: of both the lower byte. Its bytes are the name.
+abbrev pub openFlags : List ℕ → ℕ → ℕ
+openFlags s at = byteAt s (at + 5)
+
+abbrev pub accessMode : List ℕ → ℕ → ℕ
+accessMode s at = byteAt s (at + 7)
+
+abbrev pub openMode : List ℕ → ℕ → ℕ
+openMode s at = le16At s (at + 17)

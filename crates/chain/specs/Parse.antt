@@ -2,14 +2,15 @@
 -- Assumes nothing.
 use Prim.Native.Nat.{ℕ, _+_, _-_, _*_, _/_, _%_}
 use mathlib.Core.Bool.{Bool, false, cond, _&&_, _||_}
-use mathlib.Core.List.{List}
-use lib.ListN.{length}
+use mathlib.Core.List.{List, [], _∷_}
+use lib.ListN.{length, take, drop}
 use lib.Dec.{leb, eqb}
 use Rattle.locks.specs.Wire.{rangeSize}
-use Rattle.chain.specs.Layout.{CLOSE, PROCESS_EXIT, LOCKING, READ, WRITE, TREE_DISCONNECT, LOGOFF, CORE-READ, CORE-WRITE, LOCK_BYTE_RANGE, UNLOCK_BYTE_RANGE, NO_COMMAND, wordCount, byteArea, byteCount, blockEnd, andxCommand, andxOffset, fidAfterAndx, lockType, unlockCount, lockCount, offsetLow, readMax, readOffsetHigh, dataLength, dataOffset, writeOffsetHigh, firstFid, coreCount, coreOffset, dataMark, markedLength, markedData, rangeLength, rangeOffset}
+use Rattle.chain.specs.Layout.{CLOSE, PROCESS_EXIT, LOCKING, READ, WRITE, TREE_DISCONNECT, LOGOFF, CORE-READ, CORE-WRITE, LOCK_BYTE_RANGE, UNLOCK_BYTE_RANGE, OPEN, NO_COMMAND, wordCount, byteArea, byteCount, blockEnd, andxCommand, andxOffset, fidAfterAndx, lockType, unlockCount, lockCount, offsetLow, readMax, readOffsetHigh, dataLength, dataOffset, writeOffsetHigh, firstFid, coreCount, coreOffset, dataMark, markedLength, markedData, rangeLength, rangeOffset, openFlags, accessMode, openMode}
 use Rattle.chain.specs.declared.block.Body.{Body}
-use Rattle.chain.specs.declared.block.Body.the-variants.{Locking, Read, Write, Close, Logoff, TreeDisconnect, ProcessExit, CoreRead, CoreWrite, LockByteRange, UnlockByteRange}
+use Rattle.chain.specs.declared.block.Body.the-variants.{Locking, Read, Write, Close, Logoff, TreeDisconnect, ProcessExit, CoreRead, CoreWrite, LockByteRange, UnlockByteRange, Open}
 use Rattle.chain.specs.declared.block.RangeFields.{RangeFields}
+use Rattle.chain.specs.declared.block.OpenFields.{OpenFields}
 use Rattle.chain.specs.declared.block.Next.{Next}
 use Rattle.chain.specs.declared.block.Next.the-variants.{End, Follow}
 use Rattle.chain.specs.declared.block.Parsed.{Parsed}
@@ -44,11 +45,24 @@ unfoldable pub coreWriteFits : List ℕ → ℕ → Bool
 coreWriteFits s at =
     shaped s at 5 && (eqb (dataMark s at) 1 && (eqb (markedLength s at) (coreCount s at) && eqb (byteCount s at) (3 + coreCount s at)))
 
+-- "a name of any length, even none, without zero bytes, then one zero byte": the first zero byte is the last byte
+unfoldable pub terminated : List ℕ → Bool
+terminated [] = false
+terminated (x ∷ xs) = cond (eqb x 0) (eqb (length xs) 0) (terminated xs)
+
+-- the bytes of a block
+abbrev pub bytesAt : List ℕ → ℕ → List ℕ
+bytesAt s at = take (byteCount s at) (drop (byteArea s at) s)
+
+unfoldable pub openFits : List ℕ → ℕ → Bool
+openFits s at = shaped s at 15 && terminated (bytesAt s at)
+
 -- what may follow what
 unfoldable pub mayFollow : ℕ → ℕ → Bool
 mayFollow command next =
     cond (eqb command LOCKING) (eqb next READ || (eqb next WRITE || (eqb next CORE-READ || eqb next CORE-WRITE)))
-    (cond (eqb command READ) (eqb next CLOSE) (cond (eqb command WRITE) (eqb next WRITE || (eqb next READ || eqb next CLOSE)) false))
+    (cond (eqb command READ) (eqb next CLOSE)
+    (cond (eqb command WRITE) (eqb next WRITE || (eqb next READ || eqb next CLOSE)) (cond (eqb command OPEN) (eqb next READ) false)))
 
 -- the AndX words: the end of the chain, or a follower at or behind the block's end
 unfoldable pub linkFits : List ℕ → ℕ → ℕ → Bool
@@ -85,6 +99,14 @@ parseWrite s at =
     (Write (record { fid = fidAfterAndx s at; offset = wideOffset (offsetLow s at) (writeOffsetHigh s at) (eqb (wordCount s at) 14); count = dataLength s at; from = dataOffset s at }))
     (linkAt s at)
 
+-- Flags bit 0; AccessMode's bits 0 to 2 and 4 to 6; OpenMode, the whole word
+abbrev pub openFields : List ℕ → ℕ → OpenFields
+openFields s at =
+    record { full = eqb (openFlags s at % 2) 1; access = accessMode s at % 8; sharing = accessMode s at / 16 % 8; mode = openMode s at }
+
+unfoldable pub parseOpen : List ℕ → ℕ → Parsed
+parseOpen s at = answer s OPEN at (openFits s at && linkFits s OPEN at) (Open (openFields s at)) (linkAt s at)
+
 unfoldable pub parseLogoff : List ℕ → ℕ → Parsed
 parseLogoff s at = answer s LOGOFF at (bare s at 2 && linkFits s LOGOFF at) Logoff (linkAt s at)
 
@@ -118,4 +140,5 @@ parse s command at =
     (cond (eqb command CORE-READ) (parseBare s CORE-READ at 5 (coreReadAt s at))
     (cond (eqb command CORE-WRITE) (parseCoreWrite s at)
     (cond (eqb command LOCK_BYTE_RANGE) (parseBare s LOCK_BYTE_RANGE at 5 (LockByteRange (rangeFields s at)))
-    (cond (eqb command UNLOCK_BYTE_RANGE) (parseBare s UNLOCK_BYTE_RANGE at 5 (UnlockByteRange (rangeFields s at))) Malformed))))))))))
+    (cond (eqb command UNLOCK_BYTE_RANGE) (parseBare s UNLOCK_BYTE_RANGE at 5 (UnlockByteRange (rangeFields s at)))
+    (cond (eqb command OPEN) (parseOpen s at) Malformed)))))))))))

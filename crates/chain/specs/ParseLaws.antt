@@ -11,8 +11,8 @@ use borrow.Author.Tests.{leb-true, eqb-true, lt-leb}
 use Rattle.lists.specs.Truth.{both-hold, either-cases, chosen}
 use Rattle.wire.specs.LittleEndian.{byteAt, le16At}
 use Rattle.locks.specs.Wire.{rangeSize}
-use Rattle.chain.specs.Layout.{CLOSE, PROCESS_EXIT, LOCKING, READ, WRITE, TREE_DISCONNECT, LOGOFF, CORE-READ, CORE-WRITE, LOCK_BYTE_RANGE, UNLOCK_BYTE_RANGE, NO_COMMAND, wordCount, byteCount, blockEnd, andxCommand, andxOffset, lockType, unlockCount, lockCount, firstFid, coreCount, dataMark, markedLength}
-use Rattle.chain.specs.Parse.{shaped, bare, isLarge, lockingFits, readFits, dataInside, writeFits, mayFollow, linkFits, linkAt, answer, coreWriteFits, parseLocking, parseRead, parseWrite, parseLogoff, parseBare, coreReadAt, parseCoreWrite, rangeFields, parse}
+use Rattle.chain.specs.Layout.{CLOSE, PROCESS_EXIT, LOCKING, READ, WRITE, TREE_DISCONNECT, LOGOFF, CORE-READ, CORE-WRITE, LOCK_BYTE_RANGE, UNLOCK_BYTE_RANGE, OPEN, NO_COMMAND, wordCount, byteCount, blockEnd, andxCommand, andxOffset, lockType, unlockCount, lockCount, firstFid, coreCount, dataMark, markedLength}
+use Rattle.chain.specs.Parse.{shaped, bare, isLarge, lockingFits, readFits, dataInside, writeFits, mayFollow, linkFits, linkAt, answer, coreWriteFits, terminated, bytesAt, openFits, parseLocking, parseRead, parseWrite, parseOpen, parseLogoff, parseBare, coreReadAt, parseCoreWrite, rangeFields, parse}
 use Rattle.chain.specs.declared.block.Body.{Body}
 use Rattle.chain.specs.declared.block.Body.the-variants.{Close, Logoff, TreeDisconnect, ProcessExit, LockByteRange, UnlockByteRange}
 use Rattle.chain.specs.declared.block.Next.{Next}
@@ -41,6 +41,10 @@ module _ (s : List ℕ) (at : ℕ) where
   pub bare-inside : (words : ℕ) → bare s at words ≡ true → blockEnd s at ≤ length s
   unfolding bare
   bare-inside words e = shaped-inside words (both-hold (shaped s at words) (eqb (byteCount s at) 0) e .0)
+
+  pub bare-words : (words : ℕ) → bare s at words ≡ true → wordCount s at ≡ words
+  unfolding bare
+  bare-words words e = shaped-words words (both-hold (shaped s at words) (eqb (byteCount s at) 0) e .0)
 
   pub locking-inside : lockingFits s at ≡ true → blockEnd s at ≤ length s
   unfolding lockingFits
@@ -75,6 +79,10 @@ module _ (s : List ℕ) (at : ℕ) where
 
   pub core-write-inside : coreWriteFits s at ≡ true → blockEnd s at ≤ length s
   core-write-inside e = shaped-inside 5 (core-write-shaped e)
+
+  pub open-inside : openFits s at ≡ true → blockEnd s at ≤ length s
+  unfolding openFits
+  open-inside e = shaped-inside 15 (both-hold (shaped s at 15) (terminated (bytesAt s at)) e .0)
 
 -- a follower that the AndX words name stands not before the block's end
 link-case : (stop may : Bool) (end command at c a : ℕ) → (stop || (may && leb end at)) ≡ true → cond stop End (Follow command at) ≡ Follow c a → end ≤ a
@@ -128,6 +136,10 @@ module _ (s : List ℕ) (at : ℕ) (b : Block) where
   unfolding parseWrite
   placed-write e = placed-link s WRITE at (writeFits s at) _ b (write-inside s at) e
 
+  placed-open : parseOpen s at ≡ Whole b → Placed s at b
+  unfolding parseOpen
+  placed-open e = placed-link s OPEN at (openFits s at) _ b (open-inside s at) e
+
   placed-logoff : parseLogoff s at ≡ Whole b → Placed s at b
   unfolding parseLogoff
   placed-logoff e = placed-link s LOGOFF at (bare s at 2) Logoff b (bare-inside s at 2) e
@@ -157,6 +169,6 @@ module _ (s : List ℕ) (at : ℕ) (b : Block) where
       (chosen (eqb command CORE-READ) (parseBare s CORE-READ at 5 (coreReadAt s at)) _ (Whole b) (placed-bare CORE-READ 5 _)
       (chosen (eqb command CORE-WRITE) (parseCoreWrite s at) _ (Whole b) placed-core-write
       (chosen (eqb command LOCK_BYTE_RANGE) (parseBare s LOCK_BYTE_RANGE at 5 (LockByteRange (rangeFields s at))) _ (Whole b) (placed-bare LOCK_BYTE_RANGE 5 _)
-      (chosen (eqb command UNLOCK_BYTE_RANGE) (parseBare s UNLOCK_BYTE_RANGE at 5 (UnlockByteRange (rangeFields s at))) Malformed (Whole b)
-      (placed-bare UNLOCK_BYTE_RANGE 5 _) unserved))))))))))
+      (chosen (eqb command UNLOCK_BYTE_RANGE) (parseBare s UNLOCK_BYTE_RANGE at 5 (UnlockByteRange (rangeFields s at))) _ (Whole b) (placed-bare UNLOCK_BYTE_RANGE 5 _)
+      (chosen (eqb command OPEN) (parseOpen s at) Malformed (Whole b) placed-open unserved)))))))))))
       e

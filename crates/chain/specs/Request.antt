@@ -3,9 +3,9 @@
 use Prim.Native.Nat.{ℕ}
 use mathlib.Core.Bool.{Bool, true, false, cond}
 use lib.Dec.{eqb}
-use Rattle.chain.specs.Layout.{CLOSE, PROCESS_EXIT, LOCKING, READ, WRITE, TREE_DISCONNECT, LOGOFF, CORE-READ, CORE-WRITE, LOCK_BYTE_RANGE, UNLOCK_BYTE_RANGE}
+use Rattle.chain.specs.Layout.{CLOSE, PROCESS_EXIT, LOCKING, READ, WRITE, TREE_DISCONNECT, LOGOFF, CORE-READ, CORE-WRITE, LOCK_BYTE_RANGE, UNLOCK_BYTE_RANGE, OPEN}
 use Rattle.chain.specs.declared.command.ServedRequest.{ServedRequest}
-use Rattle.chain.specs.declared.command.ServedRequest.the-variants.{Locking, Read, Write, Close, Logoff, TreeDisconnect, ProcessExit, CoreRead, CoreWrite, LockByteRange, UnlockByteRange, None}
+use Rattle.chain.specs.declared.command.ServedRequest.the-variants.{Locking, Read, Write, Close, Logoff, TreeDisconnect, ProcessExit, CoreRead, CoreWrite, LockByteRange, UnlockByteRange, Open, None}
 
 unfoldable pub requestNamed : ℕ → ServedRequest
 requestNamed command =
@@ -19,7 +19,8 @@ requestNamed command =
     (cond (eqb command CORE-READ) CoreRead
     (cond (eqb command CORE-WRITE) CoreWrite
     (cond (eqb command LOCK_BYTE_RANGE) LockByteRange
-    (cond (eqb command UNLOCK_BYTE_RANGE) UnlockByteRange None))))))))))
+    (cond (eqb command UNLOCK_BYTE_RANGE) UnlockByteRange
+    (cond (eqb command OPEN) Open None)))))))))))
 
 -- the requests whose words begin with AndX
 unfoldable pub isAndx : ServedRequest → Bool
@@ -34,6 +35,7 @@ isAndx CoreRead = false
 isAndx CoreWrite = false
 isAndx LockByteRange = false
 isAndx UnlockByteRange = false
+isAndx Open = true
 isAndx None = false
 
 unfoldable pub isServed : ServedRequest → Bool
@@ -48,4 +50,5 @@ isServed CoreRead = true
 isServed CoreWrite = true
 isServed LockByteRange = true
 isServed UnlockByteRange = true
+isServed Open = true
 isServed None = false

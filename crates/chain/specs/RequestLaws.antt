@@ -7,10 +7,10 @@ use mathlib.Core.Bool.{true, false, cond}
 use lib.Dec.{eqb}
 use borrow.Author.Tests.{eqb-true}
 use Rattle.lists.specs.Truth.{decided}
-use Rattle.chain.specs.Layout.{CLOSE, PROCESS_EXIT, LOCKING, READ, WRITE, TREE_DISCONNECT, LOGOFF, CORE-READ, CORE-WRITE, LOCK_BYTE_RANGE, UNLOCK_BYTE_RANGE}
+use Rattle.chain.specs.Layout.{CLOSE, PROCESS_EXIT, LOCKING, READ, WRITE, TREE_DISCONNECT, LOGOFF, CORE-READ, CORE-WRITE, LOCK_BYTE_RANGE, UNLOCK_BYTE_RANGE, OPEN}
 use Rattle.chain.specs.Request.{requestNamed}
 use Rattle.chain.specs.declared.command.ServedRequest.{ServedRequest}
-use Rattle.chain.specs.declared.command.ServedRequest.the-variants.{Locking, Read, Write, Close, Logoff, TreeDisconnect, ProcessExit, CoreRead, CoreWrite, LockByteRange, UnlockByteRange, None}
+use Rattle.chain.specs.declared.command.ServedRequest.the-variants.{Locking, Read, Write, Close, Logoff, TreeDisconnect, ProcessExit, CoreRead, CoreWrite, LockByteRange, UnlockByteRange, Open, None}
 
 -- a number that names no request served
 pub record Unserved (command : ℕ) : Type 0 where
@@ -25,6 +25,7 @@ pub record Unserved (command : ℕ) : Type 0 where
   pub no-core-write : eqb command CORE-WRITE ≡ false
   pub no-lock-byte-range : eqb command LOCK_BYTE_RANGE ≡ false
   pub no-unlock-byte-range : eqb command UNLOCK_BYTE_RANGE ≡ false
+  pub no-open : eqb command OPEN ≡ false
 
 module _ (P : ServedRequest → ℕ → Type 0) (command : ℕ) where
   -- one test of the definition
@@ -34,9 +35,9 @@ module _ (P : ServedRequest → ℕ → Type 0) (command : ℕ) where
   tested k here other holds else (inr e) = rw e (else e)
 
   pub by-request : P Locking LOCKING → P Read READ → P Write WRITE → P Close CLOSE → P Logoff LOGOFF → P TreeDisconnect TREE_DISCONNECT → P ProcessExit PROCESS_EXIT
-      → P CoreRead CORE-READ → P CoreWrite CORE-WRITE → P LockByteRange LOCK_BYTE_RANGE → P UnlockByteRange UNLOCK_BYTE_RANGE → (Unserved command → P None command) → P (requestNamed command) command
+      → P CoreRead CORE-READ → P CoreWrite CORE-WRITE → P LockByteRange LOCK_BYTE_RANGE → P UnlockByteRange UNLOCK_BYTE_RANGE → P Open OPEN → (Unserved command → P None command) → P (requestNamed command) command
   unfolding requestNamed
-  by-request locking read write close logoff tree-disconnect process-exit core-read core-write lock unlock none =
+  by-request locking read write close logoff tree-disconnect process-exit core-read core-write lock unlock opening none =
       tested LOCKING Locking _ locking
       (λ l. tested READ Read _ read
       (λ r. tested WRITE Write _ write
@@ -48,7 +49,8 @@ module _ (P : ServedRequest → ℕ → Type 0) (command : ℕ) where
       (λ cr. tested CORE-WRITE CoreWrite _ core-write
       (λ cw. tested LOCK_BYTE_RANGE LockByteRange _ lock
       (λ lb. tested UNLOCK_BYTE_RANGE UnlockByteRange _ unlock
-      (λ ub. none
+      (λ ub. tested OPEN Open _ opening
+      (λ op. none
       (record {
         no-locking = l;
         no-read = r;
@@ -61,7 +63,9 @@ module _ (P : ServedRequest → ℕ → Type 0) (command : ℕ) where
         no-core-write = cw;
         no-lock-byte-range = lb;
         no-unlock-byte-range = ub;
+        no-open = op;
       }))
+      (decided (eqb command OPEN)))
       (decided (eqb command UNLOCK_BYTE_RANGE)))
       (decided (eqb command LOCK_BYTE_RANGE)))
       (decided (eqb command CORE-WRITE)))
@@ -87,8 +91,9 @@ Names CoreRead command = command ≡ CORE-READ
 Names CoreWrite command = command ≡ CORE-WRITE
 Names LockByteRange command = command ≡ LOCK_BYTE_RANGE
 Names UnlockByteRange command = command ≡ UNLOCK_BYTE_RANGE
+Names Open command = command ≡ OPEN
 Names None command = Unserved command
 
 pub names : (command : ℕ) {request : ServedRequest} → request ≡ requestNamed command → Names request command
 unfolding Names
-names command e = rw e (by-request Names command refl refl refl refl refl refl refl refl refl refl refl (λ u. u))
+names command e = rw e (by-request Names command refl refl refl refl refl refl refl refl refl refl refl refl (λ u. u))

@@ -2,13 +2,15 @@
 -- block answers by these alone (`parse-row`), whatever the block's fields are.
 -- Assumes nothing.
 use mathlib.Core.Path.{_≡_, refl, sym, ap, _∙_}
-use Prim.Native.Nat.{ℕ, _≤_}
-use mathlib.Core.Bool.{Bool, true, false, cond, _&&_, false≢true}
+use Prim.Native.Nat.{ℕ, _+_, _≤_}
+use native.Mathlib.Omega.{arith}
+use mathlib.Core.Bool.{Bool, true, false, cond, _&&_, _||_, false≢true}
 use mathlib.Core.List.{List}
 use lib.ListN.{length}
-use Rattle.chain.specs.Layout.{CLOSE, PROCESS_EXIT, LOCKING, READ, WRITE, TREE_DISCONNECT, LOGOFF, CORE-READ, CORE-WRITE, LOCK_BYTE_RANGE, UNLOCK_BYTE_RANGE, blockEnd}
-use Rattle.chain.specs.Parse.{bare, lockingFits, readFits, writeFits, coreWriteFits, linkFits, linkAt, answer, parseLocking, parseRead, parseWrite, parseLogoff, parseBare, parseCoreWrite, parse}
-use Rattle.chain.specs.ParseLaws.{bare-inside, locking-inside, read-inside, write-inside, core-write-inside}
+use Rattle.lists.specs.Truth.{both-hold, either-cases}
+use Rattle.chain.specs.Layout.{CLOSE, PROCESS_EXIT, LOCKING, READ, WRITE, TREE_DISCONNECT, LOGOFF, CORE-READ, CORE-WRITE, LOCK_BYTE_RANGE, UNLOCK_BYTE_RANGE, OPEN, wordCount, blockEnd}
+use Rattle.chain.specs.Parse.{shaped, bare, lockingFits, readFits, dataInside, writeFits, coreWriteFits, openFits, linkFits, linkAt, answer, parseLocking, parseRead, parseWrite, parseOpen, parseLogoff, parseBare, parseCoreWrite, parse}
+use Rattle.chain.specs.ParseLaws.{shaped-words, bare-words, bare-inside, locking-inside, read-inside, write-inside, core-write-inside, open-inside}
 use Rattle.chain.specs.Request.{requestNamed, isAndx}
 use Rattle.chain.specs.RequestLaws.{Unserved, by-request}
 use Rattle.chain.specs.Judged.{isWhole, judged}
@@ -34,6 +36,7 @@ rowFits s named.CoreRead at = bare s at 5
 rowFits s named.CoreWrite at = coreWriteFits s at
 rowFits s named.LockByteRange at = bare s at 5
 rowFits s named.UnlockByteRange at = bare s at 5
+rowFits s named.Open at = openFits s at
 rowFits s named.None at = false
 
 -- and with them, where it has them
@@ -100,18 +103,22 @@ module _ (s : List ℕ) (at : ℕ) where
   unfolding parse parseBare fits rowFits isAndx requestNamed nextAt
   row-unlock-byte-range = (_, record { is = refl })
 
+  row-open : Row OPEN
+  unfolding parse parseOpen fits rowFits isAndx requestNamed nextAt
+  row-open = (_, record { is = refl })
+
   -- what is no request served has no block, so it may have any fields
   pub row-none : (command : ℕ) → Unserved command → HasBody s command at ProcessExit
   unfolding parse answer fits rowFits isAndx requestNamed nextAt
   row-none command u =
       record {
-        is = rw (u .no-locking, u .no-read, u .no-write, u .no-close, u .no-logoff, u .no-tree-disconnect, u .no-process-exit, u .no-core-read, u .no-core-write, u .no-lock-byte-range, u .no-unlock-byte-range);
+        is = rw (u .no-locking, u .no-read, u .no-write, u .no-close, u .no-logoff, u .no-tree-disconnect, u .no-process-exit, u .no-core-read, u .no-core-write, u .no-lock-byte-range, u .no-unlock-byte-range, u .no-open);
       }
 
   pub parse-row : (command : ℕ) → Row command
   parse-row command =
       by-request (λ (request : ServedRequest) (command : ℕ). Row command) command row-locking row-read row-write row-close row-logoff row-tree-disconnect
-      (ProcessExit, row-process-exit) row-core-read row-core-write row-lock-byte-range row-unlock-byte-range (λ u. (ProcessExit, row-none command u))
+      (ProcessExit, row-process-exit) row-core-read row-core-write row-lock-byte-range row-unlock-byte-range row-open (λ u. (ProcessExit, row-none command u))
 
 -- ---- a block judged
 
@@ -129,7 +136,35 @@ row-inside s named.CoreRead at e = bare-inside s at 5 e
 row-inside s named.CoreWrite at e = core-write-inside s at e
 row-inside s named.LockByteRange at e = bare-inside s at 5 e
 row-inside s named.UnlockByteRange at e = bare-inside s at 5 e
+row-inside s named.Open at e = open-inside s at e
 row-inside s named.None at e = absurd (false≢true e)
+
+-- and has its AndX words, where it has any
+row-words : (s : List ℕ) (request : ServedRequest) (at : ℕ) → isAndx request ≡ true → rowFits s request at ≡ true → 2 ≤ wordCount s at
+unfolding isAndx rowFits lockingFits readFits writeFits openFits
+row-words s named.Locking at a e = let w : wordCount s at ≡ 8 = shaped-words s at 8 (both-hold (shaped s at 8) _ e .0) in omega arith
+row-words s named.Read at a e =
+    either-cases (bare s at 10) (bare s at 12) e (λ p. let w : wordCount s at ≡ 10 = bare-words s at 10 p in omega arith)
+    (λ p. let w : wordCount s at ≡ 12 = bare-words s at 12 p in omega arith)
+row-words s named.Write at a e =
+    either-cases (shaped s at 12) (shaped s at 14) (both-hold (shaped s at 12 || shaped s at 14) (dataInside s at) e .0)
+    (λ p. let w : wordCount s at ≡ 12 = shaped-words s at 12 p in omega arith) (λ p. let w : wordCount s at ≡ 14 = shaped-words s at 14 p in omega arith)
+row-words s named.Close at a e = absurd (false≢true a)
+row-words s named.Logoff at a e = let w : wordCount s at ≡ 2 = bare-words s at 2 e in omega arith
+row-words s named.TreeDisconnect at a e = absurd (false≢true a)
+row-words s named.ProcessExit at a e = absurd (false≢true a)
+row-words s named.CoreRead at a e = absurd (false≢true a)
+row-words s named.CoreWrite at a e = absurd (false≢true a)
+row-words s named.LockByteRange at a e = absurd (false≢true a)
+row-words s named.UnlockByteRange at a e = absurd (false≢true a)
+row-words s named.Open at a e = let w : wordCount s at ≡ 15 = shaped-words s at 15 (both-hold (shaped s at 15) _ e .0) in omega arith
+row-words s named.None at a e = absurd (false≢true a)
+
+pub andx-inside : (s : List ℕ) (request : ServedRequest) (at : ℕ) → isAndx request ≡ true → rowFits s request at ≡ true → at + 5 ≤ length s
+andx-inside s request at a e =
+    let w : 2 ≤ wordCount s at = row-words s request at a e in
+    let h : blockEnd s at ≤ length s = row-inside s request at e in
+    omega arith
 
 judged-answer : (s : List ℕ) (command at : ℕ) (t : Bool) (body : Body) (next : Next) → judged (answer s command at t body next) ≡ cond t (judge.Fits next) judge.Malformed
 unfolding judged answer
@@ -174,3 +209,11 @@ pub taken-apart : (s : List ℕ) (command at : ℕ) (body : Body) → HasBody s 
 taken-apart s command at body h e =
     let t = whole-fits s command at (fits s command at) body (nextAt s command at) (sym (ap isWhole (h .is)) ∙ e) in
     h .is ∙ ap (λ (x : Bool). answer s command at x body (nextAt s command at)) t
+
+-- its AndX words stand inside the message, where it has any
+pub whole-andx : (s : List ℕ) (command at : ℕ) → isWhole (parse s command at) ≡ true → isAndx (requestNamed command) ≡ true → at + 5 ≤ length s
+unfolding fits
+whole-andx s command at e a =
+    let row = parse-row s at command in
+    let t : fits s command at ≡ true = whole-fits s command at (fits s command at) (row .0) (nextAt s command at) (sym (ap isWhole (row .1 .is)) ∙ e) in
+    andx-inside s (requestNamed command) at a (both-hold (rowFits s (requestNamed command) at) (linkFits s command at) (rw a at t) .0)

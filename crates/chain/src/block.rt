@@ -32,6 +32,16 @@ pub struct RangeFields {
     pub length: u64,
 }
 
+// What an OPEN block asks (document 02, CR 6): OpenMode, the whole word; the access and the sharing code of AccessMode, whose other bits
+// are ignored; and whether the reply is to tell of the file ("zero after the FID with the block's Flags bit 0 clear"). The name stays
+// in the message. The word is the first, where the other blocks have their FID.
+pub struct OpenFields {
+    pub mode: u16,
+    pub access: u8,
+    pub sharing: u8,
+    pub full: bool,
+}
+
 // A block by its command. A core READ or WRITE has the fields of its AndX counterpart (document 02, CR 3).
 pub enum Body {
     Locking(LockingFields),
@@ -45,6 +55,7 @@ pub enum Body {
     CoreWrite(WriteFields),
     LockByteRange(RangeFields),
     UnlockByteRange(RangeFields),
+    Open(OpenFields),
 }
 
 // What follows a block: nothing, or a block with that command at that place.

@@ -14,17 +14,21 @@ use crate::place::LOCK_TYPE;
 use crate::place::LOCKING_BYTE_COUNT;
 use crate::place::LOCKS;
 use crate::place::MARKED_LENGTH;
+use crate::place::OPEN_NAME;
 use crate::place::UNLOCKS;
 use crate::place::WRITE_DATA_OFFSET;
 use crate::place::WRITE_LENGTH;
 use crate::shape::block_end;
+use crate::shape::end_inside;
 use crate::shape::has_shape;
 use crate::shape::is_bare;
+use crate::shape::number_inside;
 use locks::wire_form::range_size;
 ghost use mathlib.Core.Path.{_≡_};
-ghost use Prim.Native.Nat.{_<_};
+ghost use Prim.Native.Nat.{_+_, _≤_, _<_};
 ghost use lib.ListN.{length};
-ghost use Rattle.chain.specs.Parse.{lockingFits, readFits, writeFits, dataInside, coreWriteFits, parse};
+ghost use Rattle.chain.specs.Layout.{blockEnd};
+ghost use Rattle.chain.specs.Parse.{lockingFits, readFits, writeFits, dataInside, coreWriteFits, terminated, openFits, parse};
 ghost use Rattle.chain.specs.Rows.{rowFits, linkJudged};
 ghost use Rattle.chain.specs.Judged.{judged};
 
@@ -97,6 +101,33 @@ fn core_write_fits(s: &[u8], at: usize) -> bool
     bytes == 3 + count as usize
 }
 
+// Whether the bytes are a name without zero bytes, then one zero byte: the first zero byte is the last byte.
+fn is_terminated(bytes: &[u8]) -> bool
+    ensures { λ r. ⌜ r ≡ terminated (now (bytes .entry)) ⌝ }
+{
+    let mut i: usize = 0;
+    while i < bytes.len() {
+        if bytes[i] == 0 {
+            return i + 1 == bytes.len();
+        }
+        i += 1;
+    }
+    false
+}
+
+// Whether the OPEN block at a place has 15 words and just a name: "The byte area is a name of any length, even none, without zero
+// bytes, then one zero byte; else 2/1" (document 02, CR 6).
+fn open_fits(s: &[u8], at: usize) -> bool
+    ensures { λ r. ⌜ r ≡ openFits (now (s .entry)) at ⌝ }
+{
+    if !has_shape(s, at, 15) {
+        return false;
+    }
+    let from = at + OPEN_NAME;
+    let to = block_end(s, at);
+    is_terminated(&s[from..to])
+}
+
 // Whether the block at a place is one of the request's row; no other request is served.
 fn row_fits(s: &[u8], request: ServedRequest, at: usize) -> bool
     ensures { λ r. ⌜ r ≡ rowFits (now (s .entry)) request at ⌝ }
@@ -113,24 +144,26 @@ fn row_fits(s: &[u8], request: ServedRequest, at: usize) -> bool
         ServedRequest::CoreWrite => core_write_fits(s, at),
         ServedRequest::LockByteRange => is_bare(s, at, 5),
         ServedRequest::UnlockByteRange => is_bare(s, at, 5),
+        ServedRequest::Open => open_fits(s, at),
         ServedRequest::None => false,
     }
 }
 
-// The AndX words: they end the chain, or name a follower at or behind the block's end.
+// The AndX words of a block inside the message: they end the chain, or name a follower at or behind the block's end.
 fn judge_link(s: &[u8], command: u8, at: usize) -> Judged
-    requires { ⌜ at < length (now s) ⌝ }
+    requires { ⌜ at + 5 ≤ length (now s) ⌝ }
+    requires { ⌜ blockEnd (now s) at ≤ length (now s) ⌝ }
     ensures { λ r. ⌜ r ≡ linkJudged (now (s .entry)) command at ⌝ }
 {
-    let next = wire::byte_at(s, at + 1);
+    let next = s[at + 1];
     if next == NO_COMMAND {
         return Judged::Fits(Next::End);
     }
     if !may_follow(command, next) {
         return Judged::Malformed;
     }
-    let place = wire::le16_at(s, at + 3) as usize;
-    if place < block_end(s, at) {
+    let place = number_inside(s, at + 3) as usize;
+    if place < end_inside(s, at) {
         return Judged::Malformed;
     }
     Judged::Fits(Next::Follow(next, place))

@@ -4,12 +4,14 @@ use crate::block::Block;
 use crate::block::Body;
 use crate::block::LockingFields;
 use crate::block::Next;
+use crate::block::OpenFields;
 use crate::block::RangeFields;
 use crate::block::ReadFields;
 use crate::block::WriteFields;
 use crate::command::ServedRequest;
 use crate::command::is_andx;
 use crate::command::request_named;
+use crate::place::ACCESS_MODE;
 use crate::place::CORE_COUNT;
 use crate::place::CORE_OFFSET;
 use crate::place::FID;
@@ -18,6 +20,8 @@ use crate::place::LOCK_TYPE;
 use crate::place::LOCKS;
 use crate::place::MARKED_DATA;
 use crate::place::OFFSET;
+use crate::place::OPEN_FLAGS;
+use crate::place::OPEN_MODE;
 use crate::place::RANGE_LENGTH;
 use crate::place::RANGE_OFFSET;
 use crate::place::READ_MAX;
@@ -26,17 +30,18 @@ use crate::place::UNLOCKS;
 use crate::place::WRITE_DATA_OFFSET;
 use crate::place::WRITE_LENGTH;
 use crate::place::WRITE_OFFSET_HIGH;
-use crate::shape::block_end;
+use crate::shape::end_inside;
 use crate::shape::link_at;
 ghost use mathlib.Core.Path.{_≡_};
-ghost use Prim.Native.Nat.{_<_};
+ghost use Prim.Native.Nat.{_+_, _≤_, _<_};
 ghost use mathlib.Core.Bool.{true};
 ghost use lib.ListN.{length};
 ghost use Rattle.wire.specs.LittleEndian.{le32At};
 ghost use Rattle.chain.specs.Parse.{wideOffset, coreReadAt, rangeFields, parse};
+ghost use Rattle.chain.specs.Request.{requestNamed, isAndx};
 ghost use Rattle.chain.specs.Rows.{HasBody, nextAt};
 ghost use Rattle.chain.specs.Judged.{isWhole};
-ghost use Rattle.chain.specs.Layout.{LOCKING, READ, WRITE, CORE-WRITE};
+ghost use Rattle.chain.specs.Layout.{LOCKING, READ, WRITE, CORE-WRITE, OPEN};
 ghost use Rattle.chain.specs.declared.block.Parsed.the-variants.{Whole};
 
 fn locking_body(s: &[u8], at: usize) -> Body
@@ -146,6 +151,24 @@ fn range_fields(s: &[u8], at: usize) -> RangeFields
     }
 }
 
+// Of Flags bit 0 counts, of AccessMode bits 0 to 2 and 4 to 6: "Other AccessMode bits are ignored" (document 02, CR 6).
+fn open_body(s: &[u8], at: usize) -> Body
+    requires { ⌜ at < length (now s) ⌝ }
+    ensures { λ r. ⌜ HasBody (now (s .entry)) OPEN at r ⌝ }
+{
+    let full = wire::byte_at(s, at + OPEN_FLAGS) % 2 == 1;
+    let codes = wire::byte_at(s, at + ACCESS_MODE);
+    let access = codes % 8;
+    let sharing = codes / 16 % 8;
+    let mode = wire::le16_at(s, at + OPEN_MODE);
+    Body::Open(OpenFields {
+        full,
+        access,
+        sharing,
+        mode,
+    })
+}
+
 // The fields of a block by its command. What is no request served has no block, so it may have any.
 fn body_at(s: &[u8], command: u8, at: usize) -> Body
     requires { ⌜ at < length (now s) ⌝ }
@@ -164,13 +187,14 @@ fn body_at(s: &[u8], command: u8, at: usize) -> Body
         ServedRequest::CoreWrite => core_write_body(s, at),
         ServedRequest::LockByteRange => Body::LockByteRange(range_fields(s, at)),
         ServedRequest::UnlockByteRange => Body::UnlockByteRange(range_fields(s, at)),
+        ServedRequest::Open => open_body(s, at),
         ServedRequest::None => Body::ProcessExit,
     }
 }
 
 // What follows a block: what its AndX words name, or nothing where it has none.
 fn next_at(s: &[u8], command: u8, at: usize) -> Next
-    requires { ⌜ at < length (now s) ⌝ }
+    requires { ⌜ (isAndx (requestNamed command) ≡ true → at + 5 ≤ length (now s)) ⌝ }
     ensures { λ r. ⌜ r ≡ nextAt (now (s .entry)) command at ⌝ }
 {
     if is_andx(request_named(command)) {
@@ -186,7 +210,7 @@ pub fn fields_at(s: &[u8], command: u8, at: usize) -> Block
 {
     let body = body_at(s, command, at);
     let next = next_at(s, command, at);
-    let length = block_end(s, at) - at;
+    let length = end_inside(s, at) - at;
     Block {
         command,
         at,

@@ -1,4 +1,4 @@
-// Where fields stand, from a block's start: document 01, "Words after AndX"; document 02, CR 3; specs/Layout.antt has the same places.
+// Where fields stand, from a block's start: document 01, "Words after AndX"; document 02, CR 3 and CR 6; specs/Layout.antt has the same places.
 pub(crate) const FID: usize = 5;
 
 pub(crate) const LOCK_TYPE: usize = 7;
@@ -42,3 +42,12 @@ pub(crate) const MARKED_DATA: usize = 16;
 pub(crate) const RANGE_LENGTH: usize = 3;
 
 pub(crate) const RANGE_OFFSET: usize = 7;
+
+// OPEN (document 02, CR 6), and its name: a block of 15 words has its bytes 33 places behind its start.
+pub(crate) const OPEN_FLAGS: usize = 5;
+
+pub(crate) const ACCESS_MODE: usize = 7;
+
+pub(crate) const OPEN_MODE: usize = 17;
+
+pub(crate) const OPEN_NAME: usize = 33;

@@ -8,13 +8,13 @@ use denote.Enum.Declared.{tagOf}
 use borrow.Author.Needs.{needs}
 use Rattle.chain.specs.Request.{isServed}
 use Rattle.chain.specs.declared.command.ServedRequest.{ServedRequest}
-use Rattle.chain.specs.declared.command.ServedRequest.the-variants.{Locking, Read, Write, Close, Logoff, TreeDisconnect, ProcessExit, CoreRead, CoreWrite, LockByteRange, UnlockByteRange, None}
+use Rattle.chain.specs.declared.command.ServedRequest.the-variants.{Locking, Read, Write, Close, Logoff, TreeDisconnect, ProcessExit, CoreRead, CoreWrite, LockByteRange, UnlockByteRange, Open, None}
 use Rattle.chain.proofs.command.ServedRequest.{the-type}
 use Rattle.chain.proofs.command.is_served.Statement.{statement}
 use Rattle.chain.proofs.command.is_served.Tie as tie
 
--- what the arm `_` knows: the request is not the enum's variant 11
-not-none : (request : ServedRequest) → OneOf (0 ∷ 1 ∷ 2 ∷ 3 ∷ 4 ∷ 5 ∷ 6 ∷ 7 ∷ 8 ∷ 9 ∷ 10 ∷ []) (tagOf the-type request) → true ≡ isServed request
+-- what the arm `_` knows: the request is not the enum's variant 12
+not-none : (request : ServedRequest) → OneOf (0 ∷ 1 ∷ 2 ∷ 3 ∷ 4 ∷ 5 ∷ 6 ∷ 7 ∷ 8 ∷ 9 ∷ 10 ∷ 11 ∷ []) (tagOf the-type request) → true ≡ isServed request
 unfolding isServed
 not-none Locking h = refl
 not-none Read h = refl
@@ -27,7 +27,8 @@ not-none CoreRead h = refl
 not-none CoreWrite h = refl
 not-none LockByteRange h = refl
 not-none UnlockByteRange h = refl
-not-none None h = absurd (miss (0 ∷ 1 ∷ 2 ∷ 3 ∷ 4 ∷ 5 ∷ 6 ∷ 7 ∷ 8 ∷ 9 ∷ 10 ∷ []) 11 _ h)
+not-none Open h = refl
+not-none None h = absurd (miss (0 ∷ 1 ∷ 2 ∷ 3 ∷ 4 ∷ 5 ∷ 6 ∷ 7 ∷ 8 ∷ 9 ∷ 10 ∷ 11 ∷ []) 12 _ h)
 
 request-named-requires : tie.Need-request-named-requires
 request-named-requires c κs = search needs

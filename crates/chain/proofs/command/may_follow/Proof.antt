@@ -51,7 +51,15 @@ returns-11 c = rw (c .before .match .keys3, ne-eqb (c .before .before .args .nex
 
 returns-12 : tie.Need-returns-12
 unfolding mayFollow
-returns-12 c = rw (ne-eqb (c .before .args .command) 36 (c .match .rest .0 .0 .1), ne-eqb (c .before .args .command) 46 (c .match .rest .0 .1), ne-eqb (c .before .args .command) 47 (c .match .rest .1))
+returns-12 c = rw (c .before .match .keys4, c .match5 .keys1)
+
+returns-13 : tie.Need-returns-13
+unfolding mayFollow
+returns-13 c = rw (c .before .match .keys4, ne-eqb (c .before .before .args .next) 46 (c .match5 .rest .1))
+
+returns-14 : tie.Need-returns-14
+unfolding mayFollow
+returns-14 c = rw (ne-eqb (c .before .args .command) 36 (c .match .rest .0 .0 .0 .1), ne-eqb (c .before .args .command) 46 (c .match .rest .0 .0 .1), ne-eqb (c .before .args .command) 47 (c .match .rest .0 .1), ne-eqb (c .before .args .command) 45 (c .match .rest .1))
 
 pub may-follow-spec : {M : Type 1} → statement M
 may-follow-spec =
@@ -68,4 +76,6 @@ may-follow-spec =
     returns-9
     returns-10
     returns-11
-    returns-12)
+    returns-12
+    returns-13
+    returns-14)

@@ -74,6 +74,12 @@ is-bare-requires-7 c κs = search needs
 enum-told-12 : tie.Need-enum-told-12
 enum-told-12 c = search needs
 
+open-fits-requires : tie.Need-open-fits-requires
+open-fits-requires c κs = search needs
+
+enum-told-13 : tie.Need-enum-told-13
+enum-told-13 c = search needs
+
 returns : tie.Need-returns
 unfolding rowFits
 returns c = rw (c .before .enum-told .given .1) (c .locking-fits .ensures)
@@ -120,7 +126,11 @@ returns-11 c = rw (c .before .enum-told11 .given .1) (c .is-bare7 .ensures)
 
 returns-12 : tie.Need-returns-12
 unfolding rowFits
-returns-12 c = rw (c .enum-told12 .given .1)
+returns-12 c = rw (c .before .enum-told12 .given .1) (c .open-fits .ensures)
+
+returns-13 : tie.Need-returns-13
+unfolding rowFits
+returns-13 c = rw (c .enum-told13 .given .1)
 
 pub row-fits-spec : {M : Type 1} → statement M
 row-fits-spec =
@@ -149,6 +159,8 @@ row-fits-spec =
     enum-told-11
     is-bare-requires-7
     enum-told-12
+    open-fits-requires
+    enum-told-13
     returns
     returns-2
     returns-3
@@ -160,4 +172,5 @@ row-fits-spec =
     returns-9
     returns-10
     returns-11
-    returns-12)
+    returns-12
+    returns-13)

@@ -75,6 +75,12 @@ range-fields-requires-2 c κs = search needs
 enum-told-12 : tie.Need-enum-told-12
 enum-told-12 c = search needs
 
+open-body-requires : tie.Need-open-body-requires
+open-body-requires c κs = search needs
+
+enum-told-13 : tie.Need-enum-told-13
+enum-told-13 c = search needs
+
 returns : tie.Need-returns
 unfolding Names
 returns c = rw (names (c .before .before .before .before .before .args .command) (sym (c .before .enum-told .given .1) ∙ c .before .before .before .request-named .ensures)) (c .locking-body .ensures)
@@ -123,7 +129,11 @@ returns-11 c = record { is = rw (names (c .before .before .before .before .befor
 
 returns-12 : tie.Need-returns-12
 unfolding Names
-returns-12 c = row-none (c .before .before .before .before .args .s .now) (c .before .before .before .before .args .at) (c .before .before .before .before .args .command) (names (c .before .before .before .before .args .command) (sym (c .enum-told12 .given .1) ∙ c .before .before .request-named .ensures))
+returns-12 c = rw (names (c .before .before .before .before .before .args .command) (sym (c .before .enum-told12 .given .1) ∙ c .before .before .before .request-named .ensures)) (c .open-body .ensures)
+
+returns-13 : tie.Need-returns-13
+unfolding Names
+returns-13 c = row-none (c .before .before .before .before .args .s .now) (c .before .before .before .before .args .at) (c .before .before .before .before .args .command) (names (c .before .before .before .before .args .command) (sym (c .enum-told13 .given .1) ∙ c .before .before .request-named .ensures))
 
 pub body-at-spec : {M : Type 1} → statement M
 body-at-spec =
@@ -151,6 +161,8 @@ body-at-spec =
     enum-told-11
     range-fields-requires-2
     enum-told-12
+    open-body-requires
+    enum-told-13
     returns
     returns-2
     returns-3
@@ -162,4 +174,5 @@ body-at-spec =
     returns-9
     returns-10
     returns-11
-    returns-12)
+    returns-12
+    returns-13)

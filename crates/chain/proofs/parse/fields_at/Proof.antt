@@ -7,7 +7,7 @@ use Rattle.chain.specs.Layout.{blockEnd}
 use Rattle.chain.specs.Parse.{answer, parse}
 use Rattle.chain.specs.ParseLaws.{placed}
 use Rattle.chain.specs.Judged.{whole-block}
-use Rattle.chain.specs.Rows.{taken-apart}
+use Rattle.chain.specs.Rows.{taken-apart, whole-andx}
 use borrow.Author.Needs.{needs}
 use Rattle.chain.proofs.parse.fields_at.Statement.{statement}
 use Rattle.chain.proofs.parse.fields_at.Tie as tie
@@ -22,10 +22,12 @@ body-at-requires : tie.Need-body-at-requires
 body-at-requires c κs = omega (arith, inside (c .before))
 
 next-at-requires : tie.Need-next-at-requires
-next-at-requires c κs = omega (arith, inside (c .before .before))
+next-at-requires c κs =
+    let args = c .before .before .args in
+    whole-andx (args .s .now) (args .command) (args .at) (c .before .before .pre)
 
-block-end-requires : tie.Need-block-end-requires
-block-end-requires c κs = omega (arith, inside (c .before .before .before))
+end-inside-requires : tie.Need-end-inside-requires
+end-inside-requires c κs = inside (c .before .before .before)
 
 sub-length : tie.Need-sub-length
 sub-length c = search needs
@@ -34,8 +36,8 @@ returns : tie.Need-returns
 unfolding answer
 returns c =
     let args = c .before .before .before .before .args in
-    rw (taken-apart (args .s .now) (args .command) (args .at) (c .before .before .body-at .result) (c .before .before .body-at .ensures) (c .before .before .before .before .pre), c .before .next-at .ensures, c .block-end .ensures)
+    rw (taken-apart (args .s .now) (args .command) (args .at) (c .before .before .body-at .result) (c .before .before .body-at .ensures) (c .before .before .before .before .pre), c .before .next-at .ensures, c .end-inside .ensures)
 
 pub fields-at-spec : {M : Type 1} → statement M
 fields-at-spec =
-    tie.close (tie.spec body-at-requires next-at-requires block-end-requires sub-length returns)
+    tie.close (tie.spec body-at-requires next-at-requires end-inside-requires sub-length returns)

@@ -1,5 +1,6 @@
 -- `chain::parse::next_at` meets its contract: the test is that of the definition.
 -- Assumes nothing.
+use mathlib.Core.Path.{sym, _∙_}
 use Rattle.chain.specs.Rows.{nextAt}
 use borrow.Author.Needs.{needs}
 use Rattle.chain.proofs.parse.next_at.Statement.{statement}
@@ -12,7 +13,7 @@ is-andx-requires : tie.Need-is-andx-requires
 is-andx-requires c κs = search needs
 
 link-at-requires : tie.Need-link-at-requires
-link-at-requires c κs = search needs
+link-at-requires c κs = c .before .before .before .before .pre (rw (← (c .before .before .request-named .ensures)) (sym (c .before .is-andx .ensures) ∙ c .if1 .taken))
 
 returns : tie.Need-returns
 unfolding nextAt
