@@ -1,11 +1,11 @@
--- What one command does (document 01, "Refusals on the wire" for the order, "Locks, reads and writes" for the rest; document 02, CR 3). It takes
+-- What one command does (document 01, "Refusals on the wire" for the order, "Locks, reads and writes" for the rest; document 02, CR 3 and CR 6). It takes
 -- the caller's numbers, the command's fields and its bytes, never its place, and gives a refusal or the new state with what
 -- its reply block says. Assumes nothing.
 use Prim.Native.Nat.{ℕ, min, max, _+_, _-_, _/_, _%_}
 use mathlib.Core.Bool.{Bool, cond, not, _&&_, _||_}
-use mathlib.Core.List.{List}
-use lib.ListN.{length, drop, getD}
-use lib.Dec.{ltb, eqb}
+use mathlib.Core.List.{List, [], _∷_, _++_}
+use lib.ListN.{length, take, drop, getD}
+use lib.Dec.{leb, ltb, eqb}
 use Rattle.lists.specs.Walk.{any, found}
 use Rattle.lists.specs.declared.Found.{Found}
 use Rattle.lists.specs.declared.Found.the-variants.{At, Nothing}
@@ -13,8 +13,8 @@ use Rattle.records.specs.declared.Session.{Session}
 use Rattle.records.specs.declared.Open.{Open}
 use Rattle.records.specs.declared.Lock.{Lock}
 use Rattle.records.specs.declared.Tables.{Tables}
-use Rattle.records.specs.Empty.{noOpen}
-use Rattle.records.specs.Held.{sessionsOf, treesOf, opensOf, locksOf}
+use Rattle.records.specs.Empty.{noOpen, noName}
+use Rattle.records.specs.Held.{sessionsOf, treesOf, opensOf, locksOf, namesOf, withOpens}
 use Rattle.locks.specs.Answer.{answers}
 use Rattle.locks.specs.Request.{holderAt, locking}
 use Rattle.locks.specs.Wire.{smallForm}
@@ -26,7 +26,10 @@ use Rattle.locks.specs.declared.types.Outcome.{Outcome}
 use Rattle.locks.specs.declared.types.Outcome.the-variants.{Done, Malformed as BadRanges, NoSuchLock as NoLock, PassesEnd as PastEnd, Conflict as InWay, NoRecord as NoRoom}
 use Rattle.locks.specs.declared.types.Purpose.{Purpose}
 use Rattle.locks.specs.declared.types.Purpose.the-variants.{Read as Reading, Write as Writing}
+use Rattle.numbers.specs.NewOpen.{openWith}
+use Rattle.catalogue.specs.Name.{isNamed}
 use Rattle.soundness.specs.File.{fileOf}
+use Rattle.soundness.specs.Sound.{holdsOpen, sharingOk}
 use Rattle.soundness.specs.Lookup.{isTree}
 use Rattle.removal.specs.Removal.{remove}
 use Rattle.removal.specs.declared.Gone.the-variants.{Session as UserGone, Tree as TreeGone, Open as OpenGone, Process as ProcessGone}
@@ -34,12 +37,14 @@ use Rattle.chain.specs.declared.block.LockingFields.{LockingFields}
 use Rattle.chain.specs.declared.block.ReadFields.{ReadFields}
 use Rattle.chain.specs.declared.block.WriteFields.{WriteFields}
 use Rattle.chain.specs.declared.block.RangeFields.{RangeFields}
+use Rattle.chain.specs.declared.block.OpenFields.{OpenFields}
 use Rattle.chain.specs.declared.block.Body.{Body}
-use Rattle.chain.specs.declared.block.Body.the-variants.{Locking as LockingBody, Read as ReadBody, Write as WriteBody, Close, Logoff, TreeDisconnect, ProcessExit, CoreRead as CoreReadBody, CoreWrite as CoreWriteBody, LockByteRange, UnlockByteRange}
+use Rattle.chain.specs.declared.block.Body.the-variants.{Locking as LockingBody, Read as ReadBody, Write as WriteBody, Close, Logoff, TreeDisconnect, ProcessExit, CoreRead as CoreReadBody, CoreWrite as CoreWriteBody, LockByteRange, UnlockByteRange, Open as OpenBody}
 use Rattle.message.specs.declared.caller.Caller.{Caller}
+use Rattle.message.specs.Sharing.{keptOut}
 use Rattle.message.specs.Contents.{sizeOf, readBytes, grown, written, withSize, resized}
 use Rattle.message.specs.declared.refusal.Refusal.{Refusal}
-use Rattle.message.specs.declared.refusal.Refusal.the-variants.{NotSentence, NoSession, NoTree, NoOpen, NoAccess, LockType, NoSuchLock, PassesEnd, Conflict, NoRecord, NoSpace}
+use Rattle.message.specs.declared.refusal.Refusal.the-variants.{NotSentence, NoSession, NoTree, NoOpen, NoAccess, LockType, NoSuchLock, PassesEnd, Conflict, NoRecord, NoSpace, OpenMode, BadAccess, NoSuchFile, BadShare, NoFids}
 
 -- what a command's reply block says
 pub data Said : Type 0 where
@@ -50,6 +55,8 @@ pub data Said : Type 0 where
   plain : Said
   coreRead : List ℕ → Said
   coreWrote : ℕ → Said
+  -- an OPEN_ANDX: FID, size, access and OpenResults
+  opened : ℕ → ℕ → ℕ → ℕ → Said
 
 -- a command refused, or done: the tables and the file memory it leaves, and what it says
 pub data Given : Type 0 where
@@ -110,6 +117,8 @@ withLockList t locks count =
       locks = locks;
       nlocks = count;
       files = t .files;
+      names = t .names;
+      nnames = t .nnames;
     }
 
 unfoldable pub lockingEnd : Outcome → Tables → List ℕ → Locking → Given
@@ -183,6 +192,7 @@ coreSaid (wrote count) = coreWrote count
 coreSaid plain = plain
 coreSaid (coreRead bytes) = coreRead bytes
 coreSaid (coreWrote count) = coreWrote count
+coreSaid (opened fid size access results) = opened fid size access results
 
 unfoldable pub asCore : Given → Given
 asCore (refused why) = refused why
@@ -211,7 +221,47 @@ doSetSize c t memory f =
 unfoldable pub doCoreWrite : Caller → Tables → List ℕ → WriteFields → List ℕ → Given
 doCoreWrite c t memory f bytes = cond (eqb (f .count) 0) (doSetSize c t memory f) (asCore (doWrite c t memory f bytes))
 
--- ---- all eleven
+-- ---- OPEN_ANDX (document 02, CR 6): "Refusals, after 2/5: 2/65535 OpenMode, 1/12 access or sharing code, 1/2 name, 1/5 tree right, 1/32 sharing, 1/4 all 64 FIDs
+-- in use"
+
+-- "access codes 0 to 2, sharing codes 1 to 4"
+unfoldable pub codesServed : ℕ → ℕ → Bool
+codesServed access sharing = leb access 2 && sharingOk sharing
+
+-- "The byte area is a name .., then one zero byte"
+unfoldable pub nameAsked : List ℕ → List ℕ
+nameAsked area = take (length area - 1) area
+
+-- the smallest free FID, the header's UID, TID and process, and the codes asked for
+unfoldable pub openBy : Caller → Tables → OpenFields → ℕ → Open
+openBy c t f file = openWith t (c .uid) (c .tid) (c .process) file (f .access) (f .sharing)
+
+-- "zero after the FID with the block's Flags bit 0 clear; with it set the size, the access and OpenResults 1"
+unfoldable pub openedSaid : Bool → ℕ → ℕ → ℕ → Said
+openedSaid full fid size access = cond full (opened fid size access 1) (opened fid 0 0 0)
+
+-- the file that the catalogue names: 1/5 where the tree doesn't permit the access, 1/32, 1/4
+unfoldable pub openFile : Caller → Tables → List ℕ → OpenFields → ℕ → Given
+openFile c t memory f file =
+    cond (any (holdsOpen (openBy c t f file)) (treesOf t))
+    (cond (any (keptOut file (f .access) (f .sharing)) (opensOf t)) (refused BadShare)
+    (cond (leb 64 (t .nopens)) (refused NoFids)
+    (done (withOpens t (opensOf t ++ (openBy c t f file ∷ []))) memory
+    (openedSaid (f .full) (openBy c t f file .fid) (sizeOf t file) (f .access)))))
+    (refused NoAccess)
+
+unfoldable pub openNamed : Caller → Tables → List ℕ → OpenFields → Found → Given
+openNamed c t memory f (At k) = openFile c t memory f (getD (namesOf t) k noName .file)
+openNamed c t memory f Nothing = refused NoSuchFile
+
+unfoldable pub doOpen : Caller → Tables → List ℕ → OpenFields → List ℕ → Given
+doOpen c t memory f name =
+    withTree c t
+    (cond (eqb (f .mode) 1)
+    (cond (codesServed (f .access) (f .sharing)) (openNamed c t memory f (found (isNamed name) (namesOf t))) (refused BadAccess))
+    (refused OpenMode))
+
+-- ---- all twelve
 
 -- "LOGOFF and PROCESS_EXIT stop after 2/91, TREE_DISCONNECT after 2/5, CLOSE after 1/6." `area` is the block's byte area,
 -- `bytes` a write's data; a core WRITE's data stand in its byte area, behind the mark and the length of its data block.
@@ -227,3 +277,4 @@ perform c t memory (CoreReadBody f) area bytes = asCore (doRead c t memory f)
 perform c t memory (CoreWriteBody f) area bytes = doCoreWrite c t memory f (drop 3 area)
 perform c t memory (LockByteRange f) area bytes = doRange c t memory f 0 1
 perform c t memory (UnlockByteRange f) area bytes = doRange c t memory f 1 0
+perform c t memory (OpenBody f) area bytes = doOpen c t memory f (nameAsked area)

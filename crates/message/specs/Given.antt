@@ -6,11 +6,11 @@ use mathlib.Core.List.{List}
 use lib.ListN.{take, drop}
 use lib.Dec.{leb}
 use Rattle.records.specs.declared.Tables.{Tables}
-use Rattle.message.specs.Command.{locked, loggedOff, read, wrote, plain, coreRead, coreWrote, Given, refused, done}
+use Rattle.message.specs.Command.{locked, loggedOff, read, wrote, plain, coreRead, coreWrote, opened, Given, refused, done}
 use Rattle.message.specs.Reply.{replyBlock, refusedBlock}
 use Rattle.message.specs.declared.link.Link.{Link}
 use Rattle.message.specs.declared.answer.Answer.{Answer}
-use Rattle.message.specs.declared.answer.Answer.the-variants.{Refused, Locked, LoggedOff, Read, Wrote, Plain, CoreRead, CoreWrote}
+use Rattle.message.specs.declared.answer.Answer.the-variants.{Refused, Locked, LoggedOff, Read, Wrote, Plain, CoreRead, CoreWrote, Opened}
 use Rattle.message.specs.declared.answer.Performed.{Performed}
 
 -- an answer with the tables and the file memory left: a READ's bytes stand in the file memory
@@ -23,6 +23,7 @@ givenOf (Wrote count) t memory = done t memory (wrote count)
 givenOf Plain t memory = done t memory plain
 givenOf (CoreRead place count) t memory = done t memory (coreRead (take count (drop place memory)))
 givenOf (CoreWrote count) t memory = done t memory (coreWrote count)
+givenOf (Opened fid size access results) t memory = done t memory (opened fid size access results)
 
 -- a READ's bytes lie in the file memory
 unfoldable pub inside : Answer → Bool
@@ -34,6 +35,7 @@ inside (Wrote count) = true
 inside Plain = true
 inside (CoreRead place count) = leb (place + count) 65536
 inside (CoreWrote count) = true
+inside (Opened fid size access results) = true
 
 -- the tables and the file memory after a command: "A command refused changes no table and no file byte"
 unfoldable pub tablesAfter : Given → Tables → Tables
@@ -61,6 +63,7 @@ blockOf (Wrote count) memory place link = replyBlock (wrote count) place link
 blockOf Plain memory place link = replyBlock plain place link
 blockOf (CoreRead at count) memory place link = replyBlock (coreRead (take count (drop at memory))) place link
 blockOf (CoreWrote count) memory place link = replyBlock (coreWrote count) place link
+blockOf (Opened fid size access results) memory place link = replyBlock (opened fid size access results) place link
 
 -- its length
 unfoldable pub answerSize : Answer → ℕ
@@ -72,3 +75,4 @@ answerSize (Wrote count) = 15
 answerSize Plain = 3
 answerSize (CoreRead at count) = 16 + count
 answerSize (CoreWrote count) = 5
+answerSize (Opened fid size access results) = 33

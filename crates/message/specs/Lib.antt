@@ -1,7 +1,9 @@
 pub mod Caller
 pub mod Refusal
 pub mod Contents
+pub mod Sharing
 pub mod Command
 pub mod Reply
+pub mod JustOpened
 pub mod Message
 pub mod Given

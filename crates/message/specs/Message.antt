@@ -8,7 +8,7 @@ use lib.Dec.{ltb, eqb}
 use Rattle.lists.specs.Put.{put}
 use Rattle.records.specs.declared.Tables.{Tables}
 use Rattle.soundness.specs.Sound.{sound}
-use Rattle.chain.specs.Layout.{CLOSE, PROCESS_EXIT, LOCKING, READ, WRITE, TREE_DISCONNECT, LOGOFF, CORE-READ, CORE-WRITE, LOCK_BYTE_RANGE, UNLOCK_BYTE_RANGE, headerCommand, FIRST, byteArea, byteCount, dataOffset, dataLength}
+use Rattle.chain.specs.Layout.{CLOSE, PROCESS_EXIT, LOCKING, READ, WRITE, TREE_DISCONNECT, LOGOFF, CORE-READ, CORE-WRITE, LOCK_BYTE_RANGE, UNLOCK_BYTE_RANGE, OPEN, headerCommand, FIRST, byteArea, byteCount, dataOffset, dataLength}
 use Rattle.chain.specs.Header.{dropped}
 use Rattle.chain.specs.Chain.{blocks}
 use Rattle.chain.specs.declared.block.Block.{Block}
@@ -19,6 +19,7 @@ use Rattle.message.specs.declared.refusal.Status.{Status}
 use Rattle.message.specs.declared.refusal.HeldBy.{HeldBy}
 use Rattle.message.specs.declared.refusal.HeldBy.the-variants.{Nobody}
 use Rattle.message.specs.Command.{Given, refused, done, perform}
+use Rattle.message.specs.JustOpened.{NOBODY, openedBy, bodyMeant}
 use Rattle.message.specs.Reply.{replyHeader, replyBlock, refusedBlock, replySize}
 use Rattle.message.specs.declared.link.Link.{Link}
 use Rattle.message.specs.declared.link.Link.the-variants.{None as noLink, Next as next}
@@ -50,28 +51,29 @@ linkTo (b ∷ bs) place = next (b .command) place
 
 -- "command by command": "Commands before it in the chain stand; those after it aren't begun." Blocks stand end to end, the
 -- first of these at `place`.
-unfoldable pub afterGiven : Given → List Block → ℕ → Tables → List ℕ → (ℕ → Tables → List ℕ → Ran) → Ran
+unfoldable pub afterGiven : Given → List Block → ℕ → Tables → List ℕ → (ℕ → ℕ → Tables → List ℕ → Ran) → Ran
 afterGiven (refused why) bs place t memory rest = record { status = statusOf why; holder = holderOf why; tables = t; memory = memory; blocks = refusedBlock }
 afterGiven (done t′ memory′ said) bs place t memory rest =
-    after (replyBlock said place (linkTo bs (place + replySize said))) (rest (place + replySize said) t′ memory′)
+    after (replyBlock said place (linkTo bs (place + replySize said))) (rest (openedBy said) (place + replySize said) t′ memory′)
 
-unfoldable pub run : Caller → List ℕ → List Block → ℕ → Tables → List ℕ → Ran
-run c s [] place t memory = record { status = status 0 0; holder = Nobody; tables = t; memory = memory; blocks = [] }
-run c s (b ∷ bs) place t memory =
-    afterGiven (perform c t memory (b .body) (areaOf s b) (dataOf s b)) bs place t memory (λ p t′ m. run c s bs p t′ m)
+-- `just` is what FID 0xFFFF means in the first of these blocks (document 02, CR 6)
+unfoldable pub run : Caller → List ℕ → ℕ → List Block → ℕ → Tables → List ℕ → Ran
+run c s just [] place t memory = record { status = status 0 0; holder = Nobody; tables = t; memory = memory; blocks = [] }
+run c s just (b ∷ bs) place t memory =
+    afterGiven (perform c t memory (bodyMeant just (b .body)) (areaOf s b) (dataOf s b)) bs place t memory (λ j p t′ m. run c s j bs p t′ m)
 
 -- "2/22 header command not served"
 unfoldable pub served : ℕ → Bool
 served command =
     eqb command LOCKING || (eqb command READ || (eqb command WRITE || (eqb command CLOSE || (eqb command LOGOFF || (eqb command TREE_DISCONNECT || (eqb command PROCESS_EXIT
-    || (eqb command CORE-READ || (eqb command CORE-WRITE || (eqb command LOCK_BYTE_RANGE || eqb command UNLOCK_BYTE_RANGE)))))))))
+    || (eqb command CORE-READ || (eqb command CORE-WRITE || (eqb command LOCK_BYTE_RANGE || (eqb command UNLOCK_BYTE_RANGE || eqb command OPEN))))))))))
 
 unfoldable pub onlyStatus : Status → Tables → List ℕ → Ran
 onlyStatus why t memory = record { status = why; holder = Nobody; tables = t; memory = memory; blocks = refusedBlock }
 
 unfoldable pub runChain : Caller → List ℕ → Option (List Block) → Tables → List ℕ → Ran
 runChain c s none t memory = onlyStatus (statusOf NotSentence) t memory
-runChain c s (some bs) t memory = run c s bs FIRST t memory
+runChain c s (some bs) t memory = run c s NOBODY bs FIRST t memory
 
 -- a message fit to be answered: "2/22 and 2/1 come before anything is carried out"
 unfoldable pub answered : ℕ → List ℕ → Tables → List ℕ → Ran

@@ -1,16 +1,20 @@
--- The bytes of a reply (document 01, "Header" and "Reply blocks"; document 02, CR 3). Assumes nothing.
+-- The bytes of a reply (document 01, "Header" and "Reply blocks"; document 02, CR 3 and CR 6). Assumes nothing.
 use Prim.Native.Nat.{ℕ, _+_, _*_, _/_, _%_}
 use mathlib.Core.List.{List, [], _∷_, _++_}
 use lib.ListN.{length, take, drop, replicate}
 use Rattle.wire.specs.LittleEndian.{byteAt}
 use Rattle.message.specs.declared.refusal.Status.{Status}
-use Rattle.message.specs.Command.{Said, locked, loggedOff, read, wrote, plain, coreRead, coreWrote}
+use Rattle.message.specs.Command.{Said, locked, loggedOff, read, wrote, plain, coreRead, coreWrote, opened}
 use Rattle.message.specs.declared.link.Link.{Link}
 use Rattle.message.specs.declared.link.Link.the-variants.{None as none, Next as next}
 
 -- a number in two bytes, the lower first
 unfoldable pub two : ℕ → List ℕ
 two n = n % 256 ∷ n / 256 % 256 ∷ []
+
+-- one in four
+unfoldable pub four : ℕ → List ℕ
+four n = two n ++ two (n / 65536)
 
 -- "A reply copies Command, PIDHigh, TID, PIDLow, UID and MID; Flags is 0x80 plus the request's 0x08; Flags2 keeps only
 -- 0x0001; the rest is 0 but for Status." "SMBSTATUS is class, 0, code."
@@ -29,7 +33,8 @@ linkWords (next command place) = command ∷ 0 ∷ two place
 -- "LOCKING and LOGOFF: 2 words. READ: 12 words: AndX, 0xFFFF, 0, 0, length, data offset, ten zero bytes; the bytes are the
 -- data. WRITE: 6 words: AndX, count, 0xFFFF, four zero bytes. Others: 0 words." The block stands at `place`; a READ's data
 -- stand behind its 27 bytes before them. The core READ (source document 000): 5 words: count, eight zero bytes; the bytes are a data block, 0x01,
--- length, data. The core WRITE: 1 word, the count. LOCK_BYTE_RANGE and UNLOCK_BYTE_RANGE are among the others.
+-- length, data. The core WRITE: 1 word, the count. LOCK_BYTE_RANGE and UNLOCK_BYTE_RANGE are among the others. OPEN_ANDX
+-- (source document 001): 15 words: AndX, FID 2, attributes 2 and time 4, size 4, access 2, resource type 2 and pipe status 2, OpenResults 2, reserved 6.
 unfoldable pub replyBlock : Said → ℕ → Link → List ℕ
 replyBlock locked place link = 2 ∷ (linkWords link ++ (0 ∷ 0 ∷ []))
 replyBlock loggedOff place link = 2 ∷ (linkWords link ++ (0 ∷ 0 ∷ []))
@@ -41,6 +46,9 @@ replyBlock plain place link = 0 ∷ 0 ∷ 0 ∷ []
 replyBlock (coreRead bytes) place link =
     5 ∷ (two (length bytes) ++ (replicate 8 0 ++ (two (3 + length bytes) ++ (0x01 ∷ (two (length bytes) ++ bytes)))))
 replyBlock (coreWrote count) place link = 1 ∷ (two count ++ (0 ∷ 0 ∷ []))
+replyBlock (opened fid size access results) place link =
+    15 ∷ (linkWords link
+    ++ (two fid ++ (replicate 6 0 ++ (four size ++ (two access ++ (replicate 4 0 ++ (two results ++ (replicate 6 0 ++ (0 ∷ 0 ∷ [])))))))))
 
 -- "A refused command or message gives WordCount 0 and ByteCount 0"
 unfoldable pub refusedBlock : List ℕ
@@ -55,3 +63,4 @@ replySize (wrote count) = 15
 replySize plain = 3
 replySize (coreRead bytes) = 16 + length bytes
 replySize (coreWrote count) = 5
+replySize (opened fid size access results) = 33

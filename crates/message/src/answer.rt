@@ -5,6 +5,7 @@ use records::Tables;
 
 // What the reply block says. The bytes that a READ yields are not copied out: `Read(place, count)` says where
 // they stand in the file memory. `CoreRead` and `CoreWrote` say the same in the blocks of the core commands.
+// `Opened` says the FID, the size, the access and OpenResults.
 pub enum Answer {
     Refused(Refusal),
     Locked,
@@ -14,6 +15,7 @@ pub enum Answer {
     Plain,
     CoreRead(usize, usize),
     CoreWrote(u16),
+    Opened(u16, usize, u8, u8),
 }
 
 // The answer, and the tables that the command left.

@@ -1,4 +1,4 @@
-// Why a command or a message is refused, in document 01's order ("Refusals on the wire").
+// Why a command or a message is refused, in document 01's order ("Refusals on the wire"); last what document 02's CR 6 adds, in its order.
 
 use locks::types::Holder;
 ghost use mathlib.Core.Path.{_≡_};
@@ -18,6 +18,11 @@ pub enum Refusal {
     Conflict(Holder),
     NoRecord,
     NoSpace,
+    OpenMode,
+    BadAccess,
+    NoSuchFile,
+    BadShare,
+    NoFids,
 }
 
 // An SMBSTATUS: 0/0 where everything was done.
@@ -56,6 +61,14 @@ pub fn status_of(why: Refusal) -> Status
         Refusal::Conflict(_) => Status { class: 1, code: 33 },
         Refusal::NoRecord => Status { class: 1, code: 8 },
         Refusal::NoSpace => Status { class: 3, code: 39 },
+        Refusal::OpenMode => Status {
+            class: 2,
+            code: 65535,
+        },
+        Refusal::BadAccess => Status { class: 1, code: 12 },
+        Refusal::NoSuchFile => Status { class: 1, code: 2 },
+        Refusal::BadShare => Status { class: 1, code: 32 },
+        Refusal::NoFids => Status { class: 1, code: 4 },
     }
 }
 

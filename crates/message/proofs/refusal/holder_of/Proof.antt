@@ -7,14 +7,14 @@ use denote.Enum.Declared.{tagOf}
 use borrow.Author.Needs.{needs}
 use Rattle.message.specs.Refusal.{holderOf}
 use Rattle.message.specs.declared.refusal.Refusal.{Refusal}
-use Rattle.message.specs.declared.refusal.Refusal.the-variants.{NotServed, NotSentence, NoSession, NoTree, NoOpen, NoAccess, LockType, NoSuchLock, PassesEnd, Conflict, NoRecord, NoSpace}
+use Rattle.message.specs.declared.refusal.Refusal.the-variants.{NotServed, NotSentence, NoSession, NoTree, NoOpen, NoAccess, LockType, NoSuchLock, PassesEnd, Conflict, NoRecord, NoSpace, OpenMode, BadAccess, NoSuchFile, BadShare, NoFids}
 use Rattle.message.specs.declared.refusal.HeldBy.the-variants.{Nobody}
 use Rattle.message.proofs.refusal.Refusal.{the-type}
 use Rattle.message.proofs.refusal.holder_of.Statement.{statement}
 use Rattle.message.proofs.refusal.holder_of.Tie as tie
 
 -- what the arm `_` knows: every variant but `Conflict`, the enum's variant 9
-nobody-else : (why : Refusal) → OneOf (0 ∷ 1 ∷ 2 ∷ 3 ∷ 4 ∷ 5 ∷ 6 ∷ 7 ∷ 8 ∷ 10 ∷ 11 ∷ []) (tagOf the-type why) → Nobody ≡ holderOf why
+nobody-else : (why : Refusal) → OneOf (0 ∷ 1 ∷ 2 ∷ 3 ∷ 4 ∷ 5 ∷ 6 ∷ 7 ∷ 8 ∷ 10 ∷ 11 ∷ 12 ∷ 13 ∷ 14 ∷ 15 ∷ 16 ∷ []) (tagOf the-type why) → Nobody ≡ holderOf why
 unfolding holderOf
 nobody-else NotServed h = refl
 nobody-else NotSentence h = refl
@@ -25,9 +25,14 @@ nobody-else NoAccess h = refl
 nobody-else LockType h = refl
 nobody-else NoSuchLock h = refl
 nobody-else PassesEnd h = refl
-nobody-else (Conflict x) h = absurd (miss (0 ∷ 1 ∷ 2 ∷ 3 ∷ 4 ∷ 5 ∷ 6 ∷ 7 ∷ 8 ∷ 10 ∷ 11 ∷ []) 9 _ h)
+nobody-else (Conflict x) h = absurd (miss (0 ∷ 1 ∷ 2 ∷ 3 ∷ 4 ∷ 5 ∷ 6 ∷ 7 ∷ 8 ∷ 10 ∷ 11 ∷ 12 ∷ 13 ∷ 14 ∷ 15 ∷ 16 ∷ []) 9 _ h)
 nobody-else NoRecord h = refl
 nobody-else NoSpace h = refl
+nobody-else OpenMode h = refl
+nobody-else BadAccess h = refl
+nobody-else NoSuchFile h = refl
+nobody-else BadShare h = refl
+nobody-else NoFids h = refl
 
 enum-known-why : tie.Need-enum-known-why
 enum-known-why c = search needs

@@ -41,6 +41,21 @@ enum-told-11 c = search needs
 enum-told-12 : tie.Need-enum-told-12
 enum-told-12 c = search needs
 
+enum-told-13 : tie.Need-enum-told-13
+enum-told-13 c = search needs
+
+enum-told-14 : tie.Need-enum-told-14
+enum-told-14 c = search needs
+
+enum-told-15 : tie.Need-enum-told-15
+enum-told-15 c = search needs
+
+enum-told-16 : tie.Need-enum-told-16
+enum-told-16 c = search needs
+
+enum-told-17 : tie.Need-enum-told-17
+enum-told-17 c = search needs
+
 returns : tie.Need-returns
 unfolding statusOf status
 returns c =
@@ -101,6 +116,31 @@ unfolding statusOf status
 returns-12 c =
     rw (c .enum-told12 .given .1)
 
+returns-13 : tie.Need-returns-13
+unfolding statusOf status
+returns-13 c =
+    rw (c .enum-told13 .given .1)
+
+returns-14 : tie.Need-returns-14
+unfolding statusOf status
+returns-14 c =
+    rw (c .enum-told14 .given .1)
+
+returns-15 : tie.Need-returns-15
+unfolding statusOf status
+returns-15 c =
+    rw (c .enum-told15 .given .1)
+
+returns-16 : tie.Need-returns-16
+unfolding statusOf status
+returns-16 c =
+    rw (c .enum-told16 .given .1)
+
+returns-17 : tie.Need-returns-17
+unfolding statusOf status
+returns-17 c =
+    rw (c .enum-told17 .given .1)
+
 pub status-of-spec : {M : Type 1} → statement M
 status-of-spec =
     tie.close
@@ -117,6 +157,11 @@ status-of-spec =
     enum-told-10
     enum-told-11
     enum-told-12
+    enum-told-13
+    enum-told-14
+    enum-told-15
+    enum-told-16
+    enum-told-17
     returns
     returns-2
     returns-3
@@ -128,4 +173,9 @@ status-of-spec =
     returns-9
     returns-10
     returns-11
-    returns-12)
+    returns-12
+    returns-13
+    returns-14
+    returns-15
+    returns-16
+    returns-17)
