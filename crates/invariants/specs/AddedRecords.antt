@@ -80,7 +80,7 @@ module _ (ss : List Session) (ts : List Tree) (os : List Open) (r : RecordsOk ss
   open-more : (t : Tree) (o : Open) → In o os → openOk (ts ++ (t ∷ [])) o ≡ true
   open-more t o m =
       let old = open-says ts o (all-each (openOk ts) m (r .opensOk)) in
-      open-ok (ts ++ (t ∷ [])) o (record { file = old .file; access = old .access; held = any-more (holdsOpen o) ts t (old .held) })
+      open-ok (ts ++ (t ∷ [])) o (record { file = old .file; access = old .access; sharing = old .sharing; held = any-more (holdsOpen o) ts t (old .held) })
 
   -- with a tree more that obeys its own rule
   pub records-tree : (t : Tree) → t .tid ≡ smallestFree (map tidOf ts) → treeOk (map uidOf ss) t ≡ true → length ts < 32

@@ -2,7 +2,7 @@
 -- Assumes nothing.
 use mathlib.Core.Path.{_≡_, refl, sym, _∙_, ap}
 use mathlib.Core.Logic.{_↔_}
-use Prim.Native.Nat.{ℕ, _-_, _≤_}
+use Prim.Native.Nat.{ℕ, _-_, _/_, _%_, _≤_}
 use native.Mathlib.Omega.{arith}
 use mathlib.Core.Bool.{Bool, true, false, cond, _&&_}
 use mathlib.Core.List.{List}
@@ -10,11 +10,11 @@ use lib.ListN.{length}
 use lib.Dec.{leb, eqb}
 use borrow.Author.Tests.{eqb-true, leb-true, eq-eqb, le-leb, ne-eqb}
 use Rattle.lists.specs.Truth.{both-hold, hold-both, test-cases, choice-cases}
-use Rattle.chain.specs.Layout.{CLOSE, PROCESS_EXIT, LOCKING, READ, WRITE, TREE_DISCONNECT, LOGOFF, CORE-READ, CORE-WRITE, LOCK_BYTE_RANGE, UNLOCK_BYTE_RANGE, NO_COMMAND, wordCount, blockEnd, andxCommand, andxOffset, fidAfterAndx, lockType, unlockCount, lockCount, offsetLow, readMax, readOffsetHigh, dataLength, dataOffset, writeOffsetHigh, firstFid}
-use Rattle.chain.specs.Grammar.{IsBlock, locking-10, locking-20, read-10, read-12, write-12, write-14, close, logoff, tree-disconnect, process-exit, core-read, core-write, lock-byte-range, unlock-byte-range, MayFollow, locking-read, locking-write, locking-core-read, locking-core-write, read-close, write-write, write-read, write-close, NamedAndx, locking-andx, read-andx, write-andx, logoff-andx, Plain, close-plain, tree-disconnect-plain, process-exit-plain, core-read-plain, core-write-plain, lock-byte-range-plain, unlock-byte-range-plain}
-use Rattle.chain.specs.Parse.{mayFollow, linkFits, linkAt, answer, wideOffset, parseLocking, parseRead, parseWrite, parseLogoff, parseBare, coreReadAt, coreWriteAt, parseCoreWrite, rangeFields, parse}
+use Rattle.chain.specs.Layout.{CLOSE, PROCESS_EXIT, LOCKING, READ, WRITE, TREE_DISCONNECT, LOGOFF, CORE-READ, CORE-WRITE, LOCK_BYTE_RANGE, UNLOCK_BYTE_RANGE, OPEN, NO_COMMAND, wordCount, blockEnd, andxCommand, andxOffset, fidAfterAndx, lockType, unlockCount, lockCount, offsetLow, readMax, readOffsetHigh, dataLength, dataOffset, writeOffsetHigh, firstFid, openFlags, accessMode, openMode}
+use Rattle.chain.specs.Grammar.{IsBlock, locking-10, locking-20, read-10, read-12, write-12, write-14, close, logoff, tree-disconnect, process-exit, core-read, core-write, lock-byte-range, unlock-byte-range, open-15, MayFollow, locking-read, locking-write, locking-core-read, locking-core-write, read-close, write-write, write-read, write-close, open-read, NamedAndx, locking-andx, read-andx, write-andx, logoff-andx, open-andx, Plain, close-plain, tree-disconnect-plain, process-exit-plain, core-read-plain, core-write-plain, lock-byte-range-plain, unlock-byte-range-plain}
+use Rattle.chain.specs.Parse.{mayFollow, linkFits, linkAt, answer, wideOffset, parseLocking, parseRead, parseWrite, parseOpen, parseLogoff, parseBare, coreReadAt, coreWriteAt, parseCoreWrite, rangeFields, parse}
 use Rattle.chain.specs.declared.block.Body.{Body}
-use Rattle.chain.specs.declared.block.Body.the-variants.{Locking, Read, Write, Close, Logoff, TreeDisconnect, ProcessExit, LockByteRange, UnlockByteRange}
+use Rattle.chain.specs.declared.block.Body.the-variants.{Locking, Read, Write, Close, Logoff, TreeDisconnect, ProcessExit, LockByteRange, UnlockByteRange, Open}
 use Rattle.chain.specs.declared.block.Next.{Next}
 use Rattle.chain.specs.declared.block.Next.the-variants.{End, Follow}
 use Rattle.chain.specs.declared.block.Block.{Block}
@@ -38,7 +38,9 @@ bodyAt s command at =
     (cond (eqb command CORE-WRITE) (coreWriteAt s at)
     (cond (eqb command LOCK_BYTE_RANGE) (LockByteRange (rangeFields s at))
     (cond (eqb command UNLOCK_BYTE_RANGE) (UnlockByteRange (rangeFields s at))
-    ProcessExit)))))))))
+    (cond (eqb command OPEN)
+    (Open (record { full = eqb (openFlags s at % 2) 1; access = accessMode s at % 8; sharing = accessMode s at / 16 % 8; mode = openMode s at }))
+    ProcessExit))))))))))
 
 -- the length of the block at a place
 abbrev pub blockSize : List ℕ → ℕ → ℕ
@@ -77,6 +79,7 @@ block-served (core-read h) = plain core-read-plain
 block-served (core-write h) = plain core-write-plain
 block-served (lock-byte-range h) = plain lock-byte-range-plain
 block-served (unlock-byte-range h) = plain unlock-byte-range-plain
+block-served (open-15 h) = andx open-andx
 
 -- "all inside the message"
 pub block-inside : {s : List ℕ} {at command : ℕ} → IsBlock s at command → blockEnd s at ≤ length s
@@ -94,6 +97,7 @@ block-inside (core-read h) = h .shape .inside
 block-inside (core-write h) = h .shape .inside
 block-inside (lock-byte-range h) = h .shape .inside
 block-inside (unlock-byte-range h) = h .shape .inside
+block-inside (open-15 h) = h .shape .inside
 
 -- only a request named ANDX is followed
 pub follow-andx : {command next : ℕ} → MayFollow command next → NamedAndx command
@@ -105,6 +109,7 @@ follow-andx read-close = read-andx
 follow-andx write-write = write-andx
 follow-andx write-read = write-andx
 follow-andx write-close = write-andx
+follow-andx open-read = open-andx
 
 -- 0xFF follows nothing
 pub follow-not-end : {command next : ℕ} → MayFollow command next → next ≡ NO_COMMAND → ⊥
@@ -116,6 +121,7 @@ follow-not-end read-close e = omega arith
 follow-not-end write-write e = omega arith
 follow-not-end write-read e = omega arith
 follow-not-end write-close e = omega arith
+follow-not-end open-read e = omega arith
 
 -- a request is not both named ANDX and not so
 plain-andx-at : {a b : ℕ} → Plain a → NamedAndx b → a ≡ b → ⊥
@@ -123,30 +129,37 @@ plain-andx-at close-plain locking-andx e = omega arith
 plain-andx-at close-plain read-andx e = omega arith
 plain-andx-at close-plain write-andx e = omega arith
 plain-andx-at close-plain logoff-andx e = omega arith
+plain-andx-at close-plain open-andx e = omega arith
 plain-andx-at tree-disconnect-plain locking-andx e = omega arith
 plain-andx-at tree-disconnect-plain read-andx e = omega arith
 plain-andx-at tree-disconnect-plain write-andx e = omega arith
 plain-andx-at tree-disconnect-plain logoff-andx e = omega arith
+plain-andx-at tree-disconnect-plain open-andx e = omega arith
 plain-andx-at process-exit-plain locking-andx e = omega arith
 plain-andx-at process-exit-plain read-andx e = omega arith
 plain-andx-at process-exit-plain write-andx e = omega arith
 plain-andx-at process-exit-plain logoff-andx e = omega arith
+plain-andx-at process-exit-plain open-andx e = omega arith
 plain-andx-at core-read-plain locking-andx e = omega arith
 plain-andx-at core-read-plain read-andx e = omega arith
 plain-andx-at core-read-plain write-andx e = omega arith
 plain-andx-at core-read-plain logoff-andx e = omega arith
+plain-andx-at core-read-plain open-andx e = omega arith
 plain-andx-at core-write-plain locking-andx e = omega arith
 plain-andx-at core-write-plain read-andx e = omega arith
 plain-andx-at core-write-plain write-andx e = omega arith
 plain-andx-at core-write-plain logoff-andx e = omega arith
+plain-andx-at core-write-plain open-andx e = omega arith
 plain-andx-at lock-byte-range-plain locking-andx e = omega arith
 plain-andx-at lock-byte-range-plain read-andx e = omega arith
 plain-andx-at lock-byte-range-plain write-andx e = omega arith
 plain-andx-at lock-byte-range-plain logoff-andx e = omega arith
+plain-andx-at lock-byte-range-plain open-andx e = omega arith
 plain-andx-at unlock-byte-range-plain locking-andx e = omega arith
 plain-andx-at unlock-byte-range-plain read-andx e = omega arith
 plain-andx-at unlock-byte-range-plain write-andx e = omega arith
 plain-andx-at unlock-byte-range-plain logoff-andx e = omega arith
+plain-andx-at unlock-byte-range-plain open-andx e = omega arith
 
 pub plain-not-andx : {command : ℕ} → Plain command → NamedAndx command → ⊥
 plain-not-andx p a = plain-andx-at p a refl
@@ -167,6 +180,7 @@ write-words (core-read h) e = absurd (omega arith)
 write-words (core-write h) e = absurd (omega arith)
 write-words (lock-byte-range h) e = absurd (omega arith)
 write-words (unlock-byte-range h) e = absurd (omega arith)
+write-words (open-15 h) e = absurd (omega arith)
 
 -- "AndX words begin AndXCommand (1), reserved (1), AndXOffset (2)": a block of a request named ANDX has them
 pub andx-words : {s : List ℕ} {at command : ℕ} → IsBlock s at command → NamedAndx command → 2 ≤ wordCount s at
@@ -184,6 +198,7 @@ andx-words (core-read h) a = absurd (plain-not-andx core-read-plain a)
 andx-words (core-write h) a = absurd (plain-not-andx core-write-plain a)
 andx-words (lock-byte-range h) a = absurd (plain-not-andx lock-byte-range-plain a)
 andx-words (unlock-byte-range h) a = absurd (plain-not-andx unlock-byte-range-plain a)
+andx-words (open-15 h) a = omega arith
 
 -- an answer that is a block
 answer-whole : (s : List ℕ) (command at : ℕ) (good : Bool) (body : Body) (next : Next) (b : Block) → answer s command at good body next ≡ Whole b
@@ -201,11 +216,12 @@ module _ (s : List ℕ) (at : ℕ) where
   -- the reader's answer for a request named ANDX
   pub parse-andx : {command : ℕ} → NamedAndx command
       → parse s command at ≡ answer s command at (fits s command at && linkFits s command at) (bodyAt s command at) (linkAt s at)
-  unfolding parse parseLocking parseRead parseWrite parseLogoff fits bodyAt
+  unfolding parse parseLocking parseRead parseWrite parseLogoff parseOpen fits bodyAt
   parse-andx locking-andx = refl
   parse-andx read-andx = refl
   parse-andx write-andx = refl
   parse-andx logoff-andx = refl
+  parse-andx open-andx = refl
 
   -- for one not so named
   pub parse-plain : {command : ℕ} → Plain command → parse s command at ≡ answer s command at (fits s command at) (bodyAt s command at) End
@@ -237,7 +253,8 @@ module _ (s : List ℕ) (at : ℕ) where
       (λ p _. rw (eqb-true command LOCK_BYTE_RANGE p) (plain lock-byte-range-plain))
       (λ _ e. choice-cases (eqb command UNLOCK_BYTE_RANGE) _ _ _ e
       (λ p _. rw (eqb-true command UNLOCK_BYTE_RANGE p) (plain unlock-byte-range-plain))
-      (λ _ e. let no : _≡_ {A = ℕ} 0 1 = cc in absurd (omega arith))))))))))))
+      (λ _ e. choice-cases (eqb command OPEN) _ _ _ e (λ p _. rw (eqb-true command OPEN p) (andx open-andx))
+      (λ _ e. let no : _≡_ {A = ℕ} 0 1 = cc in absurd (omega arith)))))))))))))
 
   -- AndX words that pass the test are those of the grammar
   link-sound : {command : ℕ} → NamedAndx command → linkFits s command at ≡ true → Linked s command at (linkAt s at)

@@ -1,19 +1,20 @@
 -- The reader's tests of a block are the rows of the table.
 -- Assumes nothing.
-use mathlib.Core.Path.{_≡_}
+use mathlib.Core.Path.{_≡_, _∙_}
 use mathlib.Core.Logic.{_↔_}
-use Prim.Native.Nat.{ℕ, _+_, _*_, _/_, _%_}
+use Prim.Native.Nat.{ℕ, zero, suc, _+_, _-_, _*_, _/_, _%_, _≤_, _<_}
 use native.Mathlib.Omega.{arith}
-use mathlib.Core.Bool.{Bool, true, false, cond, _&&_, _||_}
-use mathlib.Core.List.{List}
-use lib.ListN.{length}
+use mathlib.Core.Bool.{Bool, true, false, cond, _&&_, _||_, false≢true}
+use mathlib.Core.List.{List, [], _∷_}
+use lib.ListN.{length, take, drop, getD, length-drop}
+use lib.Seq.{length-take-le, getD-take, getD-drop}
 use lib.Dec.{leb, eqb}
 use borrow.Author.Tests.{eqb-true, eqb-false, leb-true, eq-eqb, le-leb, ne-eqb}
-use Rattle.lists.specs.Truth.{both-hold, hold-both, holds-first, holds-second, test-cases, either-cases}
+use Rattle.lists.specs.Truth.{both-hold, hold-both, holds-first, holds-second, test-cases, either-cases, choice-cases}
 use Rattle.locks.specs.Wire.{rangeSize}
-use Rattle.chain.specs.Layout.{CLOSE, LOCKING, READ, WRITE, LOGOFF, CORE-READ, CORE-WRITE, LOCK_BYTE_RANGE, UNLOCK_BYTE_RANGE, wordCount, byteArea, byteCount, blockEnd, lockType, unlockCount, lockCount, dataLength, dataOffset, coreCount, dataMark, markedLength}
-use Rattle.chain.specs.Grammar.{Shape, Bare, Ranges, Data, MarkedData, IsBlock, locking-10, locking-20, read-10, read-12, write-12, write-14, close, logoff, tree-disconnect, process-exit, core-read, core-write, lock-byte-range, unlock-byte-range, NamedAndx, locking-andx, read-andx, write-andx, logoff-andx, Plain, close-plain, tree-disconnect-plain, process-exit-plain, core-read-plain, core-write-plain, lock-byte-range-plain, unlock-byte-range-plain}
-use Rattle.chain.specs.Parse.{shaped, bare, isLarge, lockingFits, readFits, dataInside, writeFits, coreWriteFits}
+use Rattle.chain.specs.Layout.{CLOSE, LOCKING, READ, WRITE, LOGOFF, CORE-READ, CORE-WRITE, LOCK_BYTE_RANGE, UNLOCK_BYTE_RANGE, OPEN, wordCount, byteArea, byteCount, blockEnd, areaByte, lockType, unlockCount, lockCount, dataLength, dataOffset, coreCount, dataMark, markedLength}
+use Rattle.chain.specs.Grammar.{Shape, Bare, Ranges, Data, MarkedData, Name, IsBlock, locking-10, locking-20, read-10, read-12, write-12, write-14, close, logoff, tree-disconnect, process-exit, core-read, core-write, lock-byte-range, unlock-byte-range, open-15, NamedAndx, locking-andx, read-andx, write-andx, logoff-andx, open-andx, Plain, close-plain, tree-disconnect-plain, process-exit-plain, core-read-plain, core-write-plain, lock-byte-range-plain, unlock-byte-range-plain}
+use Rattle.chain.specs.Parse.{shaped, bare, isLarge, lockingFits, readFits, dataInside, writeFits, coreWriteFits, terminated, bytesAt, openFits}
 
 -- the requests served: those named ANDX and the others
 pub data Served : ℕ → Type 0 where
@@ -32,7 +33,47 @@ fits s command at =
     (cond (eqb command CORE-WRITE) (coreWriteFits s at)
     (cond (eqb command LOCK_BYTE_RANGE) (bare s at 5)
     (cond (eqb command UNLOCK_BYTE_RANGE) (bare s at 5)
-    (bare s at 0)))))))))
+    (cond (eqb command OPEN) (openFits s at)
+    (bare s at 0))))))))))
+
+-- ---- bytes that end with their first zero byte
+
+pub record Ended (bytes : List ℕ) : Type 0 where
+  pub some : 1 ≤ length bytes
+  pub last : getD bytes (length bytes - 1) 0 ≡ 0
+  pub before : (k : ℕ) → k + 1 < length bytes → getD bytes k 0 ≡ 0 → ⊥
+
+ended-here : (x : ℕ) (xs : List ℕ) → x ≡ 0 → length xs ≡ 0 → Ended (x ∷ xs)
+ended-here x [] e n = record { some = omega arith; last = e; before = λ k h z. omega arith }
+ended-here x (y ∷ ys) e n = absurd (omega arith)
+
+ended-more : (x : ℕ) (xs : List ℕ) → (x ≡ 0 → ⊥) → Ended xs → Ended (x ∷ xs)
+ended-more x [] n e = let z : 1 ≤ 0 = e .some in absurd (omega arith)
+ended-more x (y ∷ ys) n e =
+    let i : length (x ∷ y ∷ ys) - 1 ≡ suc (length (y ∷ ys) - 1) = omega arith in
+    record { some = omega arith; last = rw i (e .last); before = each }
+  where
+    each : (k : ℕ) → k + 1 < length (x ∷ y ∷ ys) → getD (x ∷ y ∷ ys) k 0 ≡ 0 → ⊥
+    each zero h z = n z
+    each (suc k) h z = e .before k (omega arith) z
+
+pub terminated-sound : (bytes : List ℕ) → terminated bytes ≡ true → Ended bytes
+unfolding terminated
+terminated-sound [] e = absurd (false≢true e)
+terminated-sound (x ∷ xs) e =
+    choice-cases (eqb x 0) (eqb (length xs) 0) (terminated xs) true e
+    (λ p q. ended-here x xs (eqb-true x 0 p) (eqb-true (length xs) 0 q))
+    (λ p q. ended-more x xs (eqb-false x 0 p) (terminated-sound xs q))
+
+pub terminated-complete : (bytes : List ℕ) → Ended bytes → terminated bytes ≡ true
+unfolding terminated
+terminated-complete [] e = let z : 1 ≤ 0 = e .some in absurd (omega arith)
+terminated-complete (x ∷ []) e = let z : x ≡ 0 = e .last in rw (eq-eqb x 0 z)
+terminated-complete (x ∷ (y ∷ ys)) e =
+    let n : x ≡ 0 → ⊥ = e .before 0 (omega arith) in
+    let i : length (x ∷ y ∷ ys) - 1 ≡ suc (length (y ∷ ys) - 1) = omega arith in
+    rw (ne-eqb x 0 n)
+    (terminated-complete (y ∷ ys) (record { some = omega arith; last = rw i at (e .last); before = λ k h z. e .before (suc k) (omega arith) z }))
 
 module _ (s : List ℕ) (at : ℕ) where
   -- "A block is WordCount, the words, ByteCount, the bytes, all inside the message"
@@ -139,6 +180,40 @@ module _ (s : List ℕ) (at : ℕ) where
   marked-complete h =
       rw (shaped-complete 5 (h .shape), eq-eqb (dataMark s at) 1 (h .marked), eq-eqb (markedLength s at) (coreCount s at) (h .agreed), eq-eqb (byteCount s at) (3 + coreCount s at) (h .filled))
 
+  -- OPEN_ANDX: "a name of any length, even none, without zero bytes, then one zero byte"
+  length-bytes : blockEnd s at ≤ length s → length (bytesAt s at) ≡ byteCount s at
+  length-bytes inside = length-take-le (byteCount s at) (drop (byteArea s at) s) (rw (length-drop (byteArea s at) s) (omega arith))
+
+  byte-at : (k : ℕ) → k < byteCount s at → getD (bytesAt s at) k 0 ≡ areaByte s at k
+  byte-at k h = getD-take (byteCount s at) (drop (byteArea s at) s) k 0 h ∙ getD-drop (byteArea s at) s k 0
+
+  pub name-sound : openFits s at ≡ true → Name s at
+  unfolding openFits
+  name-sound e =
+      let h = both-hold (shaped s at 15) (terminated (bytesAt s at)) e in
+      let sh = shaped-sound 15 (h .0) in
+      let n : length (bytesAt s at) ≡ byteCount s at = length-bytes (sh .inside) in
+      let t = terminated-sound (bytesAt s at) (h .1) in
+      let some : 1 ≤ byteCount s at = rw n at (t .some) in
+      record {
+        shape = sh;
+        some = some;
+        ends = let z : getD (bytesAt s at) (byteCount s at - 1) 0 ≡ 0 = rw n at (t .last) in rw (byte-at (byteCount s at - 1) (omega arith)) at z;
+        only = λ k i z. t .before k (rw n i) (byte-at k (omega arith) ∙ z);
+      }
+
+  pub name-complete : Name s at → openFits s at ≡ true
+  unfolding openFits
+  name-complete h =
+      let n : length (bytesAt s at) ≡ byteCount s at = length-bytes (h .shape .inside) in
+      hold-both (shaped s at 15) (terminated (bytesAt s at)) (shaped-complete 15 (h .shape))
+      (terminated-complete (bytesAt s at)
+      (record {
+        some = rw n (h .some);
+        last = rw n (let some = h .some in byte-at (byteCount s at - 1) (omega arith) ∙ h .ends);
+        before = λ k i z. let j : k + 1 < byteCount s at = rw n at i in h .only k j (rw (byte-at k (omega arith)) at z);
+      }))
+
   -- the test of a request served finds a block of the table
   pub fits-sound : {command : ℕ} → Served command → fits s command at ≡ true → IsBlock s at command
   unfolding fits
@@ -153,6 +228,7 @@ module _ (s : List ℕ) (at : ℕ) where
   fits-sound (andx read-andx) e = read-sound e
   fits-sound (andx write-andx) e = write-sound e
   fits-sound (andx logoff-andx) e = logoff (bare-sound 2 e)
+  fits-sound (andx open-andx) e = open-15 (name-sound e)
 
   -- and every block of the table passes it
   pub fits-complete : {command : ℕ} → IsBlock s at command → fits s command at ≡ true
@@ -175,6 +251,7 @@ module _ (s : List ℕ) (at : ℕ) where
   fits-complete (core-write h) = marked-complete h
   fits-complete (lock-byte-range h) = bare-complete 5 h
   fits-complete (unlock-byte-range h) = bare-complete 5 h
+  fits-complete (open-15 h) = name-complete h
 
   -- so each test is its rows of the table, no more and no less
   pub bare-exact : (words : ℕ) → (bare s at words ≡ true) ↔ Bare s at words
@@ -194,6 +271,9 @@ module _ (s : List ℕ) (at : ℕ) where
 
   pub core-write-exact : (coreWriteFits s at ≡ true) ↔ MarkedData s at
   core-write-exact = (marked-sound, marked-complete)
+
+  pub open-exact : (openFits s at ≡ true) ↔ Name s at
+  open-exact = (name-sound, name-complete)
 
   pub fits-exact : {command : ℕ} → Served command → (fits s command at ≡ true) ↔ IsBlock s at command
   fits-exact served = (fits-sound served, fits-complete)

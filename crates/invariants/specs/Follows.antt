@@ -7,8 +7,8 @@ use native.Mathlib.Omega.{arith}
 use mathlib.Core.Bool.{true, false, cond, _||_}
 use lib.Dec.{eqb}
 use borrow.Author.Tests.{eqb-true}
-use Rattle.chain.specs.Layout.{CLOSE, LOCKING, READ, WRITE, CORE-READ, CORE-WRITE}
-use Rattle.chain.specs.Grammar.{MayFollow, locking-read, locking-write, locking-core-read, locking-core-write, read-close, write-write, write-read, write-close}
+use Rattle.chain.specs.Layout.{CLOSE, LOCKING, READ, WRITE, CORE-READ, CORE-WRITE, OPEN}
+use Rattle.chain.specs.Grammar.{MayFollow, locking-read, locking-write, locking-core-read, locking-core-write, read-close, write-write, write-read, write-close, open-read}
 use Rattle.chain.specs.Parse.{mayFollow}
 use Rattle.lists.specs.Truth.{either-cases, choice-cases}
 
@@ -30,18 +30,23 @@ after-write next e =
     either-cases (eqb next WRITE) (eqb next READ || eqb next CLOSE) e (λ p. rw (eqb-true next WRITE p) write-write)
     (λ q. either-cases (eqb next READ) (eqb next CLOSE) q (λ p. rw (eqb-true next READ p) write-read) (λ p. rw (eqb-true next CLOSE p) write-close))
 
+-- behind an OPEN block: READ_ANDX
+after-open : (next : ℕ) → eqb next READ ≡ true → MayFollow OPEN next
+after-open next e = rw (eqb-true next READ e) open-read
+
 -- what the test lets follow stands in the column
 pub follow-sound : (command next : ℕ) → mayFollow command next ≡ true → MayFollow command next
 unfolding mayFollow
 follow-sound command next e =
     choice-cases (eqb command LOCKING) (eqb next READ || (eqb next WRITE || (eqb next CORE-READ || eqb next CORE-WRITE)))
-    (cond (eqb command READ) (eqb next CLOSE) (cond (eqb command WRITE) (eqb next WRITE || (eqb next READ || eqb next CLOSE)) false)) true e
+    (cond (eqb command READ) (eqb next CLOSE) (cond (eqb command WRITE) (eqb next WRITE || (eqb next READ || eqb next CLOSE)) (cond (eqb command OPEN) (eqb next READ) false))) true e
     (λ p q. rw (eqb-true command LOCKING p) (after-locking next q))
-    (λ _ r. choice-cases (eqb command READ) (eqb next CLOSE) (cond (eqb command WRITE) (eqb next WRITE || (eqb next READ || eqb next CLOSE)) false)
+    (λ _ r. choice-cases (eqb command READ) (eqb next CLOSE) (cond (eqb command WRITE) (eqb next WRITE || (eqb next READ || eqb next CLOSE)) (cond (eqb command OPEN) (eqb next READ) false))
     true r (λ p q. rw (eqb-true command READ p) (after-read next q))
-    (λ _ u. choice-cases (eqb command WRITE) (eqb next WRITE || (eqb next READ || eqb next CLOSE)) false true u
+    (λ _ u. choice-cases (eqb command WRITE) (eqb next WRITE || (eqb next READ || eqb next CLOSE)) (cond (eqb command OPEN) (eqb next READ) false) true u
     (λ p q. rw (eqb-true command WRITE p) (after-write next q))
-    (λ _ v. let no : _≡_ {A = ℕ} 0 1 = cc in absurd (omega arith))))
+    (λ _ v. choice-cases (eqb command OPEN) (eqb next READ) false true v (λ p q. rw (eqb-true command OPEN p) (after-open next q))
+    (λ _ x. let no : _≡_ {A = ℕ} 0 1 = cc in absurd (omega arith)))))
 
 -- what stands in the column the test lets follow
 pub follow-complete : {command next : ℕ} → MayFollow command next → mayFollow command next ≡ true
@@ -54,6 +59,7 @@ follow-complete read-close = refl
 follow-complete write-write = refl
 follow-complete write-read = refl
 follow-complete write-close = refl
+follow-complete open-read = refl
 
 -- "Otherwise the command must be in the last column": the test and the table agree on every pair of commands
 pub follow-table : (command next : ℕ) → (mayFollow command next ≡ true) ↔ MayFollow command next

@@ -3,7 +3,7 @@
 use mathlib.Core.Path.{_≡_, refl}
 use Prim.Native.Nat.{ℕ, _≤_}
 use mathlib.Core.Bool.{Bool, true, false, cond}
-use mathlib.Core.List.{List}
+use mathlib.Core.List.{List, [], _∷_, _++_}
 use mathlib.Core.Option.{Option, none, some}
 use lib.ListN.{length, getD}
 use lib.Dec.{leb, eqb}
@@ -14,17 +14,22 @@ use Rattle.lists.specs.declared.Found.the-variants.{At, Nothing}
 use Rattle.records.specs.declared.Open.{Open}
 use Rattle.records.specs.declared.Lock.{Lock}
 use Rattle.records.specs.declared.Tables.{Tables}
-use Rattle.records.specs.Empty.{noOpen}
-use Rattle.records.specs.Held.{sessionsOf, treesOf, opensOf}
+use Rattle.records.specs.Empty.{noOpen, noName}
+use Rattle.records.specs.Held.{sessionsOf, treesOf, opensOf, namesOf, withOpens}
 use Rattle.locks.specs.Request.{releaseAll, Grants, granted, blocked, grantAll, Result, done as doneWith, refused as refusedBy, afterGrants, rangePasses, afterReleases, request}
 use Rattle.locks.specs.declared.types.LockRange.{LockRange}
 use Rattle.locks.specs.declared.types.Ask.{Ask}
 use Rattle.locks.specs.declared.types.Holder.{Holder}
 use Rattle.locks.specs.declared.types.Outcome.the-variants.{NoSuchLock as NoLock, PassesEnd as PastEnd, Conflict as InWay, NoRecord as NoRoom}
+use Rattle.catalogue.specs.Name.{isNamed}
 use Rattle.soundness.specs.Lookup.{isTree}
+use Rattle.soundness.specs.Sound.{holdsOpen}
+use Rattle.chain.specs.declared.block.OpenFields.{OpenFields}
 use Rattle.message.specs.declared.caller.Caller.{Caller}
-use Rattle.message.specs.Command.{Given, refused, isSession, withSession, withTree, isOpen, openAt, withOpen, unlessBarred, barring, writing}
-use Rattle.message.specs.declared.refusal.Refusal.the-variants.{NoSession, NoTree, NoOpen, NoAccess, Conflict, NoSpace}
+use Rattle.message.specs.Contents.{sizeOf}
+use Rattle.message.specs.Sharing.{keptOut}
+use Rattle.message.specs.Command.{Given, refused, done, isSession, withSession, withTree, isOpen, openAt, withOpen, unlessBarred, barring, writing, codesServed, openBy, openedSaid, openFile, openNamed, doOpen}
+use Rattle.message.specs.declared.refusal.Refusal.the-variants.{NoSession, NoTree, NoOpen, NoAccess, Conflict, NoSpace, OpenMode, BadAccess, NoSuchFile, BadShare, NoFids}
 
 -- of a choice
 pub cond-case : {A : Type 0} (P : A → Type 0) (t : Bool) (x y : A) → (t ≡ true → P x) → (t ≡ false → P y) → P (cond t x y)
@@ -93,3 +98,41 @@ module _ (P : Given → Type 0) where
       open-case c t fid _ no-session no-tree no-open
       (λ k e. cond-case P (eqb (getD (opensOf t) k noOpen .access) 0) (refused NoAccess) _ (λ _. no-access)
       (λ _. barred-case t (barring t (ask (getD (opensOf t) k noOpen))) _ conflict (λ _. cond-case P past (refused NoSpace) _ (λ _. no-space) (good k e))))
+
+-- what an OPEN_ANDX that is done has passed
+pub record Opening (c : Caller) (t : Tables) (f : OpenFields) (name : List ℕ) (k : ℕ) : Type 0 where
+  pub session : any (isSession c) (sessionsOf t) ≡ true
+  pub tree : any (isTree (c .tid) (c .uid)) (treesOf t) ≡ true
+  pub mode : eqb (f .mode) 1 ≡ true
+  pub codes : codesServed (f .access) (f .sharing) ≡ true
+  pub named : found (isNamed name) (namesOf t) ≡ At k
+  pub held : any (holdsOpen (openBy c t f (getD (namesOf t) k noName .file))) (treesOf t) ≡ true
+  pub shared : any (keptOut (getD (namesOf t) k noName .file) (f .access) (f .sharing)) (opensOf t) ≡ false
+  pub room : leb 64 (t .nopens) ≡ false
+
+-- of an OPEN_ANDX
+module _ (P : Given → Type 0) (c : Caller) (t : Tables) (memory : List ℕ) (f : OpenFields) (name : List ℕ)
+    (no-session : P (refused NoSession)) (no-tree : P (refused NoTree)) (mode : P (refused OpenMode)) (codes : P (refused BadAccess)) (no-file : P (refused NoSuchFile))
+    (right : P (refused NoAccess)) (share : P (refused BadShare)) (full : P (refused NoFids))
+    (good : (k : ℕ) → Opening c t f name k
+    → P (done (withOpens t (opensOf t ++ (openBy c t f (getD (namesOf t) k noName .file) ∷ []))) memory
+    (openedSaid (f .full) (openBy c t f (getD (namesOf t) k noName .file) .fid) (sizeOf t (getD (namesOf t) k noName .file)) (f .access)))) where
+  named-case : any (isSession c) (sessionsOf t) ≡ true → any (isTree (c .tid) (c .uid)) (treesOf t) ≡ true → eqb (f .mode) 1 ≡ true → codesServed (f .access) (f .sharing) ≡ true
+      → (o : Found) → found (isNamed name) (namesOf t) ≡ o → P (openNamed c t memory f o)
+  unfolding openNamed openFile
+  named-case a b m s (At k) e =
+      cond-case P (any (holdsOpen (openBy c t f (getD (namesOf t) k noName .file))) (treesOf t)) _ (refused NoAccess)
+      (λ h. cond-case P (any (keptOut (getD (namesOf t) k noName .file) (f .access) (f .sharing)) (opensOf t)) (refused BadShare) _ (λ _. share)
+      (λ q. cond-case P (leb 64 (t .nopens)) (refused NoFids) _ (λ _. full)
+      (λ r. good k (record { session = a; tree = b; mode = m; codes = s; named = e; held = h; shared = q; room = r }))))
+      (λ _. right)
+  named-case a b m s Nothing e = no-file
+
+  pub opening-case : P (doOpen c t memory f name)
+  unfolding doOpen withTree
+  opening-case =
+      session-case P c t _ no-session
+      (λ a. cond-case P (any (isTree (c .tid) (c .uid)) (treesOf t)) _ (refused NoTree)
+      (λ b. cond-case P (eqb (f .mode) 1) _ (refused OpenMode)
+      (λ m. cond-case P (codesServed (f .access) (f .sharing)) _ (refused BadAccess) (λ s. named-case a b m s (found (isNamed name) (namesOf t)) refl) (λ _. codes)) (λ _. mode))
+      (λ _. no-tree))

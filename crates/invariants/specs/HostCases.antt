@@ -9,13 +9,15 @@ use lib.Dec.{leb, ltb, eqb}
 use borrow.Author.Tests.{leb-false, ltb-false, not-false, eqb-true, eqb-false}
 use native.Mathlib.Omega.{arith}
 use Rattle.lists.specs.Walk.{any}
+use Rattle.records.specs.declared.Name.{Name}
 use Rattle.records.specs.declared.Tables.{Tables}
-use Rattle.records.specs.Held.{sessionsOf, treesOf, opensOf, withSessions, withTrees, withOpens}
+use Rattle.records.specs.Held.{sessionsOf, treesOf, opensOf, withSessions, withTrees, withOpens, withCatalogue}
 use Rattle.numbers.specs.Number.{contains}
 use Rattle.numbers.specs.Column.{uidOf}
+use Rattle.catalogue.specs.Name.{catalogueOk}
 use Rattle.soundness.specs.Sound.{sound, holdsOpen}
 use Rattle.removal.specs.Removal.{remove}
-use Rattle.host.specs.HostCall.{refused, done, newSession, addSession, newTree, addTree, newOpen, addOpen, isOf, loadNumber, withSize, loadFile, dropConnection}
+use Rattle.host.specs.HostCall.{refused, done, newSession, addSession, newTree, addTree, newOpen, addOpen, isOf, loadNumber, withSize, loadFile, dropConnection, setCatalogue}
 use Rattle.soundness.specs.Lookup.{isTree}
 use Rattle.host.specs.declared.answer.Returned.{Returned}
 use Rattle.removal.specs.declared.Gone.the-variants.{Connection}
@@ -123,3 +125,12 @@ module _ (t : Tables) (P : Returned → Type 0) (no : (n : ℕ) → 1 ≤ n → 
   pub dropConnection-either : (connection : ℕ) → (sound t ≡ true → P (done 0 (remove (Connection connection) t))) → P (dropConnection t connection)
   unfolding dropConnection
   dropConnection-either c did = by-test P (not (sound t)) (refused 4 t) _ (λ e. no 4 (omega arith)) λ a. did (not-false (sound t) a)
+
+  -- "4 tables not sound", then "7" for each of the catalogue's rules; else done
+  pub setCatalogue-either : (names : List Name) (count : ℕ)
+      → (sound t ≡ true → catalogueOk names count ≡ true → P (done 0 (withCatalogue t names count))) → P (setCatalogue t names count)
+  unfolding setCatalogue
+  setCatalogue-either names count did =
+      by-test P (not (sound t)) (refused 4 t) _ (λ e. no 4 (omega arith)) λ a.
+      by-test P (not (catalogueOk names count)) (refused 7 t) _ (λ e. no 7 (omega arith)) λ b.
+      did (not-false (sound t) a) (not-false (catalogueOk names count) b)

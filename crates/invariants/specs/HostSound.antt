@@ -6,23 +6,27 @@ use mathlib.Core.List.{List, [], _∷_, _++_, map}
 use Prim.Native.Nat.{ℕ, _≤_, _<_}
 use lib.ListN.{length, set, length-set}
 use borrow.Author.Tests.{le-leb}
+use Rattle.records.specs.declared.Open.{Open}
+use Rattle.records.specs.declared.Name.{Name}
 use Rattle.records.specs.declared.Tables.{Tables}
-use Rattle.records.specs.Held.{sessionsOf, treesOf, opensOf, locksOf, withSessions, withTrees, withOpens, withFiles}
+use Rattle.records.specs.Held.{sessionsOf, treesOf, opensOf, locksOf, withSessions, withTrees, withOpens, withFiles, withCatalogue}
 use Rattle.numbers.specs.Column.{uidOf}
 use Rattle.lists.specs.Walk.{all, allTails}
 use Rattle.numbers.specs.Number.{contains, numbered}
-use Rattle.soundness.specs.Sound.{sound, withinRoom, fileOk, soundRecords, soundLocks, agreeAll}
-use Rattle.host.specs.HostCall.{noTables, refused, done, newSession, addSession, newTree, addTree, newOpen, addOpen, withSize, loadFile, dropConnection}
+use Rattle.numbers.specs.NewOpen.{openWith}
+use Rattle.catalogue.specs.Name.{catalogueOk, noneDoubled}
+use Rattle.soundness.specs.Sound.{sound, sharingOk, withinRoom, fileOk, soundRecords, soundLocks, agreeAll}
+use Rattle.host.specs.HostCall.{noTables, refused, done, newSession, addSession, newTree, addTree, newOpen, addOpen, withSize, loadFile, dropConnection, setCatalogue}
 use Rattle.host.specs.declared.answer.Returned.{Returned}
 use Rattle.removal.specs.declared.Gone.the-variants.{Connection}
 use Rattle.lists.specs.Members.{all-set}
 use Rattle.lists.specs.RoomLaws.{held-fewer, held-more}
 use Rattle.invariants.specs.SoundParts.{Sound, sound-says, sound-lists}
-use Rattle.invariants.specs.RuleLaws.{tree-ok, open-ok}
-use Rattle.invariants.specs.Shaped.{Shaped, sessions-with, trees-with, opens-with, shaped-sessions, shaped-trees, shaped-opens, shaped-files}
+use Rattle.invariants.specs.RuleLaws.{tree-ok, OpenOk, open-ok}
+use Rattle.invariants.specs.Shaped.{Shaped, sessions-with, trees-with, opens-with, shaped-sessions, shaped-trees, shaped-opens, shaped-files, shaped-names}
 use Rattle.invariants.specs.AddedRecords.{records-session, records-tree, records-open, locks-open}
 use Rattle.invariants.specs.RemovalSound.{remove-sound, remove-shaped}
-use Rattle.invariants.specs.HostCases.{OpenPassed, addSession-either, addTree-either, addOpen-either, loadFile-either, dropConnection-either}
+use Rattle.invariants.specs.HostCases.{OpenPassed, addSession-either, addTree-either, addOpen-either, loadFile-either, dropConnection-either, setCatalogue-either}
 
 -- ---- the tables of a call that is done
 
@@ -41,7 +45,7 @@ module _ (t : Tables) (s : Sound t) where
       })
       (s .sizes)
       (records-session (sessionsOf t) (treesOf t) (opensOf t) (s .records) (newSession t c) refl (held-fewer (t .nsessions) (t .sessions) 16 h))
-      (s .locks)
+      (s .locks) (s .catalogue)
 
   tree-sound : (uid right : ℕ) → right ≤ 1 → contains uid (map uidOf (sessionsOf t)) ≡ true → t .ntrees < 32
       → sound (withTrees t (treesOf t ++ (newTree t uid right ∷ []))) ≡ true
@@ -60,35 +64,48 @@ module _ (t : Tables) (s : Sound t) where
       (records-tree (sessionsOf t) (treesOf t) (opensOf t) (s .records) (newTree t uid right) refl
       (tree-ok (map uidOf (sessionsOf t)) (newTree t uid right) (record { right = le-leb right 1 low; session = named }))
       (held-fewer (t .ntrees) (t .trees) 32 h))
-      (s .locks)
+      (s .locks) (s .catalogue)
+
+  -- an open more, the host's or a request's, that obeys the rules for opens
+  module _ (uid tid process file access sharing : ℕ) where
+    abbrev added : Open
+    added = openWith t uid tid process file access sharing
+
+    pub added-sound : OpenOk (treesOf t) added → t .nopens < 64 → sound (withOpens t (opensOf t ++ (added ∷ []))) ≡ true
+    unfolding withOpens
+    added-sound ok h =
+        let r = s .room in
+        sound-lists (withOpens t (opensOf t ++ (added ∷ []))) (sessionsOf t) (treesOf t) (opensOf t ++ (added ∷ [])) (locksOf t)
+        refl refl (opens-with t (opensOf t ++ (added ∷ []))) refl
+        (record {
+          sessions-fit = r .sessions-fit;
+          trees-fit = r .trees-fit;
+          opens-fit = held-more (t .nopens) (t .opens) 64 h added;
+          locks-fit = r .locks-fit;
+        })
+        (s .sizes)
+        (records-open (sessionsOf t) (treesOf t) (opensOf t) (s .records) added refl (open-ok (treesOf t) added ok) (held-fewer (t .nopens) (t .opens) 64 h))
+        (locks-open (opensOf t) added (locksOf t) (s .locks)) (s .catalogue)
 
   open-sound : (uid tid process file access : ℕ) → OpenPassed t uid tid process file access
       → sound (withOpens t (opensOf t ++ (newOpen t uid tid process file access ∷ []))) ≡ true
-  unfolding withOpens newOpen
+  unfolding newOpen sharingOk
   open-sound uid tid process file access p =
-      let r = s .room in
-      sound-lists (withOpens t (opensOf t ++ (newOpen t uid tid process file access ∷ []))) (sessionsOf t) (treesOf t)
-      (opensOf t ++ (newOpen t uid tid process file access ∷ [])) (locksOf t)
-      refl refl (opens-with t (opensOf t ++ (newOpen t uid tid process file access ∷ []))) refl
-      (record {
-        sessions-fit = r .sessions-fit;
-        trees-fit = r .trees-fit;
-        opens-fit = held-more (t .nopens) (t .opens) 64 (p .room) (newOpen t uid tid process file access);
-        locks-fit = r .locks-fit;
-      })
-      (s .sizes)
-      (records-open (sessionsOf t) (treesOf t) (opensOf t) (s .records) (newOpen t uid tid process file access) refl
-      (open-ok (treesOf t) (newOpen t uid tid process file access)
-      (record { file = le-leb file 15 (p .file15); access = le-leb access 2 (p .access2); held = p .held }))
-      (held-fewer (t .nopens) (t .opens) 64 (p .room)))
-      (locks-open (opensOf t) (newOpen t uid tid process file access) (locksOf t) (s .locks))
+      added-sound uid tid process file access 4
+      (record { file = le-leb file 15 (p .file15); access = le-leb access 2 (p .access2); sharing = refl; held = p .held }) (p .room)
+
+  -- another catalogue that obeys its rules
+  names-sound : (names : List Name) (count : ℕ) → catalogueOk names count ≡ true → sound (withCatalogue t names count) ≡ true
+  unfolding withCatalogue
+  names-sound names count h =
+      sound-lists (withCatalogue t names count) (sessionsOf t) (treesOf t) (opensOf t) (locksOf t) refl refl refl refl (s .room) (s .sizes) (s .records) (s .locks) h
 
   load-sound : (file size : ℕ) → size ≤ 4096 → sound (withSize t file size) ≡ true
   unfolding withSize withFiles fileOk
   load-sound file size h =
       sound-lists (withSize t file size) (sessionsOf t) (treesOf t) (opensOf t) (locksOf t) refl refl refl refl (s .room)
       (all-set fileOk (t .files) file (record { size = size }) (s .sizes) (le-leb size 4096 h))
-      (s .records) (s .locks)
+      (s .records) (s .locks) (s .catalogue)
 
 -- ---- "Every call on sound tables leaves sound tables"
 
@@ -126,6 +143,11 @@ module _ (t : Tables) (e : sound t ≡ true) where
   pub dropConnection-sound : (connection : ℕ) → sound (dropConnection t connection .tables) ≡ true
   unfolding SoundAfter done
   dropConnection-sound c = dropConnection-either t SoundAfter refused-sound c (λ a. remove-sound (Connection c) t e)
+
+  -- "Every call on sound tables leaves sound tables": setting the catalogue
+  pub setCatalogue-sound : (names : List Name) (count : ℕ) → sound (setCatalogue t names count .tables) ≡ true
+  unfolding SoundAfter done
+  setCatalogue-sound names count = setCatalogue-either t SoundAfter refused-sound names count (λ a h. names-sound t (sound-says t e) names count h)
 
 -- ---- "Sessions 16 .. trees 32 .. opens 64 .. locks 128 .. Files: 16": the arrays keep their room, of tables not sound too
 
@@ -172,7 +194,12 @@ module _ (t : Tables) (s : Shaped t) where
   unfolding ShapedAfter done
   dropConnection-shaped c = dropConnection-either t ShapedAfter refused-shaped c (λ a. remove-shaped (Connection c) t s a)
 
+  -- the same after setting the catalogue, which is of 16 records too
+  pub setCatalogue-shaped : (names : List Name) (count : ℕ) → length names ≡ 16 → Shaped (setCatalogue t names count .tables)
+  unfolding ShapedAfter done
+  setCatalogue-shaped names count h = setCatalogue-either t ShapedAfter refused-shaped names count (λ a _. shaped-names t s names count h)
+
 -- the tables to start from are sound
 pub start-sound : sound noTables ≡ true
-unfolding noTables sound withinRoom all fileOk soundRecords numbered soundLocks agreeAll allTails
+unfolding noTables sound withinRoom all fileOk soundRecords numbered soundLocks agreeAll allTails catalogueOk noneDoubled
 start-sound = refl

@@ -41,7 +41,7 @@ module _ {ss : List Session} {ts : List Tree} {os : List Open} {a : Session → 
       let named : holder .0 .tid ≡ o .tid = holds-says o (holder .0) (holder .2) .tid in
       let same : holder .0 ≡ stays .0 = numbered-same tidOf 32 ts (r .tids) (holder .1) (kept-was b ts (stays .1) .0) (named ∙ sym (stays .2)) in
       let held : any (holdsOpen o) (keep b ts) ≡ true = one-any (holdsOpen o) (stays .1) (ap (holdsOpen o) (sym same) ∙ holder .2) in
-      open-ok (keep b ts) o (record { file = old .file; access = old .access; held = held })
+      open-ok (keep b ts) o (record { file = old .file; access = old .access; sharing = old .sharing; held = held })
 
   -- the records kept obey the rules
   pub records-keep : RecordsOk (keep a ss) (keep b ts) (keep c os)

@@ -14,6 +14,7 @@ pub mod BlockParse
 pub mod ReaderSound
 pub mod Chained
 pub mod GivenCases
+pub mod JustOpenedLaws
 pub mod FoundFacts
 pub mod LockingSound
 pub mod Sound

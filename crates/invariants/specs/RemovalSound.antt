@@ -112,7 +112,7 @@ module _ (gone : Gone) (t : Tables) where
   left-sound s =
       sound-lists left sessionsLeft treesLeft opensLeft locksLeft left-sessions left-trees left-opens left-locks (left-room (s .room)) (s .sizes)
       (records-keep stay-filters (s .records))
-      (locks-keep stay-filters (s .records) (locksOf t) (s .locks))
+      (locks-keep stay-filters (s .records) (locksOf t) (s .locks)) (s .catalogue)
 
   left-shaped : Shaped t → Room (t .nsessions) (t .ntrees) (t .nopens) (t .nlocks) → Shaped left
   unfolding left

@@ -4,7 +4,7 @@
 use mathlib.Core.Path.{_≡_, refl}
 use Prim.Native.Nat.{ℕ, min, _+_, _-_, _*_, _≤_}
 use native.Mathlib.Omega.{arith}
-use mathlib.Core.Bool.{cond}
+use mathlib.Core.Bool.{Bool, true, false, cond}
 use mathlib.Core.List.{List, [], _∷_}
 use mathlib.Core.Option.{Option, none, some}
 use lib.ListN.{length, take, drop, getD, length-append, length-take, length-drop}
@@ -19,12 +19,13 @@ use Rattle.locks.specs.declared.types.Outcome.the-variants.{Malformed}
 use Rattle.soundness.specs.File.{fileOf}
 use Rattle.invariants.specs.SoundParts.{sound-says}
 use Rattle.chain.specs.Layout.{CLOSE, READ, CORE-READ, headerCommand, FIRST, blockEnd, andxCommand}
-use Rattle.chain.specs.Grammar.{IsBlock, locking-10, locking-20, read-10, read-12, write-12, write-14, close, logoff, tree-disconnect, process-exit, core-read, core-write, lock-byte-range, unlock-byte-range, MayFollow, locking-read, locking-write, locking-core-read, locking-core-write, read-close, write-write, write-read, write-close}
+use Rattle.chain.specs.Grammar.{IsBlock, locking-10, locking-20, read-10, read-12, write-12, write-14, close, logoff, tree-disconnect, process-exit, core-read, core-write, lock-byte-range, unlock-byte-range, open-15, MayFollow, locking-read, locking-write, locking-core-read, locking-core-write, read-close, write-write, write-read, write-close, open-read}
 use Rattle.chain.specs.Chain.{blocks}
 use Rattle.chain.specs.declared.block.LockingFields.{LockingFields}
 use Rattle.chain.specs.declared.block.ReadFields.{ReadFields}
 use Rattle.chain.specs.declared.block.WriteFields.{WriteFields}
 use Rattle.chain.specs.declared.block.RangeFields.{RangeFields}
+use Rattle.chain.specs.declared.block.OpenFields.{OpenFields}
 use Rattle.chain.specs.declared.block.Block.{Block}
 use Rattle.chain.specs.declared.block.Next.{Next}
 use Rattle.chain.specs.declared.block.Next.the-variants.{End, Follow}
@@ -34,12 +35,13 @@ use Rattle.message.specs.Caller.{callerOf}
 use Rattle.message.specs.declared.caller.Caller.{Caller}
 use Rattle.message.specs.Refusal.{statusOf}
 use Rattle.message.specs.Contents.{sizeOf, contents, readBytes}
-use Rattle.message.specs.Command.{Said, locked, read, wrote, Given, refused, done, servedType, requestOf, lockingEnd, lockingAfter, doLocking, doRead, doWrite, endsPast, coreSaid, asCore, oneRange, doRange, doSetSize, doCoreWrite, perform}
+use Rattle.message.specs.Command.{Said, locked, read, wrote, Given, refused, done, servedType, requestOf, lockingEnd, lockingAfter, doLocking, doRead, doWrite, endsPast, coreSaid, asCore, oneRange, doRange, doSetSize, doCoreWrite, openedSaid, doOpen, perform}
+use Rattle.message.specs.JustOpened.{NOBODY, openedBy, bodyMeant}
 use Rattle.message.specs.Reply.{replyHeader, replyBlock, refusedBlock, replySize}
 use Rattle.message.specs.Message.{Ran, after, linkTo, afterGiven, run, served, onlyStatus, runChain, answered, replyOf}
 use Rattle.message.specs.declared.refusal.Refusal.{Refusal}
 use Rattle.message.specs.declared.refusal.Refusal.the-variants.{NotServed, NoAccess, LockType, NoSpace}
-use Rattle.invariants.specs.GivenCases.{cond-case, request-case, session-case, tree-case, open-case, barred-case, writing-case}
+use Rattle.invariants.specs.GivenCases.{cond-case, request-case, session-case, tree-case, open-case, barred-case, writing-case, opening-case}
 use Rattle.invariants.specs.ReplySize.{length-block, length-header}
 use Rattle.invariants.specs.Sound.{Good, Keeps, keeps-good, perform-keeps, size-most}
 
@@ -124,6 +126,17 @@ module _ (n : ℕ) (c : Caller) (t : Tables) (memory : List ℕ) where
   unfolding doRange coreSize coreSaid replySize
   range-says f unlocks locks h = core-says (locking-says coreSize n c t memory (oneRange f unlocks locks) _ h)
 
+  -- an OPEN_ANDX's reply has 33 bytes, whether it is full or not
+  opened-says : (full : Bool) (u : Tables) (fid size access : ℕ) → 33 ≤ n → Says replySize n (done u memory (openedSaid full fid size access))
+  unfolding openedSaid replySize
+  opened-says true u fid size access h = says-done h
+  opened-says false u fid size access h = says-done h
+
+  open-says : (f : OpenFields) (name : List ℕ) → 33 ≤ n → Says replySize n (doOpen c t memory f name)
+  open-says f name h =
+      opening-case (Says replySize n) c t memory f name says-refused says-refused says-refused says-refused says-refused says-refused says-refused says-refused
+      (λ k _. opened-says (f .full) _ _ _ _ h)
+
 -- by how much a command's reply block may be longer than its request block, and a chain's from that command on
 unfoldable extra : ℕ → ℕ
 extra command = cond (eqb command READ) 4100 (cond (eqb command CORE-READ) 4099 0)
@@ -133,38 +146,39 @@ slack command = cond (eqb command CLOSE) 0 4100
 
 -- one block
 block-says : {s : List ℕ} {at command : ℕ} (c : Caller) (t : Tables) (memory : List ℕ) → IsBlock s at command → Good t → (area bytes : List ℕ)
-    → Says replySize (blockSize s at + extra command) (perform c t memory (bodyAt s command at) area bytes)
-unfolding perform bodyAt extra replySize
-block-says c t memory (locking-10 p h) g area bytes = locking-says replySize _ c t memory _ area (omega arith)
-block-says c t memory (locking-20 p h) g area bytes = locking-says replySize _ c t memory _ area (omega arith)
-block-says c t memory (read-10 h) g area bytes = read-says replySize _ c t memory _ 27 (λ bytes. refl) g (omega arith)
-block-says c t memory (read-12 h) g area bytes = read-says replySize _ c t memory _ 27 (λ bytes. refl) g (omega arith)
-block-says c t memory (write-12 h) g area bytes = write-says replySize _ c t memory _ bytes (omega arith)
-block-says c t memory (write-14 h) g area bytes = write-says replySize _ c t memory _ bytes (omega arith)
-block-says {s} {at} c t memory (close h) g area bytes =
+    → (just : ℕ) → Says replySize (blockSize s at + extra command) (perform c t memory (bodyMeant just (bodyAt s command at)) area bytes)
+unfolding perform bodyAt bodyMeant extra replySize
+block-says c t memory (locking-10 p h) g area bytes just = locking-says replySize _ c t memory _ area (omega arith)
+block-says c t memory (locking-20 p h) g area bytes just = locking-says replySize _ c t memory _ area (omega arith)
+block-says c t memory (read-10 h) g area bytes just = read-says replySize _ c t memory _ 27 (λ bytes. refl) g (omega arith)
+block-says c t memory (read-12 h) g area bytes just = read-says replySize _ c t memory _ 27 (λ bytes. refl) g (omega arith)
+block-says c t memory (write-12 h) g area bytes just = write-says replySize _ c t memory _ bytes (omega arith)
+block-says c t memory (write-14 h) g area bytes just = write-says replySize _ c t memory _ bytes (omega arith)
+block-says {s} {at} c t memory (close h) g area bytes just =
     let l : 3 ≤ blockSize s at + 0 = omega arith in
     open-case (Says replySize (blockSize s at + 0)) c t _ _ says-refused says-refused says-refused (λ k _. says-done l)
-block-says {s} {at} c t memory (logoff h) g area bytes =
+block-says {s} {at} c t memory (logoff h) g area bytes just =
     let l : 7 ≤ blockSize s at + 0 = omega arith in session-case (Says replySize (blockSize s at + 0)) c t _ says-refused (λ _. says-done l)
-block-says {s} {at} c t memory (tree-disconnect h) g area bytes =
+block-says {s} {at} c t memory (tree-disconnect h) g area bytes just =
     let l : 3 ≤ blockSize s at + 0 = omega arith in tree-case (Says replySize (blockSize s at + 0)) c t _ says-refused says-refused (says-done l)
-block-says {s} {at} c t memory (process-exit h) g area bytes =
+block-says {s} {at} c t memory (process-exit h) g area bytes just =
     let l : 3 ≤ blockSize s at + 0 = omega arith in session-case (Says replySize (blockSize s at + 0)) c t _ says-refused (λ _. says-done l)
-block-says c t memory (core-read h) g area bytes = core-read-says _ c t memory _ g (omega arith)
-block-says c t memory (core-write h) g area bytes = core-write-says _ c t memory _ _ (omega arith)
-block-says c t memory (lock-byte-range h) g area bytes = range-says _ c t memory _ 0 1 (omega arith)
-block-says c t memory (unlock-byte-range h) g area bytes = range-says _ c t memory _ 1 0 (omega arith)
+block-says c t memory (core-read h) g area bytes just = core-read-says _ c t memory _ g (omega arith)
+block-says c t memory (core-write h) g area bytes just = core-write-says _ c t memory _ _ (omega arith)
+block-says c t memory (lock-byte-range h) g area bytes just = range-says _ c t memory _ 0 1 (omega arith)
+block-says c t memory (unlock-byte-range h) g area bytes just = range-says _ c t memory _ 1 0 (omega arith)
+block-says c t memory (open-15 h) g area bytes just = open-says _ c t memory _ _ (omega arith)
 
 -- the blocks after it
-after-says : (n more : ℕ) (d : Given) → Says replySize n d → Keeps d → (bs : List Block) (place : ℕ) (t : Tables) (memory : List ℕ) (rest : ℕ → Tables → List ℕ → Ran) → 3 ≤ n
-    → ((p : ℕ) (u : Tables) (m : List ℕ) → Good u → length (rest p u m .blocks) ≤ more) → length (afterGiven d bs place t memory rest .blocks) ≤ n + more
+after-says : (n more : ℕ) (d : Given) → Says replySize n d → Keeps d → (bs : List Block) (place : ℕ) (t : Tables) (memory : List ℕ) (rest : ℕ → ℕ → Tables → List ℕ → Ran) → 3 ≤ n
+    → ((j p : ℕ) (u : Tables) (m : List ℕ) → Good u → length (rest j p u m .blocks) ≤ more) → length (afterGiven d bs place t memory rest .blocks) ≤ n + more
 unfolding afterGiven after refusedBlock
 after-says n more (refused why) says keeps bs place t memory rest h f = omega arith
 after-says n more (done u m said) says keeps bs place t memory rest h f =
     let a : replySize said ≤ n = says-size says in
-    let b : length (rest (place + replySize said) u m .blocks) ≤ more = f (place + replySize said) u m (keeps-good keeps) in
+    let b : length (rest (openedBy said) (place + replySize said) u m .blocks) ≤ more = f (openedBy said) (place + replySize said) u m (keeps-good keeps) in
     let e : length (replyBlock said place (linkTo bs (place + replySize said))) ≡ replySize said = length-block said place (linkTo bs (place + replySize said)) in
-    rw (length-append (replyBlock said place (linkTo bs (place + replySize said))) (rest (place + replySize said) u m .blocks)) (omega arith)
+    rw (length-append (replyBlock said place (linkTo bs (place + replySize said))) (rest (openedBy said) (place + replySize said) u m .blocks)) (omega arith)
 
 -- what follows a block
 follows : {s : List ℕ} {command at : ℕ} {nx : Next} (c a : ℕ) → Linked s command at nx → nx ≡ Follow c a → MayFollow command c
@@ -188,6 +202,7 @@ extra-slack (core-read h) = omega arith
 extra-slack (core-write h) = omega arith
 extra-slack (lock-byte-range h) = omega arith
 extra-slack (unlock-byte-range h) = omega arith
+extra-slack (open-15 h) = omega arith
 
 follow-slack : {command next : ℕ} → MayFollow command next → extra command + slack next ≤ slack command
 unfolding extra slack
@@ -199,25 +214,26 @@ follow-slack read-close = omega arith
 follow-slack write-write = omega arith
 follow-slack write-read = omega arith
 follow-slack write-close = omega arith
+follow-slack open-read = omega arith
 
 -- the reply blocks of a reading, against its request's bytes from there on
-run-room : {s : List ℕ} {command at : ℕ} {bs : List Block} (c : Caller) → Chained s command at bs → (place : ℕ) (t : Tables) (memory : List ℕ) → Good t
-    → length (run c s bs place t memory .blocks) ≤ length s - at + slack command
+run-room : {s : List ℕ} {command at : ℕ} {bs : List Block} (c : Caller) → Chained s command at bs → (just place : ℕ) (t : Tables) (memory : List ℕ) → Good t
+    → length (run c s just bs place t memory .blocks) ≤ length s - at + slack command
 unfolding run blockAt
-run-room {s} c (chained-end {command} {at} h l) place t memory g =
+run-room {s} c (chained-end {command} {at} h l) just place t memory g =
     let i : blockEnd s at ≤ length s = block-inside h in
     let e : extra command ≤ slack command = extra-slack h in
-    let r : length (run c s (blockAt s command at End ∷ []) place t memory .blocks) ≤ blockSize s at + extra command + 0 =
-    after-says (blockSize s at + extra command) 0 _ (block-says c t memory h g _ _) (perform-keeps t g c memory (bodyAt s command at) _ _) [] place t memory
-    (λ p u m. run c s [] p u m) (omega arith) (λ p u m k. omega arith) in
+    let r : length (run c s just (blockAt s command at End ∷ []) place t memory .blocks) ≤ blockSize s at + extra command + 0 =
+    after-says (blockSize s at + extra command) 0 _ (block-says c t memory h g _ _ just) (perform-keeps t g c memory (bodyMeant just (bodyAt s command at)) _ _) [] place t memory
+    (λ j p u m. run c s j [] p u m) (omega arith) (λ j p u m k. omega arith) in
     omega arith
-run-room {s} c (chained-more {command} {at} {c = n} {a} {rest} h l b) place t memory g =
+run-room {s} c (chained-more {command} {at} {c = n} {a} {rest} h l b) just place t memory g =
     let i : blockEnd s at ≤ length s = block-inside h in
     let f : blockEnd s at ≤ a = behind n a l refl in
     let e : extra command + slack n ≤ slack command = follow-slack (follows n a l refl) in
-    let r : length (run c s (blockAt s command at (Follow n a) ∷ rest) place t memory .blocks) ≤ blockSize s at + extra command + (length s - a + slack n) =
-    after-says (blockSize s at + extra command) (length s - a + slack n) _ (block-says c t memory h g _ _) (perform-keeps t g c memory (bodyAt s command at) _ _) rest place t memory
-    (λ p u m. run c s rest p u m) (omega arith) (λ p u m k. run-room c b p u m k) in
+    let r : length (run c s just (blockAt s command at (Follow n a) ∷ rest) place t memory .blocks) ≤ blockSize s at + extra command + (length s - a + slack n) =
+    after-says (blockSize s at + extra command) (length s - a + slack n) _ (block-says c t memory h g _ _ just) (perform-keeps t g c memory (bodyMeant just (bodyAt s command at)) _ _) rest place t memory
+    (λ j p u m. run c s j rest p u m) (omega arith) (λ j p u m k. run-room c b j p u m k) in
     omega arith
 
 slack-most : (command : ℕ) → slack command ≤ 4100
@@ -230,7 +246,7 @@ pub chain-room : (c : Caller) (s : List ℕ) (o : Option (List Block)) → block
 unfolding runChain onlyStatus refusedBlock blocks
 chain-room c s none e t memory g = omega arith
 chain-room c s (some bs) e t memory g =
-    omega (arith, run-room c (read-chained s (headerCommand s) FIRST bs e) FIRST t memory g, slack-most (headerCommand s))
+    omega (arith, run-room c (read-chained s (headerCommand s) FIRST bs e) NOBODY FIRST t memory g, slack-most (headerCommand s))
 
 -- "reply room 12,292": every reply to a message that is not dropped fits
 pub reply-room : (connection : ℕ) (s : List ℕ) (t : Tables) (memory : List ℕ) → Good t → 35 ≤ length s → length s ≤ 8192

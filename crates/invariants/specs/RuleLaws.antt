@@ -15,7 +15,7 @@ use Rattle.locks.specs.Range.{passesEnd}
 use Rattle.numbers.specs.Number.{contains, numbered, numberOk}
 use Rattle.numbers.specs.Column.{fidOf}
 use Rattle.soundness.specs.File.{fileOf}
-use Rattle.soundness.specs.Sound.{treeOk, permits, holdsOpen, openOk, lockOk, agree, agreeAll}
+use Rattle.soundness.specs.Sound.{sharingOk, treeOk, permits, holdsOpen, openOk, lockOk, agree, agreeAll}
 use Rattle.lists.specs.Truth.{both-hold, hold-both, decided, not-decided-twice}
 use Rattle.lists.specs.Members.{all-each, each-all, all-keep, tails-keep}
 use Rattle.invariants.specs.Numbered.{number-says, named-was}
@@ -55,24 +55,27 @@ holds-says o t h =
     record { tid = eqb-true (t .tid) (o .tid) (b .0); uid = eqb-true (t .uid) (o .uid) (c .0); permitted = c .1 }
 
 module _ (ts : List Tree) (o : Open) where
-  -- its file and access are among those listed, and a tree holds it
+  -- its file, access and sharing code are among those listed, and a tree holds it
   pub record OpenOk : Type 0 where
     pub file : leb (o .file) 15 ≡ true
     pub access : leb (o .access) 2 ≡ true
+    pub sharing : sharingOk (o .sharing) ≡ true
     pub held : any (holdsOpen o) ts ≡ true
 
   pub open-says : openOk ts o ≡ true → OpenOk
   unfolding openOk
   open-says h =
-      let b = both-hold (leb (o .file) 15) (leb (o .access) 2 && any (holdsOpen o) ts) h in
-      let c = both-hold (leb (o .access) 2) (any (holdsOpen o) ts) (b .1) in
-      record { file = b .0; access = c .0; held = c .1 }
+      let b = both-hold (leb (o .file) 15) (leb (o .access) 2 && (sharingOk (o .sharing) && any (holdsOpen o) ts)) h in
+      let c = both-hold (leb (o .access) 2) (sharingOk (o .sharing) && any (holdsOpen o) ts) (b .1) in
+      let d = both-hold (sharingOk (o .sharing)) (any (holdsOpen o) ts) (c .1) in
+      record { file = b .0; access = c .0; sharing = d .0; held = d .1 }
 
   pub open-ok : OpenOk → openOk ts o ≡ true
   unfolding openOk
   open-ok r =
-      hold-both (leb (o .file) 15) (leb (o .access) 2 && any (holdsOpen o) ts) (r .file)
-      (hold-both (leb (o .access) 2) (any (holdsOpen o) ts) (r .access) (r .held))
+      hold-both (leb (o .file) 15) (leb (o .access) 2 && (sharingOk (o .sharing) && any (holdsOpen o) ts)) (r .file)
+      (hold-both (leb (o .access) 2) (sharingOk (o .sharing) && any (holdsOpen o) ts) (r .access)
+      (hold-both (sharingOk (o .sharing)) (any (holdsOpen o) ts) (r .sharing) (r .held)))
 
 -- ---- a lock
 

@@ -1,7 +1,7 @@
 -- The tables' arrays have the room of document 01, "Tables and room": "Sessions 16 .. trees 32 .. opens 64 .. locks 128 ..
--- Files: 16". In code the types say so. Assumes nothing.
+-- Files: 16", and the catalogue that of 16 names (document 02, CR 6). In code the types say so. Assumes nothing.
 use mathlib.Core.Path.{_≡_, _∙_}
-use Prim.Native.Nat.{_≤_}
+use Prim.Native.Nat.{ℕ, _≤_}
 use mathlib.Core.List.{List}
 use lib.ListN.{length}
 use native.Mathlib.Omega.{arith}
@@ -13,8 +13,9 @@ use Rattle.records.specs.declared.Tree.{Tree}
 use Rattle.records.specs.declared.Open.{Open}
 use Rattle.records.specs.declared.Lock.{Lock}
 use Rattle.records.specs.declared.File.{File}
+use Rattle.records.specs.declared.Name.{Name}
 use Rattle.records.specs.declared.Tables.{Tables}
-use Rattle.records.specs.Held.{sessionsOf, treesOf, opensOf, locksOf, withSessions, withTrees, withOpens, withLocks, withFiles}
+use Rattle.records.specs.Held.{sessionsOf, treesOf, opensOf, locksOf, withSessions, withTrees, withOpens, withLocks, withFiles, withCatalogue}
 
 -- the arrays' lengths
 pub record Shaped (t : Tables) : Type 0 where
@@ -23,6 +24,7 @@ pub record Shaped (t : Tables) : Type 0 where
   pub opens64 : length (t .opens) ≡ 64
   pub locks128 : length (t .locks) ≡ 128
   pub files16 : length (t .files) ≡ 16
+  pub names16 : length (t .names) ≡ 16
 
 module _ (t : Tables) (s : Shaped t) where
   -- another list of sessions, for which there is room, leaves the lengths
@@ -37,6 +39,7 @@ module _ (t : Tables) (s : Shaped t) where
         opens64 = s .opens64;
         locks128 = s .locks128;
         files16 = s .files16;
+        names16 = s .names16;
       }
 
   -- another list of trees
@@ -51,6 +54,7 @@ module _ (t : Tables) (s : Shaped t) where
         opens64 = s .opens64;
         locks128 = s .locks128;
         files16 = s .files16;
+        names16 = s .names16;
       }
 
   -- another list of opens
@@ -65,6 +69,7 @@ module _ (t : Tables) (s : Shaped t) where
         opens64 = length-stored noOpen (t .opens) (t .nopens) l fits ∙ full;
         locks128 = s .locks128;
         files16 = s .files16;
+        names16 = s .names16;
       }
 
   -- another list of locks
@@ -79,13 +84,20 @@ module _ (t : Tables) (s : Shaped t) where
         opens64 = s .opens64;
         locks128 = length-stored noLock (t .locks) (t .nlocks) l fits ∙ full;
         files16 = s .files16;
+        names16 = s .names16;
       }
 
   -- another list of 16 files
   pub shaped-files : (l : List File) → length l ≡ 16 → Shaped (withFiles t l)
   unfolding withFiles
   shaped-files l h =
-      record { sessions16 = s .sessions16; trees32 = s .trees32; opens64 = s .opens64; locks128 = s .locks128; files16 = h }
+      record { sessions16 = s .sessions16; trees32 = s .trees32; opens64 = s .opens64; locks128 = s .locks128; files16 = h; names16 = s .names16 }
+
+  -- another catalogue of 16 records
+  pub shaped-names : (l : List Name) (count : ℕ) → length l ≡ 16 → Shaped (withCatalogue t l count)
+  unfolding withCatalogue
+  shaped-names l count h =
+      record { sessions16 = s .sessions16; trees32 = s .trees32; opens64 = s .opens64; locks128 = s .locks128; files16 = s .files16; names16 = h }
 
 -- tables with another list hold that list
 module _ (t : Tables) where

@@ -1,21 +1,23 @@
 -- Demand 1 for messages: "Every call on sound tables leaves sound tables" (document 01, "Tables and room"). Assumes nothing.
 use mathlib.Core.Path.{_≡_, refl, _∙_}
-use Prim.Native.Nat.{ℕ, max, _+_, _*_, _≤_}
+use Prim.Native.Nat.{ℕ, max, _+_, _*_, _≤_, _<_}
 use native.Mathlib.Omega.{arith}
-use mathlib.Core.Bool.{true, false}
-use mathlib.Core.List.{List, [], _∷_, map}
+use mathlib.Core.Bool.{true, false, _&&_}
+use mathlib.Core.List.{List, [], _∷_, _++_, map}
 use mathlib.Core.Option.{Option, none, some}
 use lib.ListN.{length, getD, set, length-set}
-use lib.Dec.{ltb, eqb}
-use borrow.Author.Tests.{leb-true, le-leb, ltb-false, eqb-true, eq-eqb}
-use Rattle.lists.specs.Walk.{found}
+use lib.Dec.{leb, ltb, eqb}
+use borrow.Author.Tests.{leb-true, leb-false, le-leb, ltb-false, eqb-true, eq-eqb}
+use Rattle.lists.specs.Walk.{all, found}
+use Rattle.lists.specs.RoomLaws.{held-more}
 use Rattle.lists.specs.Members.{all-each, one-any, all-set, in-map}
 use Rattle.lists.specs.Truth.{both-hold}
 use Rattle.lists.specs.declared.Found.the-variants.{At}
 use Rattle.records.specs.declared.Lock.{Lock}
+use Rattle.records.specs.declared.Name.{Name}
 use Rattle.records.specs.declared.Tables.{Tables}
-use Rattle.records.specs.Empty.{noOpen, noFile}
-use Rattle.records.specs.Held.{sessionsOf, treesOf, opensOf, locksOf, withLocks, withFiles}
+use Rattle.records.specs.Empty.{noOpen, noFile, noName}
+use Rattle.records.specs.Held.{sessionsOf, treesOf, opensOf, locksOf, namesOf, withOpens, withLocks, withFiles}
 use Rattle.numbers.specs.Number.{contains}
 use Rattle.numbers.specs.Column.{fidOf}
 use Rattle.locks.specs.Wire.{rangeSize}
@@ -23,13 +25,15 @@ use Rattle.locks.specs.Request.{rangesOf, Result, done as doneWith, refused as 
 use Rattle.locks.specs.declared.types.Request.{Request}
 use Rattle.locks.specs.declared.types.Outcome.the-variants.{Malformed}
 use Rattle.soundness.specs.File.{fileOf}
-use Rattle.soundness.specs.Sound.{sound, fileOk}
+use Rattle.catalogue.specs.Name.{isNamed, notZero, nameBytes, nameOk, noneDoubled, catalogueOk}
+use Rattle.soundness.specs.Sound.{sound, fileOk, sharingOk}
 use Rattle.removal.specs.Removal.{remove}
 use Rattle.removal.specs.declared.Gone.{Gone}
 use Rattle.removal.specs.declared.Gone.the-variants.{Session as UserGone, Tree as TreeGone, Open as OpenGone, Process as ProcessGone}
 use Rattle.invariants.specs.SoundParts.{Sound, LocksOk, sound-says, sound-lists}
 use Rattle.invariants.specs.RuleLaws.{open-says}
-use Rattle.invariants.specs.Shaped.{Shaped, shaped-locks, shaped-files, locks-with}
+use Rattle.invariants.specs.Shaped.{Shaped, shaped-opens, shaped-locks, shaped-files, locks-with}
+use Rattle.invariants.specs.HostSound.{added-sound}
 use Rattle.invariants.specs.RemovalSound.{remove-sound, remove-shaped}
 use Rattle.chain.specs.Layout.{headerCommand, FIRST}
 use Rattle.chain.specs.Chain.{blocks}
@@ -37,17 +41,19 @@ use Rattle.chain.specs.declared.block.LockingFields.{LockingFields}
 use Rattle.chain.specs.declared.block.ReadFields.{ReadFields}
 use Rattle.chain.specs.declared.block.WriteFields.{WriteFields}
 use Rattle.chain.specs.declared.block.RangeFields.{RangeFields}
+use Rattle.chain.specs.declared.block.OpenFields.{OpenFields}
 use Rattle.chain.specs.declared.block.Body.{Body}
-use Rattle.chain.specs.declared.block.Body.the-variants.{Locking as LockingBody, Read as ReadBody, Write as WriteBody, Close, Logoff, TreeDisconnect, ProcessExit, CoreRead as CoreReadBody, CoreWrite as CoreWriteBody, LockByteRange, UnlockByteRange}
+use Rattle.chain.specs.declared.block.Body.the-variants.{Locking as LockingBody, Read as ReadBody, Write as WriteBody, Close, Logoff, TreeDisconnect, ProcessExit, CoreRead as CoreReadBody, CoreWrite as CoreWriteBody, LockByteRange, UnlockByteRange, Open as OpenBody}
 use Rattle.chain.specs.declared.block.Block.{Block}
 use Rattle.message.specs.Caller.{callerOf}
 use Rattle.message.specs.declared.caller.Caller.{Caller}
 use Rattle.message.specs.Contents.{sizeOf, withSize, resized}
-use Rattle.message.specs.Command.{Given, Said, refused, done, isOpen, servedType, requestOf, withLockList, lockingEnd, lockingAfter, doLocking, doRead, endsPast, doWrite, asCore, oneRange, doRange, doSetSize, doCoreWrite, perform}
+use Rattle.message.specs.Command.{Given, Said, refused, done, isOpen, servedType, requestOf, withLockList, lockingEnd, lockingAfter, doLocking, doRead, endsPast, doWrite, asCore, oneRange, doRange, doSetSize, doCoreWrite, codesServed, openBy, doOpen, perform}
+use Rattle.message.specs.JustOpened.{NOBODY, bodyMeant}
 use Rattle.message.specs.Message.{areaOf, dataOf, Ran, after, afterGiven, run, served, onlyStatus, runChain, answered}
 use Rattle.message.specs.declared.refusal.Refusal.{Refusal}
 use Rattle.message.specs.declared.refusal.Refusal.the-variants.{NoAccess, LockType}
-use Rattle.invariants.specs.GivenCases.{cond-case, request-case, session-case, tree-case, open-case, barred-case, writing-case}
+use Rattle.invariants.specs.GivenCases.{cond-case, request-case, session-case, tree-case, open-case, barred-case, writing-case, Opening, opening-case}
 use Rattle.invariants.specs.FoundFacts.{Hit, found-hit, all-getD}
 use Rattle.invariants.specs.LockingSound.{release-ok, grant-ok}
 
@@ -116,7 +122,7 @@ module _ (t : Tables) (g : Good t) where
       record {
         sound = sound-lists (withLocks t list) (sessionsOf t) (treesOf t) (opensOf t) list refl refl refl (locks-with t list)
             (record { sessions-fit = r .sessions-fit; trees-fit = r .trees-fit; opens-fit = r .opens-fit; locks-fit = h })
-            (listed .sizes) (listed .records) ok;
+            (listed .sizes) (listed .records) ok (listed .catalogue);
         shaped = shaped-locks t (g .shaped) list h;
       }
 
@@ -144,7 +150,7 @@ module _ (t : Tables) (g : Good t) where
   sized-good file size h =
       record {
         sound = sound-lists (withSize t file size) (sessionsOf t) (treesOf t) (opensOf t) (locksOf t) refl refl refl refl
-            (listed .room) (all-set fileOk (t .files) file (record { size = size }) (listed .sizes) (le-leb size 4096 h)) (listed .records) (listed .locks);
+            (listed .room) (all-set fileOk (t .files) file (record { size = size }) (listed .sizes) (le-leb size 4096 h)) (listed .records) (listed .locks) (listed .catalogue);
         shaped = shaped-files t (g .shaped) (set (t .files) file (record { size = size })) (length-set (t .files) file (record { size = size }) ∙ g .shaped .files16);
       }
 
@@ -158,7 +164,32 @@ module _ (t : Tables) (g : Good t) where
       let most : sizeOf t file ≤ 4096 = size-most t file listed in
       sized-good file (max (sizeOf t file) (offset + count)) (omega arith))
 
-  -- ---- all eleven
+  -- ---- an open by name
+
+  -- the file that a name of the catalogue has is one of the 16
+  pub named-file : (k : ℕ) (name : List ℕ) → found (isNamed name) (namesOf t) ≡ At k → leb (getD (namesOf t) k noName .file) 15 ≡ true
+  unfolding catalogueOk nameOk
+  named-file k name e =
+      let n : Name = getD (namesOf t) k noName in
+      let rules = both-hold (leb (t .nnames) 16) (all nameOk (namesOf t) && noneDoubled (namesOf t)) (listed .catalogue) .1 in
+      let each = all-each nameOk (found-hit (isNamed name) (namesOf t) k noName e .listed) (both-hold (all nameOk (namesOf t)) (noneDoubled (namesOf t)) rules .0) in
+      let upper = both-hold (leb 1 (getD (namesOf t) k noName .length)) _ each .1 in
+      let bytes = both-hold (leb (getD (namesOf t) k noName .length) 12) _ upper .1 in
+      both-hold (all notZero (nameBytes (getD (namesOf t) k noName))) (leb (getD (namesOf t) k noName .file) 15) bytes .1
+
+  opened-good : (c : Caller) (f : OpenFields) (name : List ℕ) (k : ℕ) → Opening c t f name k
+      → Good (withOpens t (opensOf t ++ (openBy c t f (getD (namesOf t) k noName .file) ∷ [])))
+  unfolding openBy codesServed
+  opened-good c f name k p =
+      let codes = both-hold (leb (f .access) 2) (sharingOk (f .sharing)) (p .codes) in
+      let room : t .nopens < 64 = leb-false 64 (t .nopens) (p .room) in
+      record {
+        sound = added-sound t listed (c .uid) (c .tid) (c .process) (getD (namesOf t) k noName .file) (f .access) (f .sharing)
+            (record { file = named-file k name (p .named); access = codes .0; sharing = codes .1; held = p .held }) room;
+        shaped = shaped-opens t (g .shaped) _ (held-more (t .nopens) (t .opens) 64 room _);
+      }
+
+  -- ---- all twelve
 
   module _ (c : Caller) (memory : List ℕ) where
     locking-keeps : (f : LockingFields) (area : List ℕ) → Keeps (doLocking c t memory f area)
@@ -196,6 +227,11 @@ module _ (t : Tables) (g : Good t) where
     unfolding doRange
     range-keeps f unlocks locks = core-keeps (locking-keeps (oneRange f unlocks locks) _)
 
+    open-keeps : (f : OpenFields) (name : List ℕ) → Keeps (doOpen c t memory f name)
+    open-keeps f name =
+        opening-case Keeps c t memory f name keeps-refused keeps-refused keeps-refused keeps-refused keeps-refused keeps-refused keeps-refused keeps-refused
+        (λ k p. keeps-done (opened-good c f name k p))
+
     -- a removal
     gone-good : (gone : Gone) → Good (remove gone t)
     gone-good gone = record { sound = remove-sound gone t (g .sound); shaped = remove-shaped gone t (g .shaped) (g .sound) }
@@ -214,26 +250,27 @@ module _ (t : Tables) (g : Good t) where
     perform-keeps (CoreWriteBody f) area bytes = core-write-keeps f _
     perform-keeps (LockByteRange f) area bytes = range-keeps f 0 1
     perform-keeps (UnlockByteRange f) area bytes = range-keeps f 1 0
+    perform-keeps (OpenBody f) area bytes = open-keeps f _
 
 -- ---- a chain
 
-after-keeps : {d : Given} → Keeps d → (bs : List Block) (place : ℕ) (t : Tables) (memory : List ℕ) (rest : ℕ → Tables → List ℕ → Ran) → Good t
-    → ((p : ℕ) (u : Tables) (m : List ℕ) → Good u → Good (rest p u m .tables)) → Good (afterGiven d bs place t memory rest .tables)
+after-keeps : {d : Given} → Keeps d → (bs : List Block) (place : ℕ) (t : Tables) (memory : List ℕ) (rest : ℕ → ℕ → Tables → List ℕ → Ran) → Good t
+    → ((j p : ℕ) (u : Tables) (m : List ℕ) → Good u → Good (rest j p u m .tables)) → Good (afterGiven d bs place t memory rest .tables)
 unfolding afterGiven after
 after-keeps keeps-refused bs place t memory rest g f = g
-after-keeps (keeps-done h) bs place t memory rest g f = f _ _ _ h
+after-keeps (keeps-done h) bs place t memory rest g f = f _ _ _ _ h
 
 -- "command by command": each leaves good tables
-pub run-keeps : (c : Caller) (s : List ℕ) (bs : List Block) (place : ℕ) (t : Tables) (memory : List ℕ) → Good t → Good (run c s bs place t memory .tables)
+pub run-keeps : (c : Caller) (s : List ℕ) (just : ℕ) (bs : List Block) (place : ℕ) (t : Tables) (memory : List ℕ) → Good t → Good (run c s just bs place t memory .tables)
 unfolding run
-run-keeps c s [] place t memory g = g
-run-keeps c s (b ∷ bs) place t memory g =
-    after-keeps (perform-keeps t g c memory (b .body) (areaOf s b) (dataOf s b)) bs place t memory _ g (λ p u m h. run-keeps c s bs p u m h)
+run-keeps c s just [] place t memory g = g
+run-keeps c s just (b ∷ bs) place t memory g =
+    after-keeps (perform-keeps t g c memory (bodyMeant just (b .body)) (areaOf s b) (dataOf s b)) bs place t memory _ g (λ j p u m h. run-keeps c s j bs p u m h)
 
 chain-keeps : (c : Caller) (s : List ℕ) (o : Option (List Block)) (t : Tables) (memory : List ℕ) → Good t → Good (runChain c s o t memory .tables)
 unfolding runChain onlyStatus
 chain-keeps c s none t memory g = g
-chain-keeps c s (some bs) t memory g = run-keeps c s bs FIRST t memory g
+chain-keeps c s (some bs) t memory g = run-keeps c s NOBODY bs FIRST t memory g
 
 -- "Every call on sound tables leaves sound tables": a message does, whatever its bytes
 pub answered-good : (connection : ℕ) (s : List ℕ) (t : Tables) (memory : List ℕ) → Good t → Good (answered connection s t memory .tables)

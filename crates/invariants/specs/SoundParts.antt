@@ -15,6 +15,7 @@ use Rattle.records.specs.declared.Tables.{Tables}
 use Rattle.records.specs.Held.{sessionsOf, treesOf, opensOf, locksOf}
 use Rattle.numbers.specs.Number.{numbered}
 use Rattle.numbers.specs.Column.{uidOf, tidOf, fidOf}
+use Rattle.catalogue.specs.Name.{catalogueOk}
 use Rattle.soundness.specs.File.{fileOf}
 use Rattle.soundness.specs.SoundLaws.{Room, room}
 use Rattle.soundness.specs.Sound.{sound, soundRecords, soundLocks, withinRoom, fileOk, treeOk, openOk, lockOk, agreeAll}
@@ -39,6 +40,7 @@ pub record Sound (t : Tables) : Type 0 where
   pub sizes : all fileOk (t .files) ≡ true
   pub records : RecordsOk (sessionsOf t) (treesOf t) (opensOf t)
   pub locks : LocksOk (opensOf t) (locksOf t)
+  pub catalogue : catalogueOk (t .names) (t .nnames) ≡ true
 
 module _ (a b c d : ℕ) where
   room-ok : Room a b c d → withinRoom a b c d ≡ true
@@ -100,32 +102,39 @@ module _ (t : Tables) where
   abbrev locksTest : Bool
   locksTest = soundLocks (opensOf t) (locksOf t)
 
+  abbrev catalogueTest : Bool
+  catalogueTest = catalogueOk (t .names) (t .nnames)
+
   -- sound tables obey each rule
   pub sound-says : sound t ≡ true → Sound t
   unfolding sound
   sound-says e =
-      let f = both-hold roomTest (all fileOk (t .files) && (recordsTest && locksTest)) e in
-      let g = both-hold (all fileOk (t .files)) (recordsTest && locksTest) (f .1) in
-      let h = both-hold recordsTest locksTest (g .1) in
+      let f = both-hold roomTest (all fileOk (t .files) && (recordsTest && (locksTest && catalogueTest))) e in
+      let g = both-hold (all fileOk (t .files)) (recordsTest && (locksTest && catalogueTest)) (f .1) in
+      let h = both-hold recordsTest (locksTest && catalogueTest) (g .1) in
+      let i = both-hold locksTest catalogueTest (h .1) in
       record {
         room = room (t .nsessions) (t .ntrees) (t .nopens) (t .nlocks) (f .0);
         sizes = g .0;
         records = records-says (sessionsOf t) (treesOf t) (opensOf t) (h .0);
-        locks = locks-says (opensOf t) (locksOf t) (h .1);
+        locks = locks-says (opensOf t) (locksOf t) (i .0);
+        catalogue = i .1;
       }
 
   -- tables that obey each rule are sound
   pub sound-ok : Sound t → sound t ≡ true
   unfolding sound
   sound-ok s =
-      hold-both roomTest (all fileOk (t .files) && (recordsTest && locksTest))
+      hold-both roomTest (all fileOk (t .files) && (recordsTest && (locksTest && catalogueTest)))
       (room-ok (t .nsessions) (t .ntrees) (t .nopens) (t .nlocks) (s .room))
-      (hold-both (all fileOk (t .files)) (recordsTest && locksTest) (s .sizes)
-      (hold-both recordsTest locksTest (records-ok (sessionsOf t) (treesOf t) (opensOf t) (s .records)) (locks-ok (opensOf t) (locksOf t) (s .locks))))
+      (hold-both (all fileOk (t .files)) (recordsTest && (locksTest && catalogueTest)) (s .sizes)
+      (hold-both recordsTest (locksTest && catalogueTest) (records-ok (sessionsOf t) (treesOf t) (opensOf t) (s .records))
+      (hold-both locksTest catalogueTest (locks-ok (opensOf t) (locksOf t) (s .locks)) (s .catalogue))))
 
   -- the same, of lists that are known to be what the tables hold
   pub sound-lists : (ss : List Session) (ts : List Tree) (os : List Open) (ls : List Lock)
       → sessionsOf t ≡ ss → treesOf t ≡ ts → opensOf t ≡ os → locksOf t ≡ ls
-      → Room (t .nsessions) (t .ntrees) (t .nopens) (t .nlocks) → all fileOk (t .files) ≡ true → RecordsOk ss ts os → LocksOk os ls → sound t ≡ true
-  sound-lists ss ts os ls a b c d room sizes records locks =
-      sound-ok (record { room = room; sizes = sizes; records = rw (a, b, c) records; locks = rw (c, d) locks })
+      → Room (t .nsessions) (t .ntrees) (t .nopens) (t .nlocks) → all fileOk (t .files) ≡ true → RecordsOk ss ts os → LocksOk os ls
+      → catalogueOk (t .names) (t .nnames) ≡ true → sound t ≡ true
+  sound-lists ss ts os ls a b c d room sizes records locks catalogue =
+      sound-ok (record { room = room; sizes = sizes; records = rw (a, b, c) records; locks = rw (c, d) locks; catalogue = catalogue })
