@@ -15,7 +15,7 @@ use Rattle.chain.specs.ChainLaws.{chain-end}
 use Rattle.readings.specs.Moved.{Moved, movedBody, moved-block, moved-body, moved-size}
 
 -- "with AndXCommand 0xFF where it has one": nothing follows
-alone-link : (t : List ℕ) (at : ℕ) {command : ℕ} → Served command → (NamedAndx command → andxCommand t at ≡ NO_COMMAND) → Linked t command at End
+pub alone-link : (t : List ℕ) (at : ℕ) {command : ℕ} → Served command → (NamedAndx command → andxCommand t at ≡ NO_COMMAND) → Linked t command at End
 alone-link t at (plain p) e = link-plain p
 alone-link t at (andx a) e = link-end a (e a)
 

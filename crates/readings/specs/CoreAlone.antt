@@ -1,12 +1,12 @@
 -- Where the core commands stand (document 02, CR 3): "Each stands alone in a message, save that READ and WRITE may end a chain after LOCKING_ANDX." It is said
--- of readings, so by the grammar. That MayFollow has eight pairs and no other: literals/specs/Successions.antt. Assumes nothing.
+-- of readings, so by the grammar. That MayFollow has nine pairs and no other: literals/specs/Successions.antt. Assumes nothing.
 use mathlib.Core.Path.{_≡_, refl, sym, ap, _∙_}
 use mathlib.Core.Logic.{_↔_}
 use Prim.Native.Nat.{ℕ, _≤_}
 use native.Mathlib.Omega.{arith}
 use mathlib.Core.List.{List, [], _∷_, List·Memᴰ as In, List·Memᴰ·head as first, List·Memᴰ·tail as later}
 use Rattle.chain.specs.Layout.{LOCKING, CORE-READ, CORE-WRITE, LOCK_BYTE_RANGE, UNLOCK_BYTE_RANGE, headerCommand, FIRST, blockEnd, andxCommand, andxOffset}
-use Rattle.chain.specs.Grammar.{IsBlock, MayFollow, locking-read, locking-write, locking-core-read, locking-core-write, read-close, write-write, write-read, write-close, Plain, core-read-plain, core-write-plain, lock-byte-range-plain, unlock-byte-range-plain, Span, spanAt, ReadingFrom, plain-end, andx-end, andx-next, Reading}
+use Rattle.chain.specs.Grammar.{IsBlock, MayFollow, locking-read, locking-write, locking-core-read, locking-core-write, read-close, write-write, write-read, write-close, open-read, Plain, core-read-plain, core-write-plain, lock-byte-range-plain, unlock-byte-range-plain, Span, spanAt, ReadingFrom, plain-end, andx-end, andx-next, Reading}
 use Rattle.invariants.specs.BlockParse.{follow-andx, plain-not-andx}
 
 -- "READ 0x0A, WRITE 0x0B, LOCK_BYTE_RANGE 0x0C and UNLOCK_BYTE_RANGE 0x0D": those that may end a chain, and all four
@@ -51,6 +51,7 @@ core-behind read-close c = absurd (not-core c .0 refl)
 core-behind write-write c = absurd (not-core c .2 refl)
 core-behind write-read c = absurd (not-core c .1 refl)
 core-behind write-close c = absurd (not-core c .0 refl)
+core-behind open-read c = absurd (not-core c .1 refl)
 
 behind-core : {next : ℕ} → EndsChain next → MayFollow LOCKING next
 behind-core ends-read = locking-core-read
@@ -70,6 +71,7 @@ locking-first read-close e = omega arith
 locking-first write-write e = omega arith
 locking-first write-read e = omega arith
 locking-first write-close e = omega arith
+locking-first open-read e = omega arith
 
 -- ---- of readings
 

@@ -11,7 +11,7 @@ use Rattle.chain.specs.Layout.{NO_COMMAND, headerCommand, wordCount, blockEnd, 
 use Rattle.chain.specs.Grammar.{IsBlock, MayFollow, NamedAndx, Span, spanAt, ReadingFrom, plain-end, andx-end, andx-next, Reading}
 use Rattle.chain.specs.Chain.{before, blocksFrom, blocks}
 use Rattle.chain.specs.declared.block.Body.{Body}
-use Rattle.chain.specs.declared.block.Body.the-variants.{Locking, Read, Write, Close, Logoff, TreeDisconnect, ProcessExit, CoreRead, CoreWrite, LockByteRange, UnlockByteRange}
+use Rattle.chain.specs.declared.block.Body.the-variants.{Locking, Read, Write, Close, Logoff, TreeDisconnect, ProcessExit, CoreRead, CoreWrite, LockByteRange, UnlockByteRange, Open}
 use Rattle.chain.specs.declared.block.Next.{Next}
 use Rattle.chain.specs.declared.block.Next.the-variants.{End, Follow}
 use Rattle.chain.specs.declared.block.Block.{Block}
@@ -53,6 +53,7 @@ moved-nowhere at (CoreRead f) = refl
 moved-nowhere at (CoreWrite f) = let e : f .from + at - at ≡ f .from = omega arith in rw e
 moved-nowhere at (LockByteRange f) = refl
 moved-nowhere at (UnlockByteRange f) = refl
+moved-nowhere at (Open f) = refl
 
 module _ {s t : List ℕ} {command at : ℕ} (h : IsBlock s at command) (alike : Alike s t (spanAt s command at)) where
   -- its bytes that are looked at

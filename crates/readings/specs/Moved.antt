@@ -11,15 +11,15 @@ use lib.ListN.{length}
 use lib.Dec.{eqb}
 use borrow.Author.Tests.{eqb-true}
 use Rattle.wire.specs.LittleEndian.{byteAt, le16At, le32At}
-use Rattle.chain.specs.Layout.{CLOSE, PROCESS_EXIT, LOCKING, READ, WRITE, CORE-READ, CORE-WRITE, LOCK_BYTE_RANGE, UNLOCK_BYTE_RANGE, wordCount, byteArea, byteCount, blockEnd, fidAfterAndx, lockType, unlockCount, lockCount, offsetLow, readMax, readOffsetHigh, dataLength, dataOffset, writeOffsetHigh, firstFid, coreCount, coreOffset, dataMark, markedLength, rangeLength, rangeOffset}
-use Rattle.chain.specs.Grammar.{Shape, Bare, Ranges, Data, MarkedData, IsBlock, locking-10, locking-20, read-10, read-12, write-12, write-14, close, logoff, tree-disconnect, process-exit, core-read, core-write, lock-byte-range, unlock-byte-range, NamedAndx, locking-andx, read-andx, write-andx, Plain, close-plain, tree-disconnect-plain, process-exit-plain, core-read-plain, core-write-plain, lock-byte-range-plain, unlock-byte-range-plain}
+use Rattle.chain.specs.Layout.{CLOSE, PROCESS_EXIT, LOCKING, READ, WRITE, CORE-READ, CORE-WRITE, LOCK_BYTE_RANGE, UNLOCK_BYTE_RANGE, OPEN, wordCount, byteArea, byteCount, blockEnd, areaByte, fidAfterAndx, lockType, unlockCount, lockCount, offsetLow, readMax, readOffsetHigh, dataLength, dataOffset, writeOffsetHigh, firstFid, coreCount, coreOffset, dataMark, markedLength, rangeLength, rangeOffset, openFlags, accessMode, openMode}
+use Rattle.chain.specs.Grammar.{Shape, Bare, Ranges, Data, MarkedData, Name, IsBlock, locking-10, locking-20, read-10, read-12, write-12, write-14, close, logoff, tree-disconnect, process-exit, core-read, core-write, lock-byte-range, unlock-byte-range, open-15, NamedAndx, locking-andx, read-andx, write-andx, Plain, close-plain, tree-disconnect-plain, process-exit-plain, core-read-plain, core-write-plain, lock-byte-range-plain, unlock-byte-range-plain}
 use Rattle.chain.specs.Parse.{wideOffset, rangeFields}
 use Rattle.chain.specs.declared.block.Body.{Body}
-use Rattle.chain.specs.declared.block.Body.the-variants.{Locking, Read, Write, Close, Logoff, TreeDisconnect, ProcessExit, CoreRead, CoreWrite, LockByteRange, UnlockByteRange}
+use Rattle.chain.specs.declared.block.Body.the-variants.{Locking, Read, Write, Close, Logoff, TreeDisconnect, ProcessExit, CoreRead, CoreWrite, LockByteRange, UnlockByteRange, Open}
 use Rattle.invariants.specs.BlockParse.{bodyAt, plain-not-andx, andx-words, blockSize}
 use Rattle.readings.specs.SameNumbers.{SameBytes, same-16, same-32}
 use Rattle.readings.specs.Unread.{UnreadWord, Unread}
-use Rattle.readings.specs.UnreadLaws.{in-words, unread-locking, unread-read, unread-write, unread-core, range-read, unread-front, unread-andx, unread-before-count, marked-looked}
+use Rattle.readings.specs.UnreadLaws.{in-words, unread-locking, unread-read, unread-write, unread-core, range-read, unread-front, unread-fid, open-looked, unread-before-count, marked-looked, name-looked}
 
 -- The bytes of a block that stay as they are, counted from its start: all of a request not named ANDX; of the others all but
 -- the four AndX words' bytes, 1 to 4, and of a WRITE block all but these and its DataOffset's bytes, 23 and 24.
@@ -54,6 +54,7 @@ movedBody at to (CoreRead f) = CoreRead f
 movedBody at to (CoreWrite f) = CoreWrite (record { fid = f .fid; offset = f .offset; count = f .count; from = f .from + to - at })
 movedBody at to (LockByteRange f) = LockByteRange f
 movedBody at to (UnlockByteRange f) = UnlockByteRange f
+movedBody at to (Open f) = Open f
 
 -- an offset of 32 or 64 bits: the upper half counts only where the block has it
 wide-same : (low low′ high high′ : ℕ) (wide : Bool) → low ≡ low′ → (wide ≡ true → high ≡ high′) → wideOffset low high wide ≡ wideOffset low′ high′ wide
@@ -77,6 +78,7 @@ bytes-kept (core-read h) k e = kept-plain core-read-plain
 bytes-kept (core-write h) k e = kept-plain core-write-plain
 bytes-kept (lock-byte-range h) k e = kept-plain lock-byte-range-plain
 bytes-kept (unlock-byte-range h) k e = kept-plain unlock-byte-range-plain
+bytes-kept (open-15 h) k e = kept-not-write {k = k} (omega arith) (omega arith)
 
 module _ {s : List ℕ} {at : ℕ} {t : List ℕ} {to : ℕ} {command : ℕ} (m : Moved s at t to command) where
   -- bytes that are kept
@@ -114,8 +116,8 @@ module _ {s : List ℕ} {at : ℕ} {t : List ℕ} {to : ℕ} {command : ℕ} (m 
       rw (add-zero to, add-zero at) at z
 
   -- the fields of the words, where there are so many words
-  pub moved-fid : NamedAndx command → 2 ≤ wordCount s at → fidAfterAndx t to ≡ fidAfterAndx s at
-  moved-fid a h = front-16 5 (omega arith) (omega arith) (omega arith) (λ i p q u. let w = unread-andx a u in omega arith)
+  pub moved-fid : NamedAndx command → (command ≡ OPEN → ⊥) → 2 ≤ wordCount s at → fidAfterAndx t to ≡ fidAfterAndx s at
+  moved-fid a n h = front-16 5 (omega arith) (omega arith) (omega arith) (λ i p q u. let w = unread-fid a n u in omega arith)
 
   pub moved-kind : command ≡ LOCKING → 3 ≤ wordCount s at → lockType t to ≡ lockType s at
   moved-kind c h = m .kept 7 (omega arith) (front-kept 7 (omega arith) (omega arith) (omega arith) (λ u. let w = unread-locking c u in omega arith))
@@ -134,6 +136,15 @@ module _ {s : List ℕ} {at : ℕ} {t : List ℕ} {to : ℕ} {command : ℕ} (m 
 
   pub moved-length : command ≡ WRITE → 10 ≤ wordCount s at → dataLength t to ≡ dataLength s at
   moved-length c h = front-16 21 (omega arith) (omega arith) (omega arith) (λ i p q u. let w = unread-write c u in omega arith)
+
+  pub moved-flags : command ≡ OPEN → 15 ≤ wordCount s at → openFlags t to ≡ openFlags s at
+  moved-flags c h = m .kept 5 (omega arith) (front-kept 5 (omega arith) (omega arith) (omega arith) (λ u. open-looked c u .0 refl))
+
+  pub moved-access : command ≡ OPEN → 15 ≤ wordCount s at → accessMode t to ≡ accessMode s at
+  moved-access c h = m .kept 7 (omega arith) (front-kept 7 (omega arith) (omega arith) (omega arith) (λ u. open-looked c u .1 refl))
+
+  pub moved-mode : command ≡ OPEN → 15 ≤ wordCount s at → openMode t to ≡ openMode s at
+  moved-mode c h = front-16 17 (omega arith) (omega arith) (omega arith) (λ i p q u. let a = open-looked c u .2 in let b = open-looked c u .3 in omega (arith, a, b))
 
   -- a byte of the words that is looked at, of a request not named ANDX
   plain-kept : Plain command → (k : ℕ) → at + k < byteArea s at → (UnreadWord command k → ⊥) → KeptRead s at command k
@@ -268,6 +279,20 @@ module _ {s : List ℕ} {at : ℕ} {t : List ℕ} {to : ℕ} {command : ℕ} (m 
         rw (e, g) (look (1 + j) (omega arith))) in
         record { shape = moved-shape (d .shape); marked = mark ∙ d .marked; agreed = rw (long, n) (d .agreed); filled = rw (moved-count, n) (d .filled) }
 
+    -- the name and its zero byte again
+    moved-name : command ≡ OPEN → Name s at → Name t to
+    moved-name c d =
+        let w : wordCount s at ≡ 15 = d .shape .counted in
+        let look : (k : ℕ) → k < byteCount s at → areaByte t to k ≡ areaByte s at k =
+        λ k l. moved-bytes k l (name-looked c (omega arith)) in
+        let some = d .some in
+        record {
+          shape = moved-shape (d .shape);
+          some = rw moved-count (d .some);
+          ends = rw moved-count (look (byteCount s at - 1) (omega arith) ∙ d .ends);
+          only = λ k l z. let i : k + 1 < byteCount s at = rw moved-count at l in d .only k i (rw (look k (omega arith)) at z);
+        }
+
 -- "each block in turn makes a message ..., then the block at 32": a block that moved is a block by the same row of the table
 pub moved-block : {s : List ℕ} {at : ℕ} {t : List ℕ} {to command : ℕ} → IsBlock s at command → Moved s at t to command → IsBlock t to command
 moved-block {s} {at} (locking-10 p h) m =
@@ -288,19 +313,20 @@ moved-block (core-read h) m = core-read (moved-bare m (core-read h) h)
 moved-block (core-write h) m = core-write (moved-marked m (core-write h) refl h)
 moved-block (lock-byte-range h) m = lock-byte-range (moved-bare m (lock-byte-range h) h)
 moved-block (unlock-byte-range h) m = unlock-byte-range (moved-bare m (unlock-byte-range h) h)
+moved-block (open-15 h) m = open-15 (moved-name m (open-15 h) refl h)
 
 -- a LOCKING block's fields
 moved-locking-body : {s : List ℕ} {at : ℕ} {t : List ℕ} {to : ℕ} → wordCount s at ≡ 8 → Moved s at t to LOCKING
     → bodyAt t LOCKING to ≡ movedBody at to (bodyAt s LOCKING at)
 unfolding bodyAt movedBody
 moved-locking-body w m =
-    rw (moved-fid m locking-andx (omega arith), moved-kind m refl (omega arith), moved-unlocks m refl (omega arith), moved-locks m refl (omega arith))
+    rw (moved-fid m locking-andx (λ e. omega arith) (omega arith), moved-kind m refl (omega arith), moved-unlocks m refl (omega arith), moved-locks m refl (omega arith))
 
 -- a READ block's
 moved-read-body : {s : List ℕ} {at : ℕ} {t : List ℕ} {to : ℕ} → 10 ≤ wordCount s at → Moved s at t to READ
     → bodyAt t READ to ≡ movedBody at to (bodyAt s READ at)
 unfolding bodyAt movedBody
-moved-read-body w m = rw (moved-fid m read-andx (omega arith), moved-read-offset m refl (omega arith), moved-max m refl (omega arith))
+moved-read-body w m = rw (moved-fid m read-andx (λ e. omega arith) (omega arith), moved-read-offset m refl (omega arith), moved-max m refl (omega arith))
 
 -- a WRITE block's, with the data's place moved
 moved-write-body : {s : List ℕ} {at : ℕ} {t : List ℕ} {to words : ℕ} → 12 ≤ wordCount s at → Data s at words → Moved s at t to WRITE
@@ -310,7 +336,7 @@ moved-write-body {s} {at} {t} {to} w d m =
     let o : dataOffset t to + at ≡ dataOffset s at + to = m .data-moved refl in
     let b : byteArea s at ≤ dataOffset s at = d .starts in
     let e : dataOffset t to ≡ dataOffset s at + to - at = omega arith in
-    rw (moved-fid m write-andx (omega arith), moved-write-offset m refl (omega arith), moved-length m refl (omega arith), e)
+    rw (moved-fid m write-andx (λ e. omega arith) (omega arith), moved-write-offset m refl (omega arith), moved-length m refl (omega arith), e)
 
 -- a CLOSE block's
 moved-close-body : {s : List ℕ} {at : ℕ} {t : List ℕ} {to : ℕ} → Moved s at t to CLOSE → bodyAt t CLOSE to ≡ movedBody at to (bodyAt s CLOSE at)
@@ -338,6 +364,11 @@ moved-range : {s : List ℕ} {at : ℕ} {t : List ℕ} {to command : ℕ} → Pl
 moved-range p a b w m =
     rw (moved-first-fid m p, moved-range-offset m p (omega arith) (omega arith) w (λ k u. range-read a b u), moved-range-count m p (omega arith) (omega arith) w)
 
+-- an OPEN block's
+moved-open-body : {s : List ℕ} {at : ℕ} {t : List ℕ} {to : ℕ} → wordCount s at ≡ 15 → Moved s at t to OPEN → bodyAt t OPEN to ≡ movedBody at to (bodyAt s OPEN at)
+unfolding bodyAt movedBody
+moved-open-body w m = rw (moved-flags m refl (omega arith), moved-access m refl (omega arith), moved-mode m refl (omega arith))
+
 -- the fields that the reader yields are the same, and those of a WRITE block with the data's place moved
 pub moved-body : {s : List ℕ} {at : ℕ} {t : List ℕ} {to command : ℕ} → IsBlock s at command → Moved s at t to command
     → bodyAt t command to ≡ movedBody at to (bodyAt s command at)
@@ -356,3 +387,4 @@ moved-body (core-read h) m = moved-core-read-body (h .shape .counted) m
 moved-body (core-write h) m = moved-core-write-body (h .shape .counted) m
 moved-body (lock-byte-range h) m = ap LockByteRange (moved-range lock-byte-range-plain (omega arith) (omega arith) (h .shape .counted) m)
 moved-body (unlock-byte-range h) m = ap UnlockByteRange (moved-range unlock-byte-range-plain (omega arith) (omega arith) (h .shape .counted) m)
+moved-body (open-15 h) m = moved-open-body (h .shape .counted) m

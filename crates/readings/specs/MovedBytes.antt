@@ -1,4 +1,4 @@
--- The ranges of a block that stands at another place are the same, a WRITE block's data is the same part of a message, and so is a core WRITE's data block.
+-- The ranges of a block that stands at another place are the same, a WRITE block's data is the same part of a message, and so are a core WRITE's data block and an OPEN's name.
 -- Assumes nothing.
 use mathlib.Core.Path.{_≡_, refl, sym, _∙_, ap}
 use Prim.Native.Nat.{ℕ, _+_, _-_, _*_, _≤_, _<_}
@@ -9,12 +9,12 @@ use lib.ListN.{length, take, drop, length-drop}
 use lib.Seq.{length-take-le, getD-take, getD-drop, ext-getD}
 use Rattle.wire.specs.LittleEndian.{byteAt}
 use Rattle.locks.specs.Wire.{rangeSize, rangesAt}
-use Rattle.chain.specs.Layout.{LOCKING, WRITE, CORE-WRITE, wordCount, byteArea, byteCount, blockEnd, lockType, unlockCount, lockCount, dataLength, dataOffset}
+use Rattle.chain.specs.Layout.{LOCKING, WRITE, CORE-WRITE, OPEN, wordCount, byteArea, byteCount, blockEnd, lockType, unlockCount, lockCount, dataLength, dataOffset}
 use Rattle.chain.specs.Grammar.{IsBlock, Ranges, Data}
 use Rattle.chain.specs.Parse.{isLarge}
 use Rattle.invariants.specs.BlockParse.{block-inside, write-words, blockSize}
 use Rattle.readings.specs.Unread.{Unread}
-use Rattle.readings.specs.UnreadLaws.{range-looked, marked-looked, data-looked}
+use Rattle.readings.specs.UnreadLaws.{range-looked, marked-looked, name-looked, data-looked}
 use Rattle.readings.specs.RangeBytes.{ranges-same}
 use Rattle.readings.specs.Moved.{Moved, moved-bytes, moved-count, moved-end, moved-area, moved-length}
 
@@ -85,12 +85,19 @@ module _ {s : List ℕ} {at : ℕ} {t : List ℕ} {to : ℕ} {command : ℕ} (m 
       moved-area-byte (i * rangeSize large + j) (within large i j (unlockCount s at + lockCount s at) (byteCount s at) u (omega arith) l)
       (range-looked large i j w b l pad (omega arith) c))
 
-  -- a core WRITE's byte area is the same: all of its data block is looked at
-  pub moved-marked-area : command ≡ CORE-WRITE → wordCount s at ≡ 5 → areaAt t to ≡ areaAt s at
-  moved-marked-area c w =
+  -- a byte area that is looked at whole is the same
+  whole-area : ((k : ℕ) → Unread s at command (3 + 2 * wordCount s at + k) → ⊥) → areaAt t to ≡ areaAt s at
+  whole-area looked =
       let n : length (areaAt s at) ≡ byteCount s at = length-part s (byteArea s at) (byteCount s at) (block-inside h) in
       ext-getD 0 (areaAt t to) (areaAt s at) moved-area-length
-      (λ k b. let l : k < byteCount s at = rw (moved-area-length ∙ n) at b in moved-area-byte k l (marked-looked c (omega arith)))
+      (λ k b. let l : k < byteCount s at = rw (moved-area-length ∙ n) at b in moved-area-byte k l (looked k))
+
+  -- a core WRITE's data block, and an OPEN's name with its zero byte
+  pub moved-marked-area : command ≡ CORE-WRITE → wordCount s at ≡ 5 → areaAt t to ≡ areaAt s at
+  moved-marked-area c w = whole-area (λ k. marked-looked c (omega arith))
+
+  pub moved-name-area : command ≡ OPEN → wordCount s at ≡ 15 → areaAt t to ≡ areaAt s at
+  moved-name-area c w = whole-area (λ k. name-looked c (omega arith))
 
 module _ {s : List ℕ} {at : ℕ} {t : List ℕ} {to words : ℕ} (m : Moved s at t to WRITE) (h : IsBlock s at WRITE) (d : Data s at words) where
   -- "For a write, DataOffset is not before the byte area": its data's bytes, one by one

@@ -1,9 +1,9 @@
--- The bytes inside a block that are not looked at (document 01, "What the build serves" and "The grammar of a chain"; document 02, CR 3), counted
+-- The bytes inside a block that are not looked at (document 01, "What the build serves" and "The grammar of a chain"; document 02, CR 3 and CR 6), counted
 -- from the block's start, where WordCount stands. It cites the layout and the grammar alone. Assumes nothing.
 use mathlib.Core.Path.{_≡_}
 use Prim.Native.Nat.{ℕ, _+_, _*_, _/_, _%_, _≤_, _<_}
 use mathlib.Core.List.{List}
-use Rattle.chain.specs.Layout.{CLOSE, LOCKING, READ, WRITE, CORE-READ, CORE-WRITE, NO_COMMAND, byteArea, andxCommand, lockType, dataLength, dataOffset}
+use Rattle.chain.specs.Layout.{CLOSE, LOCKING, READ, WRITE, CORE-READ, CORE-WRITE, OPEN, NO_COMMAND, byteArea, andxCommand, lockType, dataLength, dataOffset}
 use Rattle.chain.specs.Grammar.{NamedAndx}
 
 -- Of the words, by the request: "Timeout fields are not looked at", and no rule names the fields beside them.
@@ -19,6 +19,11 @@ pub data UnreadWord (command k : ℕ) : Type 0 where
   -- the core READ and WRITE (source document 000): FID 2, count 2, offset 4, and the bytes that remain, 2, which are "advisory"
   core-read-word : command ≡ CORE-READ → 9 ≤ k → k < 11 → UnreadWord command k
   core-write-word : command ≡ CORE-WRITE → 9 ≤ k → k < 11 → UnreadWord command k
+  -- OPEN_ANDX: "Flags 2, AccessMode 2, SearchAttrs 2, FileAttrs 2, CreationTime 4, OpenMode 2, AllocationSize 4, Timeout 4, Reserved 4": of Flags and
+  -- AccessMode the upper byte ("Other AccessMode bits are ignored"), what stands between AccessMode and OpenMode, and what stands behind OpenMode
+  open-flags-word : command ≡ OPEN → k ≡ 6 → UnreadWord command k
+  open-access-word : command ≡ OPEN → 8 ≤ k → k < 17 → UnreadWord command k
+  open-size-word : command ≡ OPEN → 19 ≤ k → k < 31 → UnreadWord command k
 
 -- the k-th byte of the block at a place is not looked at
 pub data Unread (s : List ℕ) (at command k : ℕ) : Type 0 where
