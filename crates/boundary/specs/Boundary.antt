@@ -11,6 +11,7 @@ use Rattle.records.specs.declared.Tables.{Tables}
 use Rattle.soundness.specs.Sound.{sound}
 use Rattle.host.specs.declared.answer.Returned.{Returned}
 use Rattle.host.specs.HostCall.{addSession, addTree, addOpen, loadFile, loadMemory, dropConnection}
+use Rattle.host.specs.OnWords.{setOnSound}
 use Rattle.message.specs.Message.{Taken, notTaken, take-message}
 use Rattle.message.specs.declared.refusal.HeldBy.{HeldBy}
 use Rattle.message.specs.declared.refusal.HeldBy.the-variants.{Nobody, Holder as held-by}
@@ -66,6 +67,11 @@ loadNumberOf w file contents memory = cond (not (eqb (length memory) 65536)) 2 (
 unfoldable pub memoryAfter : List ℕ → ℕ → List ℕ → List ℕ → List ℕ
 memoryAfter w file contents memory =
     cond (isDone w (fileLoaded w file contents memory)) (loadMemory (tablesOf w) file contents memory) memory
+
+-- the catalogue (document 02, CR 6), 225 words in the form of the tables' own: a word of a name in use that is no byte is out of range as the
+-- catalogue's rules have it, 7 behind 4
+unfoldable pub catalogueSet : List ℕ → List ℕ → Returned
+catalogueSet w given = setOnSound w given
 
 -- ---- a message
 

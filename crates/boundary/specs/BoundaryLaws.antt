@@ -2,38 +2,41 @@
 -- Assumes nothing.
 use mathlib.Core.Path.{_≡_, refl, sym, ap, _∙_}
 use mathlib.Core.Logic.{⊎-elim}
-use Prim.Native.Nat.{ℕ}
-use mathlib.Core.Bool.{Bool, true, false, _&&_, false≢true}
+use Prim.Native.Nat.{ℕ, _≤_}
+use mathlib.Core.Bool.{Bool, true, false, not, _&&_, false≢true}
 use native.Mathlib.Omega.{arith}
 use mathlib.Core.List.{List}
 use lib.ListN.{length, replicate}
 use lib.Dec.{eqb}
 use borrow.Author.Tests.{eq-eqb, ne-eqb}
 use Rattle.host.specs.declared.answer.Returned.{Returned}
-use Rattle.host.specs.HostCall.{loadNumber, loadFile, loadMemory, refused, done, noTables}
+use Rattle.host.specs.HostCall.{loadNumber, loadFile, loadMemory, refused, done, noTables, setCatalogue}
+use Rattle.host.specs.OnWords.{onWords, setOnSound, setOnWords}
 use Rattle.lists.specs.Walk.{all}
 use Rattle.lists.specs.Truth.{decided, both-hold, hold-both}
 use Rattle.records.specs.declared.Tables.{Tables}
 use Rattle.soundness.specs.Sound.{sound}
 use Rattle.invariants.specs.Shaped.{Shaped}
 use Rattle.invariants.specs.Sound.{Good}
-use Rattle.invariants.specs.HostSound.{start-sound}
-use Rattle.tables.specs.Words.{word, part, upTo, arrayOf, sessionOf, treeOf, openOf, lockOf, fileOf, sessionArray, treeArray, openArray, lockArray, fileArray, tablesOf, recordsFit, inUseFit}
+use Rattle.invariants.specs.HostCases.{by-test, setCatalogue-either}
+use Rattle.invariants.specs.HostSound.{start-sound, setCatalogue-sound}
+use Rattle.tables.specs.Words.{word, part, upTo, arrayOf, sessionOf, treeOf, openOf, lockOf, nameOf, fileOf, sessionArray, treeArray, openArray, lockArray, nameArray, fileArray, tablesOf, nameLimits, recordsFit, tableFits, inUseFit}
 use Rattle.tables.specs.ArrayLaws.{length-upTo, length-array}
-use Rattle.boundary.specs.Boundary.{ready, ForNext, numberOf, isDone, idAfter, fileLoaded, loadNumberOf, memoryAfter}
+use Rattle.boundary.specs.Boundary.{ready, ForNext, numberOf, isDone, idAfter, fileLoaded, loadNumberOf, memoryAfter, catalogueSet}
 
 -- ---- the tables that words hold
 
 -- whatever the words are, they have the arrays' room
 pub words-shaped : (w : List ℕ) → Shaped (tablesOf w)
-unfolding tablesOf sessionArray treeArray openArray lockArray fileArray
+unfolding tablesOf sessionArray treeArray openArray lockArray fileArray nameArray
 words-shaped w =
     record {
       sessions16 = length-array sessionOf 2 16 (part w 0 33);
       trees32 = length-array treeOf 3 32 (part w 33 97);
-      opens64 = length-array openOf 6 64 (part w 130 385);
-      locks128 = length-array lockOf 5 128 (part w 515 641);
-      files16 = length-upTo (λ i. fileOf (word (part w 1156 16) i)) 16;
+      opens64 = length-array openOf 7 64 (part w 130 449);
+      locks128 = length-array lockOf 5 128 (part w 579 641);
+      files16 = length-upTo (λ i. fileOf (word (part w 1220 16) i)) 16;
+      names16 = length-array nameOf 14 16 (part w 1236 225);
     }
 
 pub words-good : (w : List ℕ) → sound (tablesOf w) ≡ true → Good (tablesOf w)
@@ -138,13 +141,78 @@ module _ (w : List ℕ) (file : ℕ) (contents memory : List ℕ) where
       ⊎-elim (λ q. done-memory e q) (λ q. core-refuses q ∙ refused-memory e q)
       (decided (eqb (loadFile (tablesOf w) file contents memory .number) 0))
 
+-- ---- a catalogue
+
+module _ (w given : List ℕ) where
+  -- the host call's answer on words is this one, where the words in use fit
+  pub set-on-words : setOnWords w given ≡ onWords w (catalogueSet w given)
+  unfolding setOnWords catalogueSet
+  set-on-words = refl
+
+  -- "Order: .. 4, 7"
+  pub set-unsound : sound (tablesOf w) ≡ false → catalogueSet w given ≡ refused 4 (tablesOf w)
+  unfolding catalogueSet setOnSound
+  set-unsound e = rw e
+
+  pub set-no-bytes : sound (tablesOf w) ≡ true → tableFits nameLimits 16 given ≡ false → catalogueSet w given ≡ refused 7 (tablesOf w)
+  unfolding catalogueSet setOnSound
+  set-no-bytes e fit = rw (e, fit)
+
+  core-unsound : sound (tablesOf w) ≡ false → setCatalogue (tablesOf w) (nameArray given) (word given 0) ≡ refused 4 (tablesOf w)
+  unfolding setCatalogue
+  core-unsound e = rw e
+
+  core-sound : sound (tablesOf w) ≡ true → tableFits nameLimits 16 given ≡ true
+      → catalogueSet w given ≡ setCatalogue (tablesOf w) (nameArray given) (word given 0)
+  unfolding catalogueSet setOnSound
+  core-sound e fit = rw (e, fit)
+
+  -- the core's own, where the words of the names in use are bytes
+  pub set-core : tableFits nameLimits 16 given ≡ true → catalogueSet w given ≡ setCatalogue (tablesOf w) (nameArray given) (word given 0)
+  set-core fit = ⊎-elim (λ e. core-sound e fit) (λ e. set-unsound e ∙ sym (core-unsound e)) (decided (sound (tablesOf w)))
+
+  -- done, it is the core's, of names whose words are bytes
+  pub set-done-fits : catalogueSet w given .number ≡ 0 → tableFits nameLimits 16 given ≡ true
+  unfolding refused
+  set-done-fits z =
+      ⊎-elim (λ fit. fit)
+      (λ fit.
+      absurd
+      (⊎-elim
+      (λ e. let seven : catalogueSet w given .number ≡ 7 = ap (λ (a : Returned). a .number) (set-no-bytes e fit) in let no : ⊥ = omega arith in no)
+      (λ e. let four : catalogueSet w given .number ≡ 4 = ap (λ (a : Returned). a .number) (set-unsound e) in let no : ⊥ = omega arith in no)
+      (decided (sound (tablesOf w)))))
+      (decided (tableFits nameLimits 16 given))
+
+  -- what holds of a refusal and of the core's answer holds of the call's
+  pub set-either : (P : Returned → Type 0) → ((n : ℕ) → 1 ≤ n → P (refused n (tablesOf w)))
+      → P (setCatalogue (tablesOf w) (nameArray given) (word given 0)) → P (catalogueSet w given)
+  unfolding catalogueSet setOnSound
+  set-either P turned core =
+      by-test P (not (sound (tablesOf w))) (refused 4 (tablesOf w)) _ (λ _. turned 4 (omega arith)) λ _.
+      by-test P (tableFits nameLimits 16 given) (setCatalogue (tablesOf w) (nameArray given) (word given 0)) (refused 7 (tablesOf w)) (λ _. core)
+      (λ _. turned 7 (omega arith))
+
+  -- "Every call on sound tables leaves sound tables"
+  pub set-sound : sound (tablesOf w) ≡ true → sound (catalogueSet w given .tables) ≡ true
+  unfolding refused
+  set-sound e =
+      set-either (λ a. sound (a .tables) ≡ true) (λ n some. e) (setCatalogue-sound (tablesOf w) e (nameArray given) (word given 0))
+
+  -- no number is given out
+  pub set-no-number : catalogueSet w given .id ≡ 0
+  unfolding refused done
+  set-no-number =
+      set-either (λ a. a .id ≡ 0) (λ n some. refl)
+      (setCatalogue-either (tablesOf w) (λ a. a .id ≡ 0) (λ n some. refl) (nameArray given) (word given 0) (λ _ _. refl))
+
 -- ---- tables to start from
 
 -- every word is 0
-pub empty-tables : tablesOf (replicate 1172 0) ≡ noTables
-unfolding tablesOf sessionArray treeArray openArray lockArray fileArray arrayOf upTo sessionOf treeOf openOf lockOf noTables
+pub empty-tables : tablesOf (replicate 1461 0) ≡ noTables
+unfolding tablesOf sessionArray treeArray openArray lockArray fileArray nameArray arrayOf upTo sessionOf treeOf openOf lockOf nameOf noTables
 empty-tables = refl
 
-pub empty-ready : ready (replicate 1172 0) ≡ true
+pub empty-ready : ready (replicate 1461 0) ≡ true
 unfolding inUseFit recordsFit all upTo
-empty-ready = ready-of (replicate 1172 0) noTables refl empty-tables start-sound
+empty-ready = ready-of (replicate 1461 0) noTables refl empty-tables start-sound
