@@ -9,7 +9,7 @@ use Rattle.message.specs.declared.caller.Caller.{Caller}
 use Rattle.message.specs.Command.{Given, refused, done, withOpen, coreSaid, asCore}
 use Rattle.message.specs.Given.{givenOf, inside, tablesAfter, memoryAfter, Gives}
 use Rattle.message.specs.declared.answer.Answer.{Answer}
-use Rattle.message.specs.declared.answer.Answer.the-variants.{Refused, Locked, LoggedOff, Read, Wrote, Plain, CoreRead, CoreWrote}
+use Rattle.message.specs.declared.answer.Answer.the-variants.{Refused, Locked, LoggedOff, Read, Wrote, Plain, CoreRead, CoreWrote, Opened}
 use Rattle.requests.specs.declared.who.NamedOpen.{NamedOpen}
 use Rattle.requests.specs.declared.who.NamedOpen.the-variants.{Open as Named, Refused as NotNamed}
 use Rattle.requests.specs.Leaves.{Leaves, performed}
@@ -24,6 +24,7 @@ coreAnswer (Wrote count) = CoreWrote count
 coreAnswer Plain = Plain
 coreAnswer (CoreRead place count) = CoreRead place count
 coreAnswer (CoreWrote count) = CoreWrote count
+coreAnswer (Opened fid size access results) = Opened fid size access results
 
 -- it means what the counterpart gives, in that block
 pub core-given : (a : Answer) (t : Tables) (memory : List ℕ) → givenOf (coreAnswer a) t memory ≡ asCore (givenOf a t memory)
@@ -36,6 +37,7 @@ core-given (Wrote count) t memory = refl
 core-given Plain t memory = refl
 core-given (CoreRead place count) t memory = refl
 core-given (CoreWrote count) t memory = refl
+core-given (Opened fid size access results) t memory = refl
 
 -- a READ's bytes lie in the file memory as before
 pub core-inside : (a : Answer) → inside (coreAnswer a) ≡ inside a
@@ -48,6 +50,7 @@ core-inside (Wrote count) = refl
 core-inside Plain = refl
 core-inside (CoreRead place count) = refl
 core-inside (CoreWrote count) = refl
+core-inside (Opened fid size access results) = refl
 
 -- the same tables and file memory are left
 core-tables : (d : Given) (t : Tables) → tablesAfter (asCore d) t ≡ tablesAfter d t

@@ -7,6 +7,7 @@ pub mod CorePart
 pub mod Steps
 pub mod ReadPart
 pub mod WritePart
+pub mod OpenPart
 pub mod BlockPart
 pub mod WorkPart
 pub mod Numbers

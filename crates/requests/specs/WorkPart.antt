@@ -9,18 +9,25 @@ use lib.Dec.{eqb}
 use Rattle.records.specs.declared.Tables.{Tables}
 use Rattle.chain.specs.Parse.{parse}
 use Rattle.chain.specs.declared.block.LockingFields.{LockingFields}
+use Rattle.chain.specs.declared.block.ReadFields.{ReadFields}
 use Rattle.chain.specs.declared.block.WriteFields.{WriteFields}
+use Rattle.chain.specs.declared.block.OpenFields.{OpenFields}
 use Rattle.chain.specs.declared.block.Body.{Body}
-use Rattle.chain.specs.declared.block.Body.the-variants.{Locking as LockingBody, Read as ReadBody, Write as WriteBody, Close as CloseBody, Logoff as LogoffBody, TreeDisconnect as DisconnectBody, ProcessExit as ExitBody, CoreRead, CoreWrite, LockByteRange, UnlockByteRange}
+use Rattle.chain.specs.declared.block.Body.the-variants.{Locking as LockingBody, Read as ReadBody, Write as WriteBody, Close as CloseBody, Logoff as LogoffBody, TreeDisconnect as DisconnectBody, ProcessExit as ExitBody, CoreRead, CoreWrite, LockByteRange, UnlockByteRange, Open as OpenBody}
 use Rattle.chain.specs.declared.block.Block.{Block}
 use Rattle.chain.specs.declared.block.Parsed.the-variants.{Whole}
 use Rattle.message.specs.declared.caller.Caller.{Caller}
-use Rattle.message.specs.Command.{Given, doLocking, doRead, doWrite, doSetSize, doRange, doCoreWrite, perform}
+use Rattle.message.specs.Command.{Given, doLocking, doRead, doWrite, doSetSize, doRange, doCoreWrite, nameAsked, doOpen, perform}
+use Rattle.message.specs.JustOpened.{fidMeant, bodyMeant}
 use Rattle.message.specs.Message.{areaOf, dataOf}
 use Rattle.requests.specs.declared.work.Work.{Work}
-use Rattle.requests.specs.declared.work.Work.the-variants.{Locking, Read, Write, Close, Logoff, TreeDisconnect, ProcessExit, SetSize, Range}
-use Rattle.requests.specs.BlockPart.{LockingPart, WritePart, CoreWritePart, Part, block-part, data-part}
+use Rattle.requests.specs.declared.work.Work.the-variants.{Locking, Read, Write, Close, Logoff, TreeDisconnect, ProcessExit, SetSize, Range, Open}
+use Rattle.requests.specs.BlockPart.{LockingPart, WritePart, CoreWritePart, OpeningPart, Part, part-meant, block-part, data-part}
 use Rattle.requests.specs.CorePart.{inForm}
+
+-- a READ with the FID that is meant: "FID 0xFFFF means the file just opened"
+unfoldable pub readMeant : ℕ → ReadFields → ReadFields
+readMeant just f = record { fid = fidMeant just (f .fid); offset = f .offset; max = f .max }
 
 -- "A core WRITE of count 0 sets the file's size to the offset"
 unfoldable pub coreWork : WriteFields → Work
@@ -38,6 +45,7 @@ workOf (CoreRead f) = Read f true
 workOf (CoreWrite f) = coreWork f
 workOf (LockByteRange f) = Range f 0 1
 workOf (UnlockByteRange f) = Range f 1 0
+workOf (OpenBody f) = Open f
 
 -- a core WRITE's data stand in its byte area, a WRITE's where it says
 unfoldable pub workDone : Caller → Tables → List ℕ → Work → List ℕ → List ℕ → Given
@@ -50,6 +58,7 @@ workDone c t memory TreeDisconnect area bytes = perform c t memory DisconnectBod
 workDone c t memory ProcessExit area bytes = perform c t memory ExitBody area bytes
 workDone c t memory (SetSize f) area bytes = doSetSize c t memory f
 workDone c t memory (Range f unlocks locks) area bytes = doRange c t memory f unlocks locks
+workDone c t memory (Open f) area bytes = doOpen c t memory f (nameAsked area)
 
 module _ (c : Caller) (t : Tables) (memory area bytes : List ℕ) where
   core-done : (f : WriteFields) (none : Bool)
@@ -71,6 +80,7 @@ module _ (c : Caller) (t : Tables) (memory area bytes : List ℕ) where
   work-performed (CoreWrite f) = core-done f (eqb (f .count) 0)
   work-performed (LockByteRange f) = refl
   work-performed (UnlockByteRange f) = refl
+  work-performed (OpenBody f) = refl
 
 -- the data of a write, as a part of the message
 pub record DataPart (s : List ℕ) (b : Block) (f : WriteFields) (core : Bool) : Type 0 where
@@ -89,6 +99,7 @@ module _ (s : List ℕ) (b : Block) where
   Stands ProcessExit = _≡_ {A = ℕ} 0 0
   Stands (SetSize f) = _≡_ {A = ℕ} 0 0
   Stands (Range f unlocks locks) = _≡_ {A = ℕ} 0 0
+  Stands (Open f) = OpeningPart s (b .at) (b .length)
 
   write-stands : (f : WriteFields) → WritePart s (b .at) f → DataPart s b f false
   unfolding dataOf
@@ -120,12 +131,21 @@ module _ (s : List ℕ) (b : Block) where
   part-stands (CoreWrite f) p = core-stands f (eqb (f .count) 0) p
   part-stands (LockByteRange f) p = refl
   part-stands (UnlockByteRange f) p = refl
+  part-stands (OpenBody f) p = p
 
-  -- what the reader says of a block of ranges, and of a block with data
-  pub locking-told : (f : LockingFields) → parse s (b .command) (b .at) ≡ Whole b → workOf (b .body) ≡ Locking f → LockingPart s (b .at) (b .length)
-  unfolding Stands
-  locking-told f e q = let p : Stands (Locking f) = rw q at (part-stands (b .body) (block-part s (b .at) (b .command) b e)) in p
+  -- what the reader says of a block of ranges, of a block with data and of one with a name; `just` is what FID 0xFFFF means in it
+  module _ (just : ℕ) (e : parse s (b .command) (b .at) ≡ Whole b) where
+    stands : Stands (workOf (bodyMeant just (b .body)))
+    stands = part-stands (bodyMeant just (b .body)) (part-meant s (b .at) (b .length) just (b .body) (block-part s (b .at) (b .command) b e))
 
-  pub write-told : (f : WriteFields) (core : Bool) → parse s (b .command) (b .at) ≡ Whole b → workOf (b .body) ≡ Write f core → DataPart s b f core
-  unfolding Stands
-  write-told f core e q = let p : Stands (Write f core) = rw q at (part-stands (b .body) (block-part s (b .at) (b .command) b e)) in p
+    pub locking-told : (f : LockingFields) → workOf (bodyMeant just (b .body)) ≡ Locking f → LockingPart s (b .at) (b .length)
+    unfolding Stands
+    locking-told f q = let p : Stands (Locking f) = rw q at stands in p
+
+    pub write-told : (f : WriteFields) (core : Bool) → workOf (bodyMeant just (b .body)) ≡ Write f core → DataPart s b f core
+    unfolding Stands
+    write-told f core q = let p : Stands (Write f core) = rw q at stands in p
+
+    pub open-told : (f : OpenFields) → workOf (bodyMeant just (b .body)) ≡ Open f → OpeningPart s (b .at) (b .length)
+    unfolding Stands
+    open-told f q = let p : Stands (Open f) = rw q at stands in p

@@ -7,6 +7,7 @@ use crate::leaving::do_disconnect;
 use crate::leaving::do_exit;
 use crate::leaving::do_logoff;
 use crate::locking::do_locking;
+use crate::opening::do_open;
 use crate::reading::do_read;
 use crate::sizing::do_set_size;
 use crate::work::Work;
@@ -14,6 +15,7 @@ use crate::work::work_of;
 use crate::writing::do_write;
 use chain::block::Block;
 use chain::block::LockingFields;
+use chain::block::OpenFields;
 use chain::block::WriteFields;
 use message::answer::Answer;
 use message::caller::Caller;
@@ -25,11 +27,12 @@ ghost use Rattle.tables.specs.Words.{tablesOf, inUseFit};
 ghost use Rattle.chain.specs.Layout.{byteArea, byteCount};
 ghost use Rattle.chain.specs.Parse.{parse};
 ghost use Rattle.chain.specs.declared.block.Parsed.the-variants.{Whole};
-ghost use Rattle.message.specs.Command.{doLocking, doWrite, perform};
+ghost use Rattle.message.specs.Command.{doLocking, doWrite, nameAsked, doOpen, perform};
 ghost use Rattle.message.specs.Given.{Gives};
+ghost use Rattle.message.specs.JustOpened.{bodyMeant};
 ghost use Rattle.message.specs.Message.{areaOf, dataOf};
 ghost use Rattle.invariants.specs.Sound.{Good};
-ghost use Rattle.requests.specs.BlockPart.{LockingPart};
+ghost use Rattle.requests.specs.BlockPart.{LockingPart, OpeningPart};
 ghost use Rattle.requests.specs.CorePart.{inForm};
 ghost use Rattle.requests.specs.Leaves.{Leaves, performed};
 
@@ -45,7 +48,7 @@ fn locking_block(
     at: usize,
     size: usize,
 ) -> Answer
-    requires { ⌜ length (now words) ≡ 1172 ⌝ }
+    requires { ⌜ length (now words) ≡ 1461 ⌝ }
     requires { ⌜ Good (tablesOf (now words)) ⌝ }
     requires { ⌜ LockingPart (now s) at size ⌝ }
     ensures { λ r. ⌜ Leaves (λ m. doLocking c (tablesOf (now (words .entry))) m f (take (byteCount (now (s .entry)) at) (drop (byteArea (now (s .entry)) at) (now (s .entry))))) (tablesOf (now (words .entry))) (performed r (tablesOf (now (words .exit)))) ⌝ }
@@ -54,6 +57,29 @@ fn locking_block(
     let from = at + AREA;
     let to = at + size;
     do_locking(c, words, f, &s[from..to])
+}
+
+// An OPEN block has 15 words: its bytes start 3 + 2 * 15 places behind its own start.
+const NAME: usize = 33;
+
+// The OPEN block at that place and of that length: "a name .., then one zero byte".
+fn opening_block(
+    c: Caller,
+    words: &mut [u64],
+    f: OpenFields,
+    s: &[u8],
+    at: usize,
+    size: usize,
+) -> Answer
+    requires { ⌜ length (now words) ≡ 1461 ⌝ }
+    requires { ⌜ Good (tablesOf (now words)) ⌝ }
+    requires { ⌜ OpeningPart (now s) at size ⌝ }
+    ensures { λ r. ⌜ Leaves (λ m. doOpen c (tablesOf (now (words .entry))) m f (nameAsked (take (byteCount (now (s .entry)) at) (drop (byteArea (now (s .entry)) at) (now (s .entry)))))) (tablesOf (now (words .entry))) (performed r (tablesOf (now (words .exit)))) ⌝ }
+    ensures { λ _. ⌜ (inUseFit (now (words .entry)) ≡ true → inUseFit (now (words .exit)) ≡ true) ⌝ }
+{
+    let from = at + NAME;
+    let to = at + size - 1;
+    do_open(c, words, f, &s[from..to])
 }
 
 // A WRITE block, or a core WRITE block of some bytes, its data being a part of the message.
@@ -65,7 +91,7 @@ fn writing_block(
     memory: &mut [u8],
     core: bool,
 ) -> Answer
-    requires { ⌜ length (now words) ≡ 1172 ⌝ }
+    requires { ⌜ length (now words) ≡ 1461 ⌝ }
     requires { ⌜ Good (tablesOf (now words)) ⌝ }
     requires { ⌜ length (now memory) ≡ 65536 ⌝ }
     requires { ⌜ f .from + f .count ≤ length (now s) ⌝ }
@@ -77,17 +103,24 @@ fn writing_block(
     in_form(core, do_write(c, words, f, &s[from..to], memory))
 }
 
-// The block `b` of the message `s`.
-pub fn perform_block(c: Caller, words: &mut [u64], s: &[u8], b: Block, memory: &mut [u8]) -> Answer
-    requires { ⌜ length (now words) ≡ 1172 ⌝ }
+// The block `b` of the message `s`; `just` is what FID 0xFFFF means in it (document 02, CR 6).
+pub fn perform_block(
+    c: Caller,
+    words: &mut [u64],
+    s: &[u8],
+    b: Block,
+    just: u16,
+    memory: &mut [u8],
+) -> Answer
+    requires { ⌜ length (now words) ≡ 1461 ⌝ }
     requires { ⌜ Good (tablesOf (now words)) ⌝ }
     requires { ⌜ length (now memory) ≡ 65536 ⌝ }
     requires { ⌜ parse (now s) (b .command) (b .at) ≡ Whole b ⌝ }
-    ensures { λ r. ⌜ Gives (perform c (tablesOf (now (words .entry))) (now (memory .entry)) (b .body) (areaOf (now (s .entry)) b) (dataOf (now (s .entry)) b)) (tablesOf (now (words .entry))) (now (memory .entry)) (performed r (tablesOf (now (words .exit)))) (now (memory .exit)) ⌝ }
+    ensures { λ r. ⌜ Gives (perform c (tablesOf (now (words .entry))) (now (memory .entry)) (bodyMeant just (b .body)) (areaOf (now (s .entry)) b) (dataOf (now (s .entry)) b)) (tablesOf (now (words .entry))) (now (memory .entry)) (performed r (tablesOf (now (words .exit)))) (now (memory .exit)) ⌝ }
     ensures { λ _. ⌜ (inUseFit (now (words .entry)) ≡ true → inUseFit (now (words .exit)) ≡ true) ⌝ }
 {
     let body = b.body;
-    let work = work_of(body);
+    let work = work_of(just, body);
     match work {
         Work::Read(f, core) => in_form(core, do_read(c, words, f)),
         Work::Write(f, core) => writing_block(c, words, f, s, memory, core),
@@ -98,5 +131,6 @@ pub fn perform_block(c: Caller, words: &mut [u64], s: &[u8], b: Block, memory: &
         Work::ProcessExit => do_exit(c, words),
         Work::SetSize(f) => do_set_size(c, words, f, memory),
         Work::Range(f, unlocks, locks) => do_range(c, words, f, unlocks, locks),
+        Work::Open(f) => opening_block(c, words, f, s, b.at, b.length),
     }
 }

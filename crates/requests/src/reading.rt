@@ -26,7 +26,7 @@ ghost use Rattle.requests.specs.Steps.{readOpen};
 
 // "It yields the file's bytes in the range below its size": where they stand in the file memory, and how many.
 fn read_part(words: &[u64], file: u8, offset: u64, max: u16) -> Answer
-    requires { ⌜ length (now words) ≡ 1172 ⌝ }
+    requires { ⌜ length (now words) ≡ 1461 ⌝ }
     requires { ⌜ Good (tablesOf (now words)) ⌝ }
     requires { ⌜ file ≤ 15 ⌝ }
     ensures { λ r. ⌜ r ≡ readPart (tablesOf (now (words .entry))) file offset max ⌝ }
@@ -44,7 +44,7 @@ fn read_part(words: &[u64], file: u8, offset: u64, max: u16) -> Answer
 
 // A read on an open that the caller may use: "1/5 is a read on access 1", then 1/33.
 fn read_open(c: Caller, words: &[u64], f: ReadFields, o: Open) -> Answer
-    requires { ⌜ length (now words) ≡ 1172 ⌝ }
+    requires { ⌜ length (now words) ≡ 1461 ⌝ }
     requires { ⌜ Good (tablesOf (now words)) ⌝ }
     requires { ⌜ o .file ≤ 15 ⌝ }
     ensures { λ r. ⌜ Leaves (λ m. readOpen c (tablesOf (now (words .entry))) m f o) (tablesOf (now (words .entry))) (performed r (tablesOf (now (words .entry)))) ⌝ }
@@ -62,7 +62,7 @@ fn read_open(c: Caller, words: &[u64], f: ReadFields, o: Open) -> Answer
 
 // A READ block: it leaves the tables as they are.
 pub(crate) fn do_read(c: Caller, words: &[u64], f: ReadFields) -> Answer
-    requires { ⌜ length (now words) ≡ 1172 ⌝ }
+    requires { ⌜ length (now words) ≡ 1461 ⌝ }
     requires { ⌜ Good (tablesOf (now words)) ⌝ }
     ensures { λ r. ⌜ Leaves (λ m. doRead c (tablesOf (now (words .entry))) m f) (tablesOf (now (words .entry))) (performed r (tablesOf (now (words .entry)))) ⌝ }
 {

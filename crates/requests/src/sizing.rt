@@ -40,7 +40,7 @@ fn between_sizes(c: Caller, fid: u16, old: u64, new: u64) -> Ask
 
 // A size that no lock bars: "past 4,096 is 3/39", and "with zeros where it grows and no byte changed where it shrinks".
 fn size_free(words: &mut [u64], f: WriteFields, file: u8, memory: &mut [u8]) -> Answer
-    requires { ⌜ length (now words) ≡ 1172 ⌝ }
+    requires { ⌜ length (now words) ≡ 1461 ⌝ }
     requires { ⌜ Good (tablesOf (now words)) ⌝ }
     requires { ⌜ file ≤ 15 ⌝ }
     requires { ⌜ length (now memory) ≡ 65536 ⌝ }
@@ -58,7 +58,7 @@ fn size_free(words: &mut [u64], f: WriteFields, file: u8, memory: &mut [u8]) -> 
 
 // The size set through an open that the caller may use: "or a write on access 0", then 1/33.
 fn size_open(c: Caller, words: &mut [u64], f: WriteFields, o: Open, memory: &mut [u8]) -> Answer
-    requires { ⌜ length (now words) ≡ 1172 ⌝ }
+    requires { ⌜ length (now words) ≡ 1461 ⌝ }
     requires { ⌜ Good (tablesOf (now words)) ⌝ }
     requires { ⌜ o .file ≤ 15 ⌝ }
     requires { ⌜ length (now memory) ≡ 65536 ⌝ }
@@ -79,7 +79,7 @@ fn size_open(c: Caller, words: &mut [u64], f: WriteFields, o: Open, memory: &mut
 
 // A core WRITE block of count 0.
 pub(crate) fn do_set_size(c: Caller, words: &mut [u64], f: WriteFields, memory: &mut [u8]) -> Answer
-    requires { ⌜ length (now words) ≡ 1172 ⌝ }
+    requires { ⌜ length (now words) ≡ 1461 ⌝ }
     requires { ⌜ Good (tablesOf (now words)) ⌝ }
     requires { ⌜ length (now memory) ≡ 65536 ⌝ }
     ensures { λ r. ⌜ Gives (doSetSize c (tablesOf (now (words .entry))) (now (memory .entry)) f) (tablesOf (now (words .entry))) (now (memory .entry)) (performed r (tablesOf (now (words .exit)))) (now (memory .exit)) ⌝ }

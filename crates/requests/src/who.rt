@@ -91,7 +91,7 @@ fn open_is(c: Caller, fid: u16, o: Open) -> bool
 
 // The first such open, or 1/6.
 fn find_open(c: Caller, fid: u16, words: &[u64]) -> NamedOpen
-    requires { ⌜ length (now words) ≡ 385 ⌝ }
+    requires { ⌜ length (now words) ≡ 449 ⌝ }
     ensures { λ r. ⌜ r ≡ reachedAt (found (isOpen c fid) (opensIn (now (words .entry)))) (opensIn (now (words .entry))) ⌝ }
 {
     let count = in_use(words, 64);
@@ -108,7 +108,7 @@ fn find_open(c: Caller, fid: u16, words: &[u64]) -> NamedOpen
 
 // "2/91 no session of that UID on this connection; 2/5 no tree of that TID and UID; 1/6 no open of that FID, UID and TID".
 pub(crate) fn reach_open(c: Caller, words: &[u64], fid: u16) -> NamedOpen
-    requires { ⌜ length (now words) ≡ 1172 ⌝ }
+    requires { ⌜ length (now words) ≡ 1461 ⌝ }
     ensures { λ r. ⌜ r ≡ reached c (tablesOf (now (words .entry))) fid ⌝ }
 {
     if !session_named(c, &words[0..33]) {
@@ -117,5 +117,5 @@ pub(crate) fn reach_open(c: Caller, words: &[u64], fid: u16) -> NamedOpen
     if !tree_named(c, &words[33..130]) {
         return NamedOpen::Refused(Refusal::NoTree);
     }
-    find_open(c, fid, &words[130..515])
+    find_open(c, fid, &words[130..579])
 }

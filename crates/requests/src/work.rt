@@ -4,11 +4,13 @@
 
 use chain::block::Body;
 use chain::block::LockingFields;
+use chain::block::OpenFields;
 use chain::block::RangeFields;
 use chain::block::ReadFields;
 use chain::block::WriteFields;
 ghost use mathlib.Core.Path.{_≡_};
-ghost use Rattle.requests.specs.WorkPart.{coreWork, workOf};
+ghost use Rattle.message.specs.JustOpened.{bodyMeant};
+ghost use Rattle.requests.specs.WorkPart.{readMeant, coreWork, workOf};
 
 pub(crate) enum Work {
     Locking(LockingFields),
@@ -20,6 +22,7 @@ pub(crate) enum Work {
     ProcessExit,
     SetSize(WriteFields),
     Range(RangeFields, u16, u16),
+    Open(OpenFields),
 }
 
 // "A core WRITE of count 0 sets the file's size to the offset".
@@ -32,13 +35,27 @@ fn core_work(f: WriteFields) -> Work
     Work::Write(f, true)
 }
 
+// What a READ asks for where FID 0xFFFF means `just`, "the file just opened".
+fn read_meant(just: u16, f: ReadFields) -> ReadFields
+    ensures { λ r. ⌜ r ≡ readMeant just f ⌝ }
+{
+    if f.fid != 0xffff {
+        return f;
+    }
+    ReadFields {
+        fid: just,
+        offset: f.offset,
+        max: f.max,
+    }
+}
+
 // LOCK_BYTE_RANGE locks one range, and UNLOCK_BYTE_RANGE unlocks one.
-pub(crate) fn work_of(body: Body) -> Work
-    ensures { λ r. ⌜ r ≡ workOf body ⌝ }
+pub(crate) fn work_of(just: u16, body: Body) -> Work
+    ensures { λ r. ⌜ r ≡ workOf (bodyMeant just body) ⌝ }
 {
     match body {
         Body::Locking(f) => Work::Locking(f),
-        Body::Read(f) => Work::Read(f, false),
+        Body::Read(f) => Work::Read(read_meant(just, f), false),
         Body::Write(f) => Work::Write(f, false),
         Body::Close(fid) => Work::Close(fid),
         Body::Logoff => Work::Logoff,
@@ -48,5 +65,6 @@ pub(crate) fn work_of(body: Body) -> Work
         Body::CoreWrite(f) => core_work(f),
         Body::LockByteRange(f) => Work::Range(f, 0, 1),
         Body::UnlockByteRange(f) => Work::Range(f, 1, 0),
+        Body::Open(f) => Work::Open(f),
     }
 }

@@ -56,7 +56,7 @@ fn clear_gap(room: &mut [u8], from: usize, to: usize)
 
 // Zeros from the file's size up to a place in it, where that lies further on.
 pub(crate) fn grow(words: &[u64], file: u8, end: usize, memory: &mut [u8])
-    requires { ⌜ length (now words) ≡ 1172 ⌝ }
+    requires { ⌜ length (now words) ≡ 1461 ⌝ }
     requires { ⌜ Good (tablesOf (now words)) ⌝ }
     requires { ⌜ file ≤ 15 ⌝ }
     requires { ⌜ length (now memory) ≡ 65536 ⌝ }
@@ -71,7 +71,7 @@ pub(crate) fn grow(words: &[u64], file: u8, end: usize, memory: &mut [u8])
 
 // "Bytes between the old size and the write become 0", then the bytes written.
 fn write_bytes(words: &[u64], file: u8, offset: usize, source: &[u8], memory: &mut [u8])
-    requires { ⌜ length (now words) ≡ 1172 ⌝ }
+    requires { ⌜ length (now words) ≡ 1461 ⌝ }
     requires { ⌜ Good (tablesOf (now words)) ⌝ }
     requires { ⌜ file ≤ 15 ⌝ }
     requires { ⌜ length (now memory) ≡ 65536 ⌝ }
@@ -93,18 +93,18 @@ fn larger(a: usize, b: usize) -> usize
 
 // A file's size, set.
 pub(crate) fn set_size(words: &mut [u64], file: u8, size: usize)
-    requires { ⌜ length (now words) ≡ 1172 ⌝ }
+    requires { ⌜ length (now words) ≡ 1461 ⌝ }
     requires { ⌜ file ≤ 15 ⌝ }
     ensures { λ _. ⌜ tablesOf (now (words .exit)) ≡ withSize (tablesOf (now (words .entry))) file size ⌝ }
     ensures { λ _. ⌜ (inUseFit (now (words .entry)) ≡ true → inUseFit (now (words .exit)) ≡ true) ⌝ }
 {
     let at = file as usize;
-    put_size(&mut words[1156..1172], at, size);
+    put_size(&mut words[1220..1236], at, size);
 }
 
 // "and a size below the write's end becomes that end".
 fn raise_size(words: &mut [u64], file: u8, end: usize)
-    requires { ⌜ length (now words) ≡ 1172 ⌝ }
+    requires { ⌜ length (now words) ≡ 1461 ⌝ }
     requires { ⌜ file ≤ 15 ⌝ }
     ensures { λ _. ⌜ tablesOf (now (words .exit)) ≡ withFiles (tablesOf (now (words .entry))) (set (tablesOf (now (words .entry)) .files) file (fileOf (max (sizeOf (tablesOf (now (words .entry))) file) end))) ⌝ }
     ensures { λ _. ⌜ (inUseFit (now (words .entry)) ≡ true → inUseFit (now (words .exit)) ≡ true) ⌝ }
@@ -121,7 +121,7 @@ fn write_free(
     source: &[u8],
     memory: &mut [u8],
 ) -> Answer
-    requires { ⌜ length (now words) ≡ 1172 ⌝ }
+    requires { ⌜ length (now words) ≡ 1461 ⌝ }
     requires { ⌜ Good (tablesOf (now words)) ⌝ }
     requires { ⌜ file ≤ 15 ⌝ }
     requires { ⌜ length (now memory) ≡ 65536 ⌝ }
@@ -150,7 +150,7 @@ fn write_open(
     source: &[u8],
     memory: &mut [u8],
 ) -> Answer
-    requires { ⌜ length (now words) ≡ 1172 ⌝ }
+    requires { ⌜ length (now words) ≡ 1461 ⌝ }
     requires { ⌜ Good (tablesOf (now words)) ⌝ }
     requires { ⌜ o .file ≤ 15 ⌝ }
     requires { ⌜ length (now memory) ≡ 65536 ⌝ }
@@ -177,7 +177,7 @@ pub(crate) fn do_write(
     source: &[u8],
     memory: &mut [u8],
 ) -> Answer
-    requires { ⌜ length (now words) ≡ 1172 ⌝ }
+    requires { ⌜ length (now words) ≡ 1461 ⌝ }
     requires { ⌜ Good (tablesOf (now words)) ⌝ }
     requires { ⌜ length (now memory) ≡ 65536 ⌝ }
     requires { ⌜ length (now source) ≡ f .count ⌝ }

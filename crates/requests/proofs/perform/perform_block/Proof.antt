@@ -4,9 +4,10 @@ use borrow.Author.Needs.{needs}
 use mathlib.Core.Path.{sym, _∙_}
 use Rattle.tables.specs.Words.{tablesOf}
 use Rattle.message.specs.Command.{perform}
+use Rattle.message.specs.JustOpened.{bodyMeant}
 use Rattle.message.specs.Message.{areaOf}
 use Rattle.requests.specs.CorePart.{gives-formed}
-use Rattle.requests.specs.WorkPart.{workDone, work-performed, locking-told, write-told}
+use Rattle.requests.specs.WorkPart.{workDone, work-performed, locking-told, write-told, open-told}
 use Rattle.requests.proofs.perform.perform_block.Statement.{statement}
 use Rattle.requests.proofs.perform.perform_block.Tie as tie
 
@@ -29,7 +30,7 @@ writing-block-requires : tie.Need-writing-block-requires
 writing-block-requires c κs =
     let pre = c .before .before .before .before .before .before .before .before .before .pre in
     let args = c .before .before .before .before .before .before .before .before .before .args in
-    (pre .0, (pre .1 .0, (pre .1 .1 .0, write-told (args .s .now) (args .b) (c .before .before .before .work2 .given .0 .0) (c .before .before .before .work2 .given .0 .1 .0) (pre .1 .1 .1) (sym (c .before .before .before .before .before .work-of .ensures) ∙ c .before .before .before .work2 .given .1) .inside)))
+    (pre .0, (pre .1 .0, (pre .1 .1 .0, write-told (args .s .now) (args .b) (args .just) (pre .1 .1 .1) (c .before .before .before .work2 .given .0 .0) (c .before .before .before .work2 .given .0 .1 .0) (sym (c .before .before .before .before .before .work-of .ensures) ∙ c .before .before .before .work2 .given .1) .inside)))
 
 enum-known-work-3 : tie.Need-enum-known-work-3
 enum-known-work-3 c = search needs
@@ -38,7 +39,7 @@ locking-block-requires : tie.Need-locking-block-requires
 locking-block-requires c κs =
     let pre = c .before .before .before .before .before .before .before .before .pre in
     let args = c .before .before .before .before .before .before .before .before .args in
-    (pre .0, (pre .1 .0, locking-told (args .s .now) (args .b) (c .before .before .work3 .given .0 .0) (pre .1 .1 .1) (sym (c .before .before .before .before .work-of .ensures) ∙ c .before .before .work3 .given .1)))
+    (pre .0, (pre .1 .0, locking-told (args .s .now) (args .b) (args .just) (pre .1 .1 .1) (c .before .before .work3 .given .0 .0) (sym (c .before .before .before .before .work-of .ensures) ∙ c .before .before .work3 .given .1)))
 
 enum-known-work-4 : tie.Need-enum-known-work-4
 enum-known-work-4 c = search needs
@@ -76,6 +77,15 @@ enum-known-work-6 c = search needs
 do-range-requires : tie.Need-do-range-requires
 do-range-requires c κs = (c .before .before .before .before .before .before .before .before .pre .0, c .before .before .before .before .before .before .before .before .pre .1 .0)
 
+enum-known-work-7 : tie.Need-enum-known-work-7
+enum-known-work-7 c = search needs
+
+opening-block-requires : tie.Need-opening-block-requires
+opening-block-requires c κs =
+    let pre = c .before .before .before .before .before .before .before .before .pre in
+    let args = c .before .before .before .before .before .before .before .before .args in
+    (pre .0, (pre .1 .0, open-told (args .s .now) (args .b) (args .just) (pre .1 .1 .1) (c .before .before .work7 .given .0 .0) (sym (c .before .before .before .before .work-of .ensures) ∙ c .before .before .work7 .given .1)))
+
 same-length : tie.Need-same-length
 same-length c = search needs
 
@@ -85,7 +95,7 @@ returns c =
     let args = c .before .before .before .before .before .before .before .before .before .before .args in
     let m = args .memory .now in
     let asked = sym (c .before .before .before .before .before .before .work-of .ensures) ∙ c .before .before .before .before .work .given .1 in
-    (rw (work-performed (args .c) (tablesOf (args .words .now)) m _ _ (args .b .body), asked, c .in-form .ensures) (gives-formed (c .before .before .before .before .work .given .0 .1 .0) (c .before .do-read .ensures m)), λ h. h)
+    (rw (work-performed (args .c) (tablesOf (args .words .now)) m _ _ (bodyMeant (args .just) (args .b .body)), asked, c .in-form .ensures) (gives-formed (c .before .before .before .before .work .given .0 .1 .0) (c .before .do-read .ensures m)), λ h. h)
 
 same-length-2 : tie.Need-same-length-2
 same-length-2 c = search needs
@@ -99,8 +109,8 @@ returns-2 c =
     let args = c .before .before .before .before .before .before .before .before .before .before .before .before .before .before .args in
     let m = args .memory .now in
     let asked = sym (c .before .before .before .before .before .before .before .before .before .before .work-of .ensures) ∙ c .before .before .before .before .before .before .before .before .work2 .given .1 in
-    let told = write-told (args .s .now) (args .b) (c .before .before .before .before .before .before .before .before .work2 .given .0 .0) (c .before .before .before .before .before .before .before .before .work2 .given .0 .1 .0) (c .before .before .before .before .before .before .before .before .before .before .before .before .before .before .pre .1 .1 .1) asked in
-    (rw (work-performed (args .c) (tablesOf (args .words .now)) m _ _ (args .b .body), asked, told .same) (c .before .before .before .before .writing-block .ensures .0), c .before .before .before .before .writing-block .ensures .1)
+    let told = write-told (args .s .now) (args .b) (args .just) (c .before .before .before .before .before .before .before .before .before .before .before .before .before .before .pre .1 .1 .1) (c .before .before .before .before .before .before .before .before .work2 .given .0 .0) (c .before .before .before .before .before .before .before .before .work2 .given .0 .1 .0) asked in
+    (rw (work-performed (args .c) (tablesOf (args .words .now)) m _ _ (bodyMeant (args .just) (args .b .body)), asked, told .same) (c .before .before .before .before .writing-block .ensures .0), c .before .before .before .before .writing-block .ensures .1)
 
 same-length-4 : tie.Need-same-length-4
 same-length-4 c = search needs
@@ -111,7 +121,7 @@ returns-3 c =
     let args = c .before .before .before .before .before .before .before .before .before .before .before .args in
     let m = args .memory .now in
     let asked = sym (c .before .before .before .before .before .before .before .work-of .ensures) ∙ c .before .before .before .before .before .work3 .given .1 in
-    (rw (work-performed (args .c) (tablesOf (args .words .now)) m _ _ (args .b .body), asked) (c .before .before .locking-block .ensures .0 m), c .before .before .locking-block .ensures .1)
+    (rw (work-performed (args .c) (tablesOf (args .words .now)) m _ _ (bodyMeant (args .just) (args .b .body)), asked) (c .before .before .locking-block .ensures .0 m), c .before .before .locking-block .ensures .1)
 
 same-length-5 : tie.Need-same-length-5
 same-length-5 c = search needs
@@ -122,7 +132,7 @@ returns-4 c =
     let args = c .before .before .before .before .before .before .before .before .before .before .before .args in
     let m = args .memory .now in
     let asked = sym (c .before .before .before .before .before .before .before .work-of .ensures) ∙ c .before .before .before .before .before .work4 .given .1 in
-    (rw (work-performed (args .c) (tablesOf (args .words .now)) m _ _ (args .b .body), asked) (c .before .before .do-close .ensures .0 m), c .before .before .do-close .ensures .1)
+    (rw (work-performed (args .c) (tablesOf (args .words .now)) m _ _ (bodyMeant (args .just) (args .b .body)), asked) (c .before .before .do-close .ensures .0 m), c .before .before .do-close .ensures .1)
 
 same-length-6 : tie.Need-same-length-6
 same-length-6 c = search needs
@@ -133,7 +143,7 @@ returns-5 c =
     let args = c .before .before .before .before .before .before .before .before .before .before .args in
     let m = args .memory .now in
     let asked = sym (c .before .before .before .before .before .before .work-of .ensures) ∙ c .before .before .before .before .enum-told .given .1 in
-    (rw (work-performed (args .c) (tablesOf (args .words .now)) m _ _ (args .b .body), asked) (c .before .before .do-logoff .ensures .0 m), c .before .before .do-logoff .ensures .1)
+    (rw (work-performed (args .c) (tablesOf (args .words .now)) m _ _ (bodyMeant (args .just) (args .b .body)), asked) (c .before .before .do-logoff .ensures .0 m), c .before .before .do-logoff .ensures .1)
 
 same-length-7 : tie.Need-same-length-7
 same-length-7 c = search needs
@@ -144,7 +154,7 @@ returns-6 c =
     let args = c .before .before .before .before .before .before .before .before .before .before .args in
     let m = args .memory .now in
     let asked = sym (c .before .before .before .before .before .before .work-of .ensures) ∙ c .before .before .before .before .enum-told2 .given .1 in
-    (rw (work-performed (args .c) (tablesOf (args .words .now)) m _ _ (args .b .body), asked) (c .before .before .do-disconnect .ensures .0 m), c .before .before .do-disconnect .ensures .1)
+    (rw (work-performed (args .c) (tablesOf (args .words .now)) m _ _ (bodyMeant (args .just) (args .b .body)), asked) (c .before .before .do-disconnect .ensures .0 m), c .before .before .do-disconnect .ensures .1)
 
 same-length-8 : tie.Need-same-length-8
 same-length-8 c = search needs
@@ -155,7 +165,7 @@ returns-7 c =
     let args = c .before .before .before .before .before .before .before .before .before .before .args in
     let m = args .memory .now in
     let asked = sym (c .before .before .before .before .before .before .work-of .ensures) ∙ c .before .before .before .before .enum-told3 .given .1 in
-    (rw (work-performed (args .c) (tablesOf (args .words .now)) m _ _ (args .b .body), asked) (c .before .before .do-exit .ensures .0 m), c .before .before .do-exit .ensures .1)
+    (rw (work-performed (args .c) (tablesOf (args .words .now)) m _ _ (bodyMeant (args .just) (args .b .body)), asked) (c .before .before .do-exit .ensures .0 m), c .before .before .do-exit .ensures .1)
 
 same-length-9 : tie.Need-same-length-9
 same-length-9 c = search needs
@@ -169,7 +179,7 @@ returns-8 c =
     let args = c .before .before .before .before .before .before .before .before .before .before .before .before .before .before .args in
     let m = args .memory .now in
     let asked = sym (c .before .before .before .before .before .before .before .before .before .before .work-of .ensures) ∙ c .before .before .before .before .before .before .before .before .work5 .given .1 in
-    (rw (work-performed (args .c) (tablesOf (args .words .now)) m _ _ (args .b .body), asked) (c .before .before .before .before .do-set-size .ensures .0), c .before .before .before .before .do-set-size .ensures .1)
+    (rw (work-performed (args .c) (tablesOf (args .words .now)) m _ _ (bodyMeant (args .just) (args .b .body)), asked) (c .before .before .before .before .do-set-size .ensures .0), c .before .before .before .before .do-set-size .ensures .1)
 
 same-length-11 : tie.Need-same-length-11
 same-length-11 c = search needs
@@ -180,7 +190,18 @@ returns-9 c =
     let args = c .before .before .before .before .before .before .before .before .before .before .before .args in
     let m = args .memory .now in
     let asked = sym (c .before .before .before .before .before .before .before .work-of .ensures) ∙ c .before .before .before .before .before .work6 .given .1 in
-    (rw (work-performed (args .c) (tablesOf (args .words .now)) m _ _ (args .b .body), asked) (c .before .before .do-range .ensures .0 m), c .before .before .do-range .ensures .1)
+    (rw (work-performed (args .c) (tablesOf (args .words .now)) m _ _ (bodyMeant (args .just) (args .b .body)), asked) (c .before .before .do-range .ensures .0 m), c .before .before .do-range .ensures .1)
+
+same-length-12 : tie.Need-same-length-12
+same-length-12 c = search needs
+
+returns-10 : tie.Need-returns-10
+unfolding workDone areaOf
+returns-10 c =
+    let args = c .before .before .before .before .before .before .before .before .before .before .before .args in
+    let m = args .memory .now in
+    let asked = sym (c .before .before .before .before .before .before .before .work-of .ensures) ∙ c .before .before .before .before .before .work7 .given .1 in
+    (rw (work-performed (args .c) (tablesOf (args .words .now)) m _ _ (bodyMeant (args .just) (args .b .body)), asked) (c .before .before .opening-block .ensures .0 m), c .before .before .opening-block .ensures .1)
 
 pub perform-block-spec : {M : Type 1} → statement M
 perform-block-spec =
@@ -206,6 +227,8 @@ perform-block-spec =
     do-set-size-requires
     enum-known-work-6
     do-range-requires
+    enum-known-work-7
+    opening-block-requires
     same-length
     returns
     same-length-2
@@ -225,4 +248,6 @@ perform-block-spec =
     same-length-10
     returns-8
     same-length-11
-    returns-9)
+    returns-9
+    same-length-12
+    returns-10)

@@ -23,7 +23,7 @@ use Rattle.requests.proofs.who.find_open.Tie as tie
 
 length-opens : (w : List ℕ) → length (openArray w) ≡ 64
 unfolding openArray
-length-opens w = length-array openOf 6 64 w
+length-opens w = length-array openOf 7 64 w
 
 -- the walk's opens are those in use
 whole : (w : List ℕ) (count : ℕ) → count ≡ min (word w 0) 64 → take count (openArray w) ≡ opensIn w

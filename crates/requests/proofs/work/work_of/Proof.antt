@@ -1,7 +1,12 @@
 -- `requests::work::work_of` meets its contract: each body asks for the definition's.
 -- Assumes nothing.
 use borrow.Author.Needs.{needs}
-use Rattle.requests.specs.WorkPart.{workOf}
+use mathlib.Core.Path.{ap}
+use mathlib.Core.Bool.{false}
+use Rattle.chain.specs.declared.block.ReadFields.{ReadFields}
+use Rattle.message.specs.JustOpened.{bodyMeant}
+use Rattle.requests.specs.declared.work.Work.the-variants.{Read}
+use Rattle.requests.specs.WorkPart.{readMeant, workOf}
 use Rattle.requests.proofs.work.work_of.Statement.{statement}
 use Rattle.requests.proofs.work.work_of.Tie as tie
 
@@ -10,6 +15,9 @@ enum-known-body c = search needs
 
 enum-known-body-2 : tie.Need-enum-known-body-2
 enum-known-body-2 c = search needs
+
+read-meant-requires : tie.Need-read-meant-requires
+read-meant-requires c κs = search needs
 
 enum-known-body-3 : tie.Need-enum-known-body-3
 enum-known-body-3 c = search needs
@@ -41,49 +49,56 @@ enum-known-body-7 c = search needs
 enum-known-body-8 : tie.Need-enum-known-body-8
 enum-known-body-8 c = search needs
 
+enum-known-body-9 : tie.Need-enum-known-body-9
+enum-known-body-9 c = search needs
+
 returns : tie.Need-returns
-unfolding workOf
+unfolding workOf bodyMeant
 returns c = rw (c .before .body .given .1)
 
 returns-2 : tie.Need-returns-2
-unfolding workOf
-returns-2 c = rw (c .before .body2 .given .1)
+unfolding workOf bodyMeant readMeant
+returns-2 c = rw (c .before .before .body2 .given .1) (ap (λ (f : ReadFields). Read f false) (c .read-meant .ensures))
 
 returns-3 : tie.Need-returns-3
-unfolding workOf
+unfolding workOf bodyMeant
 returns-3 c = rw (c .before .body3 .given .1)
 
 returns-4 : tie.Need-returns-4
-unfolding workOf
+unfolding workOf bodyMeant
 returns-4 c = rw (c .before .body4 .given .1)
 
 returns-5 : tie.Need-returns-5
-unfolding workOf
+unfolding workOf bodyMeant
 returns-5 c = rw (c .enum-told .given .1)
 
 returns-6 : tie.Need-returns-6
-unfolding workOf
+unfolding workOf bodyMeant
 returns-6 c = rw (c .enum-told2 .given .1)
 
 returns-7 : tie.Need-returns-7
-unfolding workOf
+unfolding workOf bodyMeant
 returns-7 c = rw (c .enum-told3 .given .1)
 
 returns-8 : tie.Need-returns-8
-unfolding workOf
+unfolding workOf bodyMeant
 returns-8 c = rw (c .before .body5 .given .1)
 
 returns-9 : tie.Need-returns-9
-unfolding workOf
+unfolding workOf bodyMeant
 returns-9 c = rw (c .before .before .body6 .given .1) (c .core-work .ensures)
 
 returns-10 : tie.Need-returns-10
-unfolding workOf
+unfolding workOf bodyMeant
 returns-10 c = rw (c .before .body7 .given .1)
 
 returns-11 : tie.Need-returns-11
-unfolding workOf
+unfolding workOf bodyMeant
 returns-11 c = rw (c .before .body8 .given .1)
+
+returns-12 : tie.Need-returns-12
+unfolding workOf bodyMeant
+returns-12 c = rw (c .before .body9 .given .1)
 
 pub work-of-spec : {M : Type 1} → statement M
 work-of-spec =
@@ -91,6 +106,7 @@ work-of-spec =
     (tie.spec
     enum-known-body
     enum-known-body-2
+    read-meant-requires
     enum-known-body-3
     enum-known-body-4
     enum-told
@@ -101,6 +117,7 @@ work-of-spec =
     core-work-requires
     enum-known-body-7
     enum-known-body-8
+    enum-known-body-9
     returns
     returns-2
     returns-3
@@ -111,4 +128,5 @@ work-of-spec =
     returns-8
     returns-9
     returns-10
-    returns-11)
+    returns-11
+    returns-12)

@@ -31,8 +31,8 @@ unfolding tablesOf
 returns c =
     let w = c .before .before .before .before .before .args .words .now in
     let put = c .before .before .put-size in
-    let full : length w ≡ 1172 = c .before .before .before .before .before .pre .0 in
-    let long : length (put .last .0) ≡ 16 = put .kept .0 ∙ length-part w 1156 16 (omega arith) in
+    let full : length w ≡ 1461 = c .before .before .before .before .before .pre .0 in
+    let long : length (put .last .0) ≡ 16 = put .kept .0 ∙ length-part w 1220 16 (omega arith) in
     (tables-files w (put .last .0) full long ∙ ap (withFiles (tablesOf w)) (put .ensures), fit-files w (put .last .0) full long)
 
 pub set-size-spec : {M : Type 1} → statement M
