@@ -6,12 +6,12 @@ use mathlib.Core.List.{List}
 use lib.ListN.{length, take, drop, length-take, length-drop}
 use borrow.Author.Tests.{leb-true}
 use native.Mathlib.Omega.{arith}
-use Rattle.message.specs.Command.{locked, loggedOff, read, wrote, plain, coreRead, coreWrote}
+use Rattle.message.specs.Command.{locked, loggedOff, read, wrote, plain, coreRead, coreWrote, opened}
 use Rattle.message.specs.Reply.{replySize, refusedBlock}
 use Rattle.message.specs.Given.{inside, blockOf, answerSize}
 use Rattle.message.specs.declared.link.Link.{Link}
 use Rattle.message.specs.declared.answer.Answer.{Answer}
-use Rattle.message.specs.declared.answer.Answer.the-variants.{Refused, Locked, LoggedOff, Read, Wrote, Plain, CoreRead, CoreWrote}
+use Rattle.message.specs.declared.answer.Answer.the-variants.{Refused, Locked, LoggedOff, Read, Wrote, Plain, CoreRead, CoreWrote, Opened}
 use Rattle.invariants.specs.ReplySize.{length-block}
 
 -- the bytes that a READ yields are as many as it says
@@ -45,3 +45,4 @@ length-of-block (CoreRead at count) memory place link i m =
     let n : length (take count (drop at memory)) ≡ count = length-yielded memory at count (omega arith) in
     length-block (coreRead (take count (drop at memory))) place link ∙ ap (λ (k : ℕ). 16 + k) n
 length-of-block (CoreWrote count) memory place link i m = length-block (coreWrote count) place link
+length-of-block (Opened fid size access results) memory place link i m = length-block (opened fid size access results) place link

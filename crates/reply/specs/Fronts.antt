@@ -1,11 +1,11 @@
--- The parts of a header, of a READ's block and of a core READ's, in the order in which they are written. Assumes nothing.
+-- The parts of a header, of a READ's block, a core READ's and an OPEN's, in the order in which they are written. Assumes nothing.
 use mathlib.Core.Path.{_≡_, refl}
 use Prim.Native.Nat.{ℕ, _+_, _*_, _/_, _%_}
 use mathlib.Core.List.{List, [], _∷_, _++_}
 use lib.ListN.{length, take, drop, replicate}
 use Rattle.wire.specs.LittleEndian.{byteAt}
-use Rattle.message.specs.Command.{read, coreRead}
-use Rattle.message.specs.Reply.{two, replyHeader, linkWords, replyBlock}
+use Rattle.message.specs.Command.{read, coreRead, opened}
+use Rattle.message.specs.Reply.{two, four, replyHeader, linkWords, replyBlock}
 use Rattle.message.specs.declared.refusal.Status.{Status}
 use Rattle.message.specs.declared.link.Link.{Link}
 use Rattle.message.specs.declared.link.Link.the-variants.{None as none, Next as next}
@@ -69,3 +69,27 @@ length-coreFront count = refl
 pub core-whole : (bytes : List ℕ) (place : ℕ) (link : Link) → replyBlock (coreRead bytes) place link ≡ coreFront (length bytes) ++ bytes
 unfolding replyBlock coreFront two
 core-whole bytes place link = refl
+
+-- an OPEN's WordCount, AndX, FID and six zero bytes: 13 bytes
+unfoldable pub openStart : ℕ → Link → List ℕ
+openStart fid link = 15 ∷ (linkWords link ++ (two fid ++ replicate 6 0))
+
+-- size, access, four zero bytes, OpenResults: 12 bytes; behind them six zero bytes and ByteCount 0
+unfoldable pub openCodes : ℕ → ℕ → ℕ → List ℕ
+openCodes size access results = four size ++ (two access ++ (replicate 4 0 ++ two results))
+
+pub length-openStart : (fid : ℕ) (link : Link) → length (openStart fid link) ≡ 13
+unfolding openStart linkWords two
+length-openStart fid none = refl
+length-openStart fid (next c p) = refl
+
+pub length-openFront : (fid size access results : ℕ) (link : Link) → length (openStart fid link ++ openCodes size access results) ≡ 25
+unfolding openStart openCodes linkWords two four
+length-openFront fid size access results none = refl
+length-openFront fid size access results (next c p) = refl
+
+pub open-whole : (fid size access results place : ℕ) (link : Link)
+    → replyBlock (opened fid size access results) place link ≡ (openStart fid link ++ openCodes size access results) ++ replicate 8 0
+unfolding replyBlock openStart openCodes linkWords two four
+open-whole fid size access results place none = refl
+open-whole fid size access results place (next c p) = refl

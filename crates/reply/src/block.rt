@@ -1,4 +1,4 @@
-// A reply block (document 01, "Reply blocks"; document 02, CR 3): "each is written into the room left after the one before". The room that a
+// A reply block (document 01, "Reply blocks"; document 02, CR 3 and CR 6): "each is written into the room left after the one before". The room that a
 // writer is lent begins where its block is to stand.
 
 use crate::little_endian::high;
@@ -16,7 +16,7 @@ ghost use Rattle.lists.specs.Put.{put};
 ghost use Rattle.message.specs.Command.{read};
 ghost use Rattle.message.specs.Reply.{two, linkWords, refusedBlock, replyBlock};
 ghost use Rattle.message.specs.Given.{inside, blockOf, answerSize};
-ghost use Rattle.reply.specs.Fronts.{readStart, readExtent, coreFront};
+ghost use Rattle.reply.specs.Fronts.{readStart, readExtent, coreFront, openStart, openCodes};
 ghost use Rattle.reply.specs.Links.{linkFor, linkCommand, linkPlace};
 
 // "AndX names the next block written", which stands at `place`.
@@ -69,6 +69,7 @@ pub fn block_size(a: Answer) -> usize
         Answer::Plain => 3,
         Answer::CoreRead(_, count) => CORE_READ_DATA + count,
         Answer::CoreWrote(_) => 5,
+        Answer::Opened(_, _, _, _) => 33,
     }
 }
 
@@ -187,6 +188,47 @@ fn write_core_wrote(count: u16, room: &mut [u8])
     lay(&written, room);
 }
 
+// OPEN_ANDX (source document 001): 15 words: AndX, FID, six zero bytes.
+fn write_open_start(fid: u16, link: Link, room: &mut [u8])
+    requires { ⌜ 13 ≤ length (now room) ⌝ }
+    ensures { λ _. ⌜ now (room .exit) ≡ put (now (room .entry)) 0 (openStart fid link) ⌝ }
+{
+    let andx = link_command(link);
+    let next = link_place(link);
+    let p0 = low(next);
+    let p1 = high(next);
+    let n = fid as usize;
+    let f0 = low(n);
+    let f1 = high(n);
+    let start = [15, andx, 0, p0, p1, f0, f1, 0, 0, 0, 0, 0, 0];
+    lay(&start, room);
+}
+
+// Size 4, access 2, four zero bytes, OpenResults 2.
+fn write_open_codes(size: usize, access: u8, results: u8, room: &mut [u8])
+    requires { ⌜ 12 ≤ length (now room) ⌝ }
+    ensures { λ _. ⌜ now (room .exit) ≡ put (now (room .entry)) 0 (openCodes size access results) ⌝ }
+{
+    let s0 = low(size);
+    let s1 = high(size);
+    let upper = size / 65536;
+    let s2 = low(upper);
+    let s3 = high(upper);
+    let codes = [s0, s1, s2, s3, access, 0, 0, 0, 0, 0, results, 0];
+    lay(&codes, room);
+}
+
+// Behind both six zero bytes, and ByteCount 0.
+fn write_opened(fid: u16, size: usize, access: u8, results: u8, link: Link, room: &mut [u8])
+    requires { ⌜ 33 ≤ length (now room) ⌝ }
+    ensures { λ _. ⌜ now (room .exit) ≡ put (now (room .entry)) 0 ((openStart fid link ++ openCodes size access results) ++ replicate 8 0) ⌝ }
+{
+    write_open_start(fid, link, room);
+    write_open_codes(size, access, results, &mut room[13..]);
+    let zeros = [0, 0, 0, 0, 0, 0, 0, 0];
+    lay(&zeros, &mut room[25..]);
+}
+
 // The block of an answer, at the front of the room left for it.
 pub fn write_block(a: Answer, place: usize, link: Link, memory: &[u8], room: &mut [u8])
     requires { ⌜ length (now memory) ≡ 65536 ⌝ }
@@ -204,5 +246,13 @@ pub fn write_block(a: Answer, place: usize, link: Link, memory: &[u8], room: &mu
         Answer::Plain => write_bare(room),
         Answer::CoreRead(at, count) => write_core_read(at, count, memory, room),
         Answer::CoreWrote(count) => write_core_wrote(count, room),
+        Answer::Opened(fid, size, access, results) => write_opened(
+            fid,
+            size,
+            access,
+            results,
+            link,
+            room,
+        ),
     }
 }

@@ -38,6 +38,9 @@ add-result-2 c = let h : (c .before .a2 .given .0 .0) + (c .before .a2 .given .0
 enum-told-6 : tie.Need-enum-told-6
 enum-told-6 c = search needs
 
+enum-told-7 : tie.Need-enum-told-7
+enum-told-7 c = search needs
+
 returns : tie.Need-returns
 unfolding answerSize
 returns c = rw (c .enum-told .given .1)
@@ -70,6 +73,10 @@ returns-8 : tie.Need-returns-8
 unfolding answerSize
 returns-8 c = rw (c .enum-told6 .given .1)
 
+returns-9 : tie.Need-returns-9
+unfolding answerSize
+returns-9 c = rw (c .enum-told7 .given .1)
+
 pub block-size-spec : {M : Type 1} → statement M
 block-size-spec =
     tie.close
@@ -84,6 +91,7 @@ block-size-spec =
     enum-known-a-2
     add-result-2
     enum-told-6
+    enum-told-7
     returns
     returns-2
     returns-3
@@ -91,4 +99,5 @@ block-size-spec =
     returns-5
     returns-6
     returns-7
-    returns-8)
+    returns-8
+    returns-9)

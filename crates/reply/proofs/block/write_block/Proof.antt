@@ -6,7 +6,7 @@ use Rattle.reply.proofs.block.write_block.Tie as tie
 use Rattle.message.specs.Given.{blockOf, answerSize}
 use Rattle.message.specs.Reply.{replyBlock, refusedBlock}
 use Rattle.reply.specs.BlockLaws.{length-yielded, read-inside, core-inside}
-use Rattle.reply.specs.Fronts.{core-whole}
+use Rattle.reply.specs.Fronts.{core-whole, open-whole}
 use mathlib.Core.Path.{_≡_}
 use Prim.Native.Nat.{_+_, _≤_}
 use native.Mathlib.Omega.{arith}
@@ -74,6 +74,13 @@ write-core-wrote-requires : tie.Need-write-core-wrote-requires
 unfolding answerSize
 write-core-wrote-requires c κs = rw (c .before .before .a4 .given .1) at (c .before .before .before .before .before .before .pre .1 .1 .0)
 
+enum-known-a-5 : tie.Need-enum-known-a-5
+enum-known-a-5 c = search needs
+
+write-opened-requires : tie.Need-write-opened-requires
+unfolding answerSize
+write-opened-requires c κs = rw (c .before .before .a5 .given .1) at (c .before .before .before .before .before .before .pre .1 .1 .0)
+
 same-length : tie.Need-same-length
 same-length c = search needs
 
@@ -136,6 +143,16 @@ returns-8 : tie.Need-returns-8
 unfolding blockOf replyBlock
 returns-8 c = rw (c .before .before .before .before .before .a4 .given .1) (c .before .before .write-core-wrote .ensures)
 
+same-length-9 : tie.Need-same-length-9
+same-length-9 c = search needs
+
+returns-9 : tie.Need-returns-9
+unfolding blockOf
+returns-9 c =
+    let args = c .before .before .before .before .before .before .before .before .before .args in
+    let a = c .before .before .before .before .before .a5 in
+    rw (a .given .1, open-whole (a .given .0 .0) (a .given .0 .1 .0) (a .given .0 .1 .1 .0) (a .given .0 .1 .1 .1 .0) (args .place) (args .link)) (c .before .before .write-opened .ensures)
+
 pub write-block-spec : {M : Type 1} → statement M
 write-block-spec =
     tie.close
@@ -156,6 +173,8 @@ write-block-spec =
     write-core-read-requires
     enum-known-a-4
     write-core-wrote-requires
+    enum-known-a-5
+    write-opened-requires
     same-length
     returns
     same-length-2
@@ -171,4 +190,6 @@ write-block-spec =
     same-length-7
     returns-7
     same-length-8
-    returns-8)
+    returns-8
+    same-length-9
+    returns-9)
