@@ -1,1 +1,2 @@
 pub mod Unrefused
+pub mod Unopened

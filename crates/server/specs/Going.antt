@@ -21,19 +21,20 @@ use Rattle.message.specs.Refusal.{status, statusOf, holderOf}
 use Rattle.message.specs.declared.refusal.HeldBy.{HeldBy}
 use Rattle.message.specs.declared.refusal.HeldBy.the-variants.{Nobody}
 use Rattle.message.specs.declared.refusal.Refusal.{Refusal}
-use Rattle.message.specs.Command.{Said, locked, loggedOff, read, wrote, plain, coreRead, coreWrote, Given, refused, done, perform}
+use Rattle.message.specs.Command.{Said, locked, loggedOff, read, wrote, plain, coreRead, coreWrote, opened, Given, refused, done, perform}
 use Rattle.message.specs.declared.link.Link.{Link}
 use Rattle.message.specs.declared.link.Link.the-variants.{Next as next}
 use Rattle.message.specs.Reply.{replyBlock, refusedBlock, replySize}
+use Rattle.message.specs.JustOpened.{NOBODY, openedBy, bodyMeant}
 use Rattle.message.specs.Message.{areaOf, dataOf, Ran, after, linkTo, afterGiven, run}
 use Rattle.message.specs.Given.{givenOf, inside, tablesAfter, memoryAfter, blockOf, answerSize}
 use Rattle.message.specs.declared.answer.Answer.{Answer}
-use Rattle.message.specs.declared.answer.Answer.the-variants.{Refused, Locked, LoggedOff, Read, Wrote, Plain, CoreRead, CoreWrote}
+use Rattle.message.specs.declared.answer.Answer.the-variants.{Refused, Locked, LoggedOff, Read, Wrote, Plain, CoreRead, CoreWrote, Opened}
 use Rattle.invariants.specs.Sound.{Good, keeps-good, perform-keeps}
 use Rattle.invariants.specs.ReplySize.{length-block}
 use Rattle.reply.specs.Links.{linkFor}
 use Rattle.reply.specs.BlockLaws.{length-yielded, read-inside, core-inside}
-use Rattle.server.specs.Step.{statusAfter, holderLeft, goesOn}
+use Rattle.server.specs.Step.{statusAfter, holderLeft, goesOn, justOpened}
 
 -- ---- a chain at its first block
 
@@ -88,20 +89,21 @@ record Says (a : Answer) (memory : List ℕ) : Type 0 where
   pub status-is : statusAfter a ≡ status 0 0
   pub nobody : holderLeft a ≡ Nobody
   pub next-is : (n : Next) → goesOn a n ≡ n
+  pub opens : justOpened a ≡ openedBy said
 
 -- ---- what a chain's head gives
 
-module _ (c : Caller) (s : List ℕ) (b : Block) (behind : List Block) (place : ℕ) (t : Tables) (memory : List ℕ) where
+module _ (c : Caller) (s : List ℕ) (just : ℕ) (b : Block) (behind : List Block) (place : ℕ) (t : Tables) (memory : List ℕ) where
   abbrev given : Given
-  given = perform c t memory (b .body) (areaOf s b) (dataOf s b)
+  given = perform c t memory (bodyMeant just (b .body)) (areaOf s b) (dataOf s b)
 
-  run-refused : (why : Refusal) → given ≡ refused why → run c s (b ∷ behind) place t memory ≡ record { status = statusOf why; holder = holderOf why; tables = t; memory = memory; blocks = refusedBlock }
+  run-refused : (why : Refusal) → given ≡ refused why → run c s just (b ∷ behind) place t memory ≡ record { status = statusOf why; holder = holderOf why; tables = t; memory = memory; blocks = refusedBlock }
   unfolding run afterGiven
   run-refused why e = rw e
 
   run-done : (t′ : Tables) (memory′ : List ℕ) (said : Said) → given ≡ done t′ memory′ said
-      → run c s (b ∷ behind) place t memory
-      ≡ after (replyBlock said place (linkTo behind (place + replySize said))) (run c s behind (place + replySize said) t′ memory′)
+      → run c s just (b ∷ behind) place t memory
+      ≡ after (replyBlock said place (linkTo behind (place + replySize said))) (run c s (openedBy said) behind (place + replySize said) t′ memory′)
   unfolding run afterGiven
   run-done t′ memory′ said e = rw e
 
@@ -128,19 +130,19 @@ module _ (first : List ℕ) (whole : Ran) where
 
 module _ (c : Caller) (s first : List ℕ) (whole : Ran) where
   -- `written` are the blocks written so far, from 32 on; what is left to carry out completes the whole
-  pub record Going (command at place : ℕ) (t : Tables) (memory room : List ℕ) : Type 0 where
+  pub record Going (command at place just : ℕ) (t : Tables) (memory room : List ℕ) : Type 0 where
     pub blocks-left : List Block
     pub chained : Chained s command at blocks-left
     pub written : List ℕ
     pub room-is : room ≡ put first 32 written
     pub place-is : place ≡ 32 + length written
-    pub left : whole ≡ after written (run c s blocks-left place t memory)
+    pub left : whole ≡ after written (run c s just blocks-left place t memory)
     pub good : Good t
     pub memory-size : length memory ≡ 65536
 
 -- at first nothing is written
 pub going-start : (c : Caller) (s room : List ℕ) {command : ℕ} {bs : List Block} (t : Tables) (memory : List ℕ) → Chained s command 32 bs → Good t → length memory ≡ 65536
-    → Going c s room (run c s bs 32 t memory) command 32 32 t memory room
+    → Going c s room (run c s NOBODY bs 32 t memory) command 32 32 NOBODY t memory room
 going-start c s room {command} {bs} t memory h g m =
     record {
       blocks-left = bs;
@@ -148,22 +150,22 @@ going-start c s room {command} {bs} t memory h g m =
       written = [];
       room-is = sym (put-nothing room 32);
       place-is = omega arith;
-      left = sym (after-nothing (run c s bs 32 t memory));
+      left = sym (after-nothing (run c s NOBODY bs 32 t memory));
       good = g;
       memory-size = m;
     }
 
 -- the blocks written are some of the whole's, so they fit where those do
-going-place : {c : Caller} {s first : List ℕ} {whole : Ran} {command at place : ℕ} {t : Tables} {memory room : List ℕ} → Going c s first whole command at place t memory room
+going-place : {c : Caller} {s first : List ℕ} {whole : Ran} {command at place just : ℕ} {t : Tables} {memory room : List ℕ} → Going c s first whole command at place just t memory room
     → place ≤ 32 + length (whole .blocks)
 unfolding after
-going-place {c} {s} {first} {whole} {command} {at} {place} {t} {memory} {room} g =
+going-place {c} {s} {first} {whole} {command} {at} {place} {just} {t} {memory} {room} g =
     let p = g .place-is in
-    let l : length (whole .blocks) ≡ length (g .written ++ run c s (g .blocks-left) place t memory .blocks) = ap (λ (x : Ran). length (x .blocks)) (g .left) in
-    let n = length-append (g .written) (run c s (g .blocks-left) place t memory .blocks) in
+    let l : length (whole .blocks) ≡ length (g .written ++ run c s just (g .blocks-left) place t memory .blocks) = ap (λ (x : Ran). length (x .blocks)) (g .left) in
+    let n = length-append (g .written) (run c s just (g .blocks-left) place t memory .blocks) in
     omega arith
 
-pub going-length : {c : Caller} {s first : List ℕ} {whole : Ran} {command at place : ℕ} {t : Tables} {memory room : List ℕ} → Going c s first whole command at place t memory room
+pub going-length : {c : Caller} {s first : List ℕ} {whole : Ran} {command at place just : ℕ} {t : Tables} {memory room : List ℕ} → Going c s first whole command at place just t memory room
     → 32 + length (whole .blocks) ≤ length first → length room ≡ length first
 going-length {first = first} g enough =
     let p = g .place-is in
@@ -182,10 +184,10 @@ data Kind (a : Answer) (memory : List ℕ) : Type 0 where
   was-done : Says a memory → Kind a memory
 
 kind : (a : Answer) (memory : List ℕ) → inside a ≡ true → length memory ≡ 65536 → Kind a memory
-unfolding givenOf blockOf answerSize replySize statusAfter holderLeft goesOn inside
+unfolding givenOf blockOf answerSize replySize statusAfter holderLeft goesOn justOpened openedBy inside
 kind (Refused why) memory i m = was-refused why refl
-kind Locked memory i m = was-done (record { said = locked; given = λ t. refl; block = λ p l. refl; size = refl; status-is = refl; nobody = refl; next-is = λ n. refl })
-kind LoggedOff memory i m = was-done (record { said = loggedOff; given = λ t. refl; block = λ p l. refl; size = refl; status-is = refl; nobody = refl; next-is = λ n. refl })
+kind Locked memory i m = was-done (record { said = locked; given = λ t. refl; block = λ p l. refl; size = refl; status-is = refl; nobody = refl; next-is = λ n. refl; opens = refl })
+kind LoggedOff memory i m = was-done (record { said = loggedOff; given = λ t. refl; block = λ p l. refl; size = refl; status-is = refl; nobody = refl; next-is = λ n. refl; opens = refl })
 kind (Read place count) memory i m =
     was-done (record {
       said = read (take count (drop place memory));
@@ -195,9 +197,10 @@ kind (Read place count) memory i m =
       status-is = refl;
       nobody = refl;
       next-is = λ n. refl;
+      opens = refl;
     })
-kind (Wrote count) memory i m = was-done (record { said = wrote count; given = λ t. refl; block = λ p l. refl; size = refl; status-is = refl; nobody = refl; next-is = λ n. refl })
-kind Plain memory i m = was-done (record { said = plain; given = λ t. refl; block = λ p l. refl; size = refl; status-is = refl; nobody = refl; next-is = λ n. refl })
+kind (Wrote count) memory i m = was-done (record { said = wrote count; given = λ t. refl; block = λ p l. refl; size = refl; status-is = refl; nobody = refl; next-is = λ n. refl; opens = refl })
+kind Plain memory i m = was-done (record { said = plain; given = λ t. refl; block = λ p l. refl; size = refl; status-is = refl; nobody = refl; next-is = λ n. refl; opens = refl })
 kind (CoreRead place count) memory i m =
     was-done (record {
       said = coreRead (take count (drop place memory));
@@ -207,31 +210,43 @@ kind (CoreRead place count) memory i m =
       status-is = refl;
       nobody = refl;
       next-is = λ n. refl;
+      opens = refl;
     })
-kind (CoreWrote count) memory i m = was-done (record { said = coreWrote count; given = λ t. refl; block = λ p l. refl; size = refl; status-is = refl; nobody = refl; next-is = λ n. refl })
+kind (CoreWrote count) memory i m = was-done (record { said = coreWrote count; given = λ t. refl; block = λ p l. refl; size = refl; status-is = refl; nobody = refl; next-is = λ n. refl; opens = refl })
+kind (Opened fid size access results) memory i m =
+    was-done (record {
+      said = opened fid size access results;
+      given = λ t. refl;
+      block = λ p l. refl;
+      size = refl;
+      status-is = refl;
+      nobody = refl;
+      next-is = λ n. refl;
+      opens = refl;
+    })
 
-module _ {c : Caller} {s first : List ℕ} {whole : Ran} {command at place : ℕ} {t : Tables} {memory room : List ℕ} (g : Going c s first whole command at place t memory room) (b : Block) (e : parse s command at ≡ Whole b) where
+module _ {c : Caller} {s first : List ℕ} {whole : Ran} {command at place just : ℕ} {t : Tables} {memory room : List ℕ} (g : Going c s first whole command at place just t memory room) (b : Block) (e : parse s command at ≡ Whole b) where
   pub here : Head s command at (g .blocks-left) b
   here = head (g .chained) b e
 
-  the-whole : whole ≡ after (g .written) (run c s (b ∷ here .behind) place t memory)
-  the-whole = g .left ∙ ap (λ (bs : List Block). after (g .written) (run c s bs place t memory)) (here .same)
+  the-whole : whole ≡ after (g .written) (run c s just (b ∷ here .behind) place t memory)
+  the-whole = g .left ∙ ap (λ (bs : List Block). after (g .written) (run c s just bs place t memory)) (here .same)
 
   -- what is done: the reply block stands behind those written, and the chain goes on behind it
-  module _ (t′ : Tables) (memory′ : List ℕ) (said : Said) (d : perform c t memory (b .body) (areaOf s b) (dataOf s b) ≡ done t′ memory′ said) where
+  module _ (t′ : Tables) (memory′ : List ℕ) (said : Said) (d : perform c t memory (bodyMeant just (b .body)) (areaOf s b) (dataOf s b) ≡ done t′ memory′ said) where
     abbrev block : List ℕ
     block = replyBlock said place (linkFor (b .next) (place + replySize said))
 
-    done-whole : whole ≡ after (g .written ++ block) (run c s (here .behind) (place + replySize said) t′ memory′)
+    done-whole : whole ≡ after (g .written ++ block) (run c s (openedBy said) (here .behind) (place + replySize said) t′ memory′)
     done-whole =
         the-whole
         ∙ ap (after (g .written))
-        (run-done c s b (here .behind) place t memory t′ memory′ said d
-        ∙ ap (λ (l : Link). after (replyBlock said place l) (run c s (here .behind) (place + replySize said) t′ memory′)) (here .link (place + replySize said)))
-        ∙ after-after (g .written) block (run c s (here .behind) (place + replySize said) t′ memory′)
+        (run-done c s just b (here .behind) place t memory t′ memory′ said d
+        ∙ ap (λ (l : Link). after (replyBlock said place l) (run c s (openedBy said) (here .behind) (place + replySize said) t′ memory′)) (here .link (place + replySize said)))
+        ∙ after-after (g .written) block (run c s (openedBy said) (here .behind) (place + replySize said) t′ memory′)
 
     done-good : Good t′
-    done-good = keeps-good (rw d at (perform-keeps t (g .good) c memory (b .body) (areaOf s b) (dataOf s b)))
+    done-good = keeps-good (rw d at (perform-keeps t (g .good) c memory (bodyMeant just (b .body)) (areaOf s b) (dataOf s b)))
 
     done-place : place + replySize said ≡ 32 + length (g .written ++ block)
     done-place =
@@ -240,27 +255,27 @@ module _ {c : Caller} {s first : List ℕ} {whole : Ran} {command at place : ℕ
         rw (length-append) (omega arith)
 
   -- what is refused: its block stands behind those written, and the tables and the file memory are as they were
-  module _ (why : Refusal) (d : perform c t memory (b .body) (areaOf s b) (dataOf s b) ≡ refused why) where
+  module _ (why : Refusal) (d : perform c t memory (bodyMeant just (b .body)) (areaOf s b) (dataOf s b) ≡ refused why) where
     refused-whole : whole ≡ record { status = statusOf why; holder = holderOf why; tables = t; memory = memory; blocks = g .written ++ refusedBlock }
     unfolding after
-    refused-whole = the-whole ∙ ap (after (g .written)) (run-refused c s b (here .behind) place t memory why d)
+    refused-whole = the-whole ∙ ap (after (g .written)) (run-refused c s just b (here .behind) place t memory why d)
 
-  module _ (a : Answer) (t′ : Tables) (memory′ : List ℕ) (meaning : perform c t memory (b .body) (areaOf s b) (dataOf s b) ≡ givenOf a t′ memory′)
-      (tables-left : t′ ≡ tablesAfter (perform c t memory (b .body) (areaOf s b) (dataOf s b)) t)
-      (memory-left : memory′ ≡ memoryAfter (perform c t memory (b .body) (areaOf s b) (dataOf s b)) memory) (within : inside a ≡ true) (size : length memory′ ≡ 65536) where
+  module _ (a : Answer) (t′ : Tables) (memory′ : List ℕ) (meaning : perform c t memory (bodyMeant just (b .body)) (areaOf s b) (dataOf s b) ≡ givenOf a t′ memory′)
+      (tables-left : t′ ≡ tablesAfter (perform c t memory (bodyMeant just (b .body)) (areaOf s b) (dataOf s b)) t)
+      (memory-left : memory′ ≡ memoryAfter (perform c t memory (bodyMeant just (b .body)) (areaOf s b) (dataOf s b)) memory) (within : inside a ≡ true) (size : length memory′ ≡ 65536) where
     fits-kind : Kind a memory′ → place + answerSize a ≤ 32 + length (whole .blocks)
     unfolding givenOf answerSize refusedBlock after
     fits-kind (was-refused why f) =
         let p = g .place-is in
-        let r : perform c t memory (b .body) (areaOf s b) (dataOf s b) ≡ refused why = meaning ∙ ap (λ (x : Answer). givenOf x t′ memory′) f in
+        let r : perform c t memory (bodyMeant just (b .body)) (areaOf s b) (dataOf s b) ≡ refused why = meaning ∙ ap (λ (x : Answer). givenOf x t′ memory′) f in
         let w : length (whole .blocks) ≡ length (g .written ++ refusedBlock) = ap (λ (x : Ran). length (x .blocks)) (refused-whole why r) in
         let l = length-append (g .written) refusedBlock in
         rw f (omega arith)
     fits-kind (was-done k) =
-        let d : perform c t memory (b .body) (areaOf s b) (dataOf s b) ≡ done t′ memory′ (k .said) = meaning ∙ k .given t′ in
-        let w : length (whole .blocks) ≡ length ((g .written ++ block t′ memory′ (k .said) d) ++ run c s (here .behind) (place + replySize (k .said)) t′ memory′ .blocks) =
+        let d : perform c t memory (bodyMeant just (b .body)) (areaOf s b) (dataOf s b) ≡ done t′ memory′ (k .said) = meaning ∙ k .given t′ in
+        let w : length (whole .blocks) ≡ length ((g .written ++ block t′ memory′ (k .said) d) ++ run c s (openedBy (k .said)) (here .behind) (place + replySize (k .said)) t′ memory′ .blocks) =
         ap (λ (x : Ran). length (x .blocks)) (done-whole t′ memory′ (k .said) d) in
-        let l = length-append (g .written ++ block t′ memory′ (k .said) d) (run c s (here .behind) (place + replySize (k .said)) t′ memory′ .blocks) in
+        let l = length-append (g .written ++ block t′ memory′ (k .said) d) (run c s (openedBy (k .said)) (here .behind) (place + replySize (k .said)) t′ memory′ .blocks) in
         let p = done-place t′ memory′ (k .said) d in
         rw (k .size) (omega arith)
 
@@ -285,7 +300,7 @@ module _ {c : Caller} {s first : List ℕ} {whole : Ran} {command at place : ℕ
       unfolding givenOf blockOf answerSize refusedBlock after statusAfter holderLeft tablesAfter memoryAfter run
       end-kind (was-refused why f) stop =
           let p = g .place-is in
-          let r : perform c t memory (b .body) (areaOf s b) (dataOf s b) ≡ refused why = meaning ∙ ap (λ (x : Answer). givenOf x t′ memory′) f in
+          let r : perform c t memory (bodyMeant just (b .body)) (areaOf s b) (dataOf s b) ≡ refused why = meaning ∙ ap (λ (x : Answer). givenOf x t′ memory′) f in
           let w = refused-whole why r in
           let q : place + answerSize a ≡ 32 + length (g .written ++ refusedBlock) =
           ap (λ (x : Answer). place + answerSize x) f ∙ (let l = length-append (g .written) refusedBlock in omega arith) in
@@ -298,11 +313,11 @@ module _ {c : Caller} {s first : List ℕ} {whole : Ran} {command at place : ℕ
             place-is = q ∙ sym (ap (λ (x : Ran). 32 + length (x .blocks)) w);
           }
       end-kind (was-done k) stop =
-          let d : perform c t memory (b .body) (areaOf s b) (dataOf s b) ≡ done t′ memory′ (k .said) = meaning ∙ k .given t′ in
+          let d : perform c t memory (bodyMeant just (b .body)) (areaOf s b) (dataOf s b) ≡ done t′ memory′ (k .said) = meaning ∙ k .given t′ in
           let last : here .behind ≡ [] = here .ends (sym (k .next-is (b .next)) ∙ stop) in
           let w : whole ≡ record { status = status 0 0; holder = Nobody; tables = t′; memory = memory′; blocks = g .written ++ block t′ memory′ (k .said) d } =
           done-whole t′ memory′ (k .said) d
-          ∙ ap (λ (bs : List Block). after (g .written ++ block t′ memory′ (k .said) d) (run c s bs (place + replySize (k .said)) t′ memory′)) last
+          ∙ ap (λ (bs : List Block). after (g .written ++ block t′ memory′ (k .said) d) (run c s (openedBy (k .said)) bs (place + replySize (k .said)) t′ memory′)) last
           ∙ ap (λ (x : List ℕ). record { status = status 0 0; holder = Nobody; tables = t′; memory = memory′; blocks = x }) (append-nil (g .written ++ block t′ memory′ (k .said) d)) in
           record {
             status-is = k .status-is ∙ sym (ap (λ (x : Ran). x .status) w);
@@ -314,14 +329,14 @@ module _ {c : Caller} {s first : List ℕ} {whole : Ran} {command at place : ℕ
             place-is = ap (λ (n : ℕ). place + n) (k .size) ∙ done-place t′ memory′ (k .said) d ∙ sym (ap (λ (x : Ran). 32 + length (x .blocks)) w);
           }
 
-      more-kind : Kind a memory′ → (c₁ a₁ : ℕ) → goesOn a (b .next) ≡ Follow c₁ a₁ → Going c s first whole c₁ a₁ (place + answerSize a) t′ memory′ room′
+      more-kind : Kind a memory′ → (c₁ a₁ : ℕ) → goesOn a (b .next) ≡ Follow c₁ a₁ → Going c s first whole c₁ a₁ (place + answerSize a) (justOpened a) t′ memory′ room′
       unfolding goesOn
       more-kind (was-refused why f) c₁ a₁ stop =
           let z : End ≡ Follow c₁ a₁ = sym (ap (λ (x : Answer). goesOn x (b .next)) f) ∙ stop in
           let n : _≡_ {A = ℕ} 0 1 = cc in
           absurd (omega arith)
       more-kind (was-done k) c₁ a₁ stop =
-          let d : perform c t memory (b .body) (areaOf s b) (dataOf s b) ≡ done t′ memory′ (k .said) = meaning ∙ k .given t′ in
+          let d : perform c t memory (bodyMeant just (b .body)) (areaOf s b) (dataOf s b) ≡ done t′ memory′ (k .said) = meaning ∙ k .given t′ in
           record {
             blocks-left = here .behind;
             chained = here .follows c₁ a₁ (sym (k .next-is (b .next)) ∙ stop);
@@ -329,7 +344,8 @@ module _ {c : Caller} {s first : List ℕ} {whole : Ran} {command at place : ℕ
             room-is = room-then (block t′ memory′ (k .said) d) (k .block place (linkFor (b .next) (place + answerSize a)) ∙ ap (λ (n : ℕ). replyBlock (k .said) place (linkFor (b .next) (place + n))) (k .size));
             place-is = ap (λ (n : ℕ). place + n) (k .size) ∙ done-place t′ memory′ (k .said) d;
             left = done-whole t′ memory′ (k .said) d
-                ∙ ap (λ (n : ℕ). after (g .written ++ block t′ memory′ (k .said) d) (run c s (here .behind) (place + n) t′ memory′)) (sym (k .size));
+                ∙ ap (λ (n : ℕ). after (g .written ++ block t′ memory′ (k .said) d) (run c s (openedBy (k .said)) (here .behind) (place + n) t′ memory′)) (sym (k .size))
+                ∙ ap (λ (j : ℕ). after (g .written ++ block t′ memory′ (k .said) d) (run c s j (here .behind) (place + answerSize a) t′ memory′)) (sym (k .opens));
             good = done-good t′ memory′ (k .said) d;
             memory-size = size;
           }
@@ -339,5 +355,5 @@ module _ {c : Caller} {s first : List ℕ} {whole : Ran} {command at place : ℕ
       turn-end = end-kind (kind a memory′ within size)
 
       -- it goes on with the next block
-      pub turn-more : (c₁ a₁ : ℕ) → goesOn a (b .next) ≡ Follow c₁ a₁ → Going c s first whole c₁ a₁ (place + answerSize a) t′ memory′ room′
+      pub turn-more : (c₁ a₁ : ℕ) → goesOn a (b .next) ≡ Follow c₁ a₁ → Going c s first whole c₁ a₁ (place + answerSize a) (justOpened a) t′ memory′ room′
       turn-more = more-kind (kind a memory′ within size)

@@ -33,9 +33,10 @@ use Rattle.message.specs.declared.refusal.HeldBy.the-variants.{Nobody}
 use Rattle.message.specs.Reply.{replyHeader, refusedBlock}
 use Rattle.message.specs.Command.{perform}
 use Rattle.message.specs.declared.answer.Answer.{Answer}
-use Rattle.message.specs.declared.answer.Answer.the-variants.{Refused, Locked, LoggedOff, Read, Wrote, Plain, CoreRead, CoreWrote}
+use Rattle.message.specs.declared.answer.Answer.the-variants.{Refused, Locked, LoggedOff, Read, Wrote, Plain, CoreRead, CoreWrote, Opened}
 use Rattle.message.specs.declared.answer.Performed.{Performed}
 use Rattle.message.specs.Given.{Gives, inside, blockOf, answerSize}
+use Rattle.message.specs.JustOpened.{NOBODY, bodyMeant}
 use Rattle.message.specs.Message.{areaOf, dataOf, Ran, onlyStatus, runChain, served, answered, replyOf, Taken, replied}
 use Rattle.invariants.specs.Sound.{Good}
 use Rattle.invariants.specs.ReplySize.{length-header}
@@ -44,7 +45,7 @@ use Rattle.message.specs.declared.link.Link.{Link}
 use Rattle.tables.specs.Words.{inUseFit}
 use Rattle.reply.specs.Links.{linkFor}
 use Rattle.reply.specs.BlockLaws.{length-of-block}
-use Rattle.server.specs.Step.{statusAfter, holderLeft, goesOn}
+use Rattle.server.specs.Step.{statusAfter, holderLeft, goesOn, justOpened}
 use Rattle.server.specs.Going.{Going, going-start, going-length, here, turn-fits, turn-end, turn-more, Finished}
 
 -- a chain's first block is there
@@ -64,10 +65,11 @@ goes-next (Wrote count) n command at e = e
 goes-next Plain n command at e = e
 goes-next (CoreRead place count) n command at e = e
 goes-next (CoreWrote count) n command at e = e
+goes-next (Opened fid size access results) n command at e = e
 
 -- the loop's start
 start-of : (c : Caller) (s room : List ℕ) (o : Option (List Block)) → blocks s ≡ o → readable o ≡ true → (t : Tables) (memory : List ℕ) → Good t → length memory ≡ 65536
-    → Going c s room (runChain c s o t memory) (headerCommand s) FIRST FIRST t memory room
+    → Going c s room (runChain c s o t memory) (headerCommand s) FIRST FIRST NOBODY t memory room
 unfolding runChain readable blocks
 start-of c s room none e r t memory g m = let z : _≡_ {A = ℕ} 0 1 = cc in absurd (omega arith)
 start-of c s room (some bs) e r t memory g m = going-start c s room t memory (read-chained s (headerCommand s) FIRST bs e) g m
@@ -82,18 +84,18 @@ module _ (c : Caller) (s first : List ℕ) (t₀ : Tables) (memory₀ : List ℕ
   abbrev pub wholeRun : Ran
   wholeRun = runChain c s (blocks s) t₀ memory₀
 
-  pub record Turn (command at place : ℕ) (t : Tables) (memory room : List ℕ) : Type 0 where
-    pub going : Going c s first wholeRun command at place t memory room
+  pub record Turn (command at place just : ℕ) (t : Tables) (memory room : List ℕ) : Type 0 where
+    pub going : Going c s first wholeRun command at place just t memory room
     pub most : 32 + length (wholeRun .blocks) ≤ 12292
     pub enough : 12292 ≤ length first
 
 pub turn-start : (c : Caller) (s room : List ℕ) (t : Tables) (memory : List ℕ) → readable (blocks s) ≡ true → Good t → length memory ≡ 65536 → length s ≤ 8192 → 12292 ≤ length room
-    → Turn c s room t memory (headerCommand s) FIRST FIRST t memory room
+    → Turn c s room t memory (headerCommand s) FIRST FIRST NOBODY t memory room
 turn-start c s room t memory r g m small enough =
     record { going = start-of c s room (blocks s) refl r t memory g m; most = run-fits c s t memory g small; enough = enough }
 
-module _ {c : Caller} {s first : List ℕ} {t₀ : Tables} {memory₀ : List ℕ} {command at place : ℕ} {t : Tables} {memory room : List ℕ}
-    (u : Turn c s first t₀ memory₀ command at place t memory room) where
+module _ {c : Caller} {s first : List ℕ} {t₀ : Tables} {memory₀ : List ℕ} {command at place just : ℕ} {t : Tables} {memory room : List ℕ}
+    (u : Turn c s first t₀ memory₀ command at place just t memory room) where
   -- a chain has a block where it begins
   pub turn-block : isWhole (parse s command at) ≡ true
   turn-block = first-stands (u .going .chained)
@@ -106,7 +108,7 @@ module _ {c : Caller} {s first : List ℕ} {t₀ : Tables} {memory₀ : List ℕ
     pub turn-parse : parse s (b .command) (b .at) ≡ Whole b
     turn-parse = ap (λ (x : ℕ). parse s x (b .at)) (here (u .going) b e .named) ∙ ap (λ (x : ℕ). parse s command x) (here (u .going) b e .stands) ∙ e
 
-    module _ (p : Performed) (memory′ : List ℕ) (g : Gives (perform c t memory (b .body) (areaOf s b) (dataOf s b)) t memory p memory′) (size : length memory′ ≡ 65536) where
+    module _ (p : Performed) (memory′ : List ℕ) (g : Gives (perform c t memory (bodyMeant just (b .body)) (areaOf s b) (dataOf s b)) t memory p memory′) (size : length memory′ ≡ 65536) where
       pub block-fits : place + answerSize (p .answer) ≤ 12292
       block-fits =
           let a = turn-fits (u .going) b e (p .answer) (p .tables) memory′ (g .meaning) (g .tables-left) (g .memory-left) (g .within) size in
@@ -123,7 +125,7 @@ module _ {c : Caller} {s first : List ℕ} {t₀ : Tables} {memory₀ : List ℕ
         turn-ends stop = turn-end (u .going) b e (p .answer) (p .tables) memory′ (g .meaning) (g .tables-left) (g .memory-left) (g .within) size room′ room-enough laid stop
 
         pub turn-goes : (command′ at′ : ℕ) → goesOn (p .answer) (b .next) ≡ Follow command′ at′
-            → Turn c s first t₀ memory₀ command′ at′ (place + answerSize (p .answer)) (p .tables) memory′ room′
+            → Turn c s first t₀ memory₀ command′ at′ (place + answerSize (p .answer)) (justOpened (p .answer)) (p .tables) memory′ room′
         turn-goes command′ at′ more =
             record {
               going = turn-more (u .going) b e (p .answer) (p .tables) memory′ (g .meaning) (g .tables-left) (g .memory-left) (g .within) size room′ room-enough laid command′ at′ more;
@@ -140,7 +142,7 @@ module _ {c : Caller} {s first : List ℕ} {t₀ : Tables} {memory₀ : List ℕ
 
 -- the words as a turn leaves them
 pub record Kept (before after : List ℕ) : Type 0 where
-  pub long : length after ≡ 1172
+  pub long : length after ≡ 1461
   pub fit : inUseFit before ≡ true → inUseFit after ≡ true
 
 -- a block written at the front of the room left stands behind the others
@@ -178,8 +180,8 @@ finish s room whole why who place t memory before after f e long enough =
 pub served-named : (command : ℕ) → isServed (requestNamed command) ≡ served command
 unfolding isServed served
 served-named command =
-    by-request (λ (request : ServedRequest) (n : ℕ). isServed request ≡ served n) command refl refl refl refl refl refl refl refl refl refl refl
-    (λ u. rw (u .no-locking, u .no-read, u .no-write, u .no-close, u .no-logoff, u .no-tree-disconnect, u .no-process-exit, u .no-core-read, u .no-core-write, u .no-lock-byte-range, u .no-unlock-byte-range))
+    by-request (λ (request : ServedRequest) (n : ℕ). isServed request ≡ served n) command refl refl refl refl refl refl refl refl refl refl refl refl
+    (λ u. rw (u .no-locking, u .no-read, u .no-write, u .no-close, u .no-logoff, u .no-tree-disconnect, u .no-process-exit, u .no-core-read, u .no-core-write, u .no-lock-byte-range, u .no-unlock-byte-range, u .no-open))
 
 pub answered-not-served : (connection : ℕ) (s : List ℕ) (t : Tables) (memory : List ℕ) → served (headerCommand s) ≡ false
     → answered connection s t memory ≡ onlyStatus (statusOf NotServed) t memory

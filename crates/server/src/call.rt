@@ -108,7 +108,7 @@ fn answer_message(
     memory: &mut [u8],
     room: &mut [u8],
 ) -> Taken
-    requires { ⌜ length (now words) ≡ 1172 ⌝ }
+    requires { ⌜ length (now words) ≡ 1461 ⌝ }
     requires { ⌜ Good (tablesOf (now words)) ⌝ }
     requires { ⌜ 35 ≤ length (now s) ⌝ }
     requires { ⌜ length (now s) ≤ 8192 ⌝ }
@@ -139,7 +139,7 @@ fn answer_message(
 pub fn take_message(
     connection: u32,
     s: &[u8],
-    words: &mut [u64; 1172],
+    words: &mut [u64; 1461],
     memory: &mut [u8],
     room: &mut [u8],
 ) -> Taken

@@ -1,7 +1,9 @@
 // The commands of a chain, carried out one after the other.
 
+use crate::step::NOBODY;
 use crate::step::goes_on;
 use crate::step::holder_left;
+use crate::step::opened_by;
 use crate::step::status_after;
 use chain::block::Next;
 use chain::header::COMMAND;
@@ -67,7 +69,7 @@ pub(crate) fn run_chain(
     memory: &mut [u8],
     room: &mut [u8],
 ) -> Ended
-    requires { ⌜ length (now words) ≡ 1172 ⌝ }
+    requires { ⌜ length (now words) ≡ 1461 ⌝ }
     requires { ⌜ Good (tablesOf (now words)) ⌝ }
     requires { ⌜ length (now memory) ≡ 65536 ⌝ }
     requires { ⌜ length (now s) ≤ 8192 ⌝ }
@@ -79,9 +81,10 @@ pub(crate) fn run_chain(
     let mut command = wire::byte_at(s, COMMAND);
     let mut at: usize = FIRST;
     let mut place: usize = FIRST;
+    let mut just = NOBODY;
     loop {
         let b = fields_at(s, command, at);
-        let answer = perform_block(c, words, s, b, memory);
+        let answer = perform_block(c, words, s, b, just, memory);
         let next = b.next;
         place = add_block(answer, next, place, memory, room);
         let Next::Follow(then, from) = goes_on(answer, next) else {
@@ -93,5 +96,6 @@ pub(crate) fn run_chain(
         };
         command = then;
         at = from;
+        just = opened_by(answer);
     }
 }

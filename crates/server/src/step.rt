@@ -7,7 +7,7 @@ use message::refusal::Status;
 use message::refusal::holder_of;
 use message::refusal::status_of;
 ghost use mathlib.Core.Path.{_≡_};
-ghost use Rattle.server.specs.Step.{statusAfter, holderLeft, goesOn};
+ghost use Rattle.server.specs.Step.{statusAfter, holderLeft, goesOn, justOpened};
 
 // The status that an answer leaves in the header, if it is the last: 0/0 unless it is a refusal.
 pub(crate) fn status_after(a: Answer) -> Status
@@ -36,5 +36,17 @@ pub(crate) fn goes_on(a: Answer, next: Next) -> Next
     match a {
         Answer::Refused(_) => Next::End,
         _ => next,
+    }
+}
+
+// What FID 0xFFFF means in the next block: "the file just opened", or nobody's.
+pub(crate) const NOBODY: u16 = 0xffff;
+
+pub(crate) fn opened_by(a: Answer) -> u16
+    ensures { λ r. ⌜ r ≡ justOpened a ⌝ }
+{
+    match a {
+        Answer::Opened(fid, _, _, _) => fid,
+        _ => NOBODY,
     }
 }

@@ -12,11 +12,11 @@ use borrow.Author.Needs.{needs}
 use native.Mathlib.Omega.{arith}
 
 abbrev Inv-loop : tie.InvT-loop
-Inv-loop c s words₀ memory₀ room₀ command₀ at₀ place₀ words memory room command at place =
-    Turn c s room₀ (tablesOf words₀) memory₀ command at place (tablesOf words) memory room × Kept words₀ words
+Inv-loop c s words₀ memory₀ room₀ command₀ at₀ place₀ just₀ words memory room command at place just =
+    Turn c s room₀ (tablesOf words₀) memory₀ command at place just (tablesOf words) memory room × Kept words₀ words
 
 abbrev μ-loop : tie.MeasureT-loop
-μ-loop c s words₀ memory₀ room₀ command₀ at₀ place₀ words memory room command at place = length s - at
+μ-loop c s words₀ memory₀ room₀ command₀ at₀ place₀ just₀ words memory room command at place just = length s - at
 
 byte-at-requires : tie.Need-byte-at-requires Inv-loop μ-loop
 byte-at-requires c κs = search needs
@@ -43,10 +43,10 @@ add-block-requires c κs =
     let inv = c .before .before .before .before .before .before .before .before .before .before .loop .inv in
     let block = c .before .before .before .before .before .before .before .before .before .fields-at in
     let done = c .before .before .before .before .before .before .perform-block in
-    let size = done .kept .1 .1 .1 .1 .0 ∙ inv .0 .going .memory-size in
+    let size = done .kept .1 .1 .1 .1 .1 .0 ∙ inv .0 .going .memory-size in
     let l = turn-length (inv .0) in
     let n = inv .0 .enough in
-    (size, (done .ensures .0 .within, (block-fits (inv .0) (block .result) (sym (block .ensures)) (performed (done .result) (tablesOf (done .last .1 .0))) (done .last .1 .1 .1 .1 .0) (done .ensures .0) size, omega arith)))
+    (size, (done .ensures .0 .within, (block-fits (inv .0) (block .result) (sym (block .ensures)) (performed (done .result) (tablesOf (done .last .1 .0))) (done .last .1 .1 .1 .1 .1 .0) (done .ensures .0) size, omega arith)))
 
 goes-on-requires : tie.Need-goes-on-requires Inv-loop μ-loop
 goes-on-requires c κs = search needs
@@ -67,7 +67,7 @@ same-length : tie.Need-same-length Inv-loop μ-loop
 same-length c = c .before .before .before .before .before .before .before .before .before .before .before .before .before .before .perform-block .kept .1 .0 ∙ c .before .before .before .before .before .before .before .before .before .before .before .before .before .before .before .before .before .before .loop .inv .1 .long ∙ sym (c .before .before .before .before .before .before .before .before .before .before .before .before .before .before .before .before .before .before .before .before .before .before .before .before .pre .0)
 
 same-length-2 : tie.Need-same-length-2 Inv-loop μ-loop
-same-length-2 c = c .before .before .before .before .before .before .before .before .before .before .before .before .before .before .perform-block .kept .1 .1 .1 .1 .0 ∙ c .before .before .before .before .before .before .before .before .before .before .before .before .before .before .before .before .before .before .loop .inv .0 .going .memory-size ∙ sym (c .before .before .before .before .before .before .before .before .before .before .before .before .before .before .before .before .before .before .before .before .before .before .before .before .pre .1 .1 .0)
+same-length-2 c = c .before .before .before .before .before .before .before .before .before .before .before .before .before .before .perform-block .kept .1 .1 .1 .1 .1 .0 ∙ c .before .before .before .before .before .before .before .before .before .before .before .before .before .before .before .before .before .before .loop .inv .0 .going .memory-size ∙ sym (c .before .before .before .before .before .before .before .before .before .before .before .before .before .before .before .before .before .before .before .before .before .before .before .before .pre .1 .1 .0)
 
 same-length-3 : tie.Need-same-length-3 Inv-loop μ-loop
 same-length-3 c = c .before .before .before .before .before .before .before .add-block .kept .1 .1 .1 .1 .0 ∙ turn-length (c .before .before .before .before .before .before .before .before .before .before .before .before .before .before .before .before .before .before .loop .inv .0)
@@ -77,27 +77,30 @@ returns c =
     let inv = c .before .before .before .before .before .before .before .before .before .before .before .before .before .before .before .before .before .before .loop .inv in
     let block = c .before .before .before .before .before .before .before .before .before .before .before .before .before .before .before .before .before .fields-at in
     let done = c .before .before .before .before .before .before .before .before .before .before .before .before .before .before .perform-block in
-    let size = done .kept .1 .1 .1 .1 .0 ∙ inv .0 .going .memory-size in
+    let size = done .kept .1 .1 .1 .1 .1 .0 ∙ inv .0 .going .memory-size in
     let add-block = c .before .before .before .before .before .before .before .add-block in (
-      rw (c .before .status-after .ensures, c .holder-left .ensures, add-block .ensures .0) (turn-ends (inv .0) (block .result) (sym (block .ensures)) (performed (done .result) (tablesOf (done .last .1 .0))) (done .last .1 .1 .1 .1 .0) (done .ensures .0) size (add-block .last .1 .1 .1 .1 .0) (add-block .ensures .1) (sym (c .before .before .before .before .goes-on .ensures) ∙ c .before .before .enum-told .given .1)),
+      rw (c .before .status-after .ensures, c .holder-left .ensures, add-block .ensures .0) (turn-ends (inv .0) (block .result) (sym (block .ensures)) (performed (done .result) (tablesOf (done .last .1 .0))) (done .last .1 .1 .1 .1 .1 .0) (done .ensures .0) size (add-block .last .1 .1 .1 .1 .0) (add-block .ensures .1) (sym (c .before .before .before .before .goes-on .ensures) ∙ c .before .before .enum-told .given .1)),
       λ f. done .ensures .1 (inv .1 .fit f),
     )
 
+opened-by-requires : tie.Need-opened-by-requires Inv-loop μ-loop
+opened-by-requires c κs = search needs
+
 loop-less : tie.Need-loop-less Inv-loop μ-loop
 loop-less c =
-    let block = c .before .before .before .before .before .before .before .before .before .before .before .before .before .before .before .before .fields-at in
-    let then = c .before .then .given in
-    turn-falls (c .before .before .before .before .before .before .before .before .before .before .before .before .before .before .before .before .before .loop .inv .0) (block .result) (sym (block .ensures)) (c .before .before .before .before .before .before .before .before .before .before .before .before .before .perform-block .result) (then .0 .0) (then .0 .1 .0) (sym (c .before .before .before .goes-on .ensures) ∙ then .1)
+    let block = c .before .before .before .before .before .before .before .before .before .before .before .before .before .before .before .before .before .fields-at in
+    let then = c .before .before .then .given in
+    turn-falls (c .before .before .before .before .before .before .before .before .before .before .before .before .before .before .before .before .before .before .loop .inv .0) (block .result) (sym (block .ensures)) (c .before .before .before .before .before .before .before .before .before .before .before .before .before .before .perform-block .result) (then .0 .0) (then .0 .1 .0) (sym (c .before .before .before .before .goes-on .ensures) ∙ then .1)
 
 loop-again : tie.Need-loop-again Inv-loop μ-loop
 loop-again c =
-    let inv = c .before .before .before .before .before .before .before .before .before .before .before .before .before .before .before .before .before .loop .inv in
-    let block = c .before .before .before .before .before .before .before .before .before .before .before .before .before .before .before .before .fields-at in
-    let done = c .before .before .before .before .before .before .before .before .before .before .before .before .before .perform-block in
-    let size = done .kept .1 .1 .1 .1 .0 ∙ inv .0 .going .memory-size in
-    let add-block = c .before .before .before .before .before .before .add-block in
-    let then = c .before .then .given in (
-      rw (add-block .ensures .0) (turn-goes (inv .0) (block .result) (sym (block .ensures)) (performed (done .result) (tablesOf (done .last .1 .0))) (done .last .1 .1 .1 .1 .0) (done .ensures .0) size (add-block .last .1 .1 .1 .1 .0) (add-block .ensures .1) (then .0 .0) (then .0 .1 .0) (sym (c .before .before .before .goes-on .ensures) ∙ then .1)),
+    let inv = c .before .before .before .before .before .before .before .before .before .before .before .before .before .before .before .before .before .before .loop .inv in
+    let block = c .before .before .before .before .before .before .before .before .before .before .before .before .before .before .before .before .before .fields-at in
+    let done = c .before .before .before .before .before .before .before .before .before .before .before .before .before .before .perform-block in
+    let size = done .kept .1 .1 .1 .1 .1 .0 ∙ inv .0 .going .memory-size in
+    let add-block = c .before .before .before .before .before .before .before .add-block in
+    let then = c .before .before .then .given in (
+      rw (add-block .ensures .0, c .opened-by .ensures) (turn-goes (inv .0) (block .result) (sym (block .ensures)) (performed (done .result) (tablesOf (done .last .1 .0))) (done .last .1 .1 .1 .1 .1 .0) (done .ensures .0) size (add-block .last .1 .1 .1 .1 .0) (add-block .ensures .1) (then .0 .0) (then .0 .1 .0) (sym (c .before .before .before .before .goes-on .ensures) ∙ then .1)),
       record { long = done .kept .1 .0 ∙ inv .1 .long; fit = λ f. done .ensures .1 (inv .1 .fit f) },
     )
 
@@ -121,5 +124,6 @@ run-chain-spec =
     same-length-2
     same-length-3
     returns
+    opened-by-requires
     loop-less
     loop-again)

@@ -18,7 +18,7 @@ returns-2 : tie.Need-returns-2
 unfolding goesOn
 returns-2 c =
     let next = c .before .args .next in
-    unrefused (λ a. next ≡ goesOn a next) refl refl (λ p n. refl) (λ n. refl) refl (λ p n. refl) (λ n. refl) (c .before .args .a) (c .match .keys2)
+    unrefused (λ a. next ≡ goesOn a next) refl refl (λ p n. refl) (λ n. refl) refl (λ p n. refl) (λ n. refl) (λ f s a r. refl) (c .before .args .a) (c .match .keys2)
 
 pub goes-on-spec : {M : Type 1} → statement M
 goes-on-spec = tie.close (tie.spec enum-told returns returns-2)

@@ -20,7 +20,7 @@ returns c = rw (c .before .before .a .given .1) (c .holder-of .ensures)
 
 returns-2 : tie.Need-returns-2
 unfolding holderLeft
-returns-2 c = unrefused (λ a. Nobody ≡ holderLeft a) refl refl (λ p n. refl) (λ n. refl) refl (λ p n. refl) (λ n. refl) (c .before .args .a) (c .match .keys2)
+returns-2 c = unrefused (λ a. Nobody ≡ holderLeft a) refl refl (λ p n. refl) (λ n. refl) refl (λ p n. refl) (λ n. refl) (λ f s a r. refl) (c .before .args .a) (c .match .keys2)
 
 pub holder-left-spec : {M : Type 1} → statement M
 holder-left-spec = tie.close (tie.spec enum-known-a holder-of-requires returns returns-2)

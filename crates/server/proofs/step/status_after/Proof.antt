@@ -20,7 +20,7 @@ returns c = rw (c .before .before .a .given .1) (c .status-of .ensures)
 
 returns-2 : tie.Need-returns-2
 unfolding statusAfter status
-returns-2 c = unrefused (λ a. status 0 0 ≡ statusAfter a) refl refl (λ p n. refl) (λ n. refl) refl (λ p n. refl) (λ n. refl) (c .before .args .a) (c .match .keys2)
+returns-2 c = unrefused (λ a. status 0 0 ≡ statusAfter a) refl refl (λ p n. refl) (λ n. refl) refl (λ p n. refl) (λ n. refl) (λ f s a r. refl) (c .before .args .a) (c .match .keys2)
 
 pub status-after-spec : {M : Type 1} → statement M
 status-after-spec = tie.close (tie.spec enum-known-a status-of-requires returns returns-2)
