@@ -1,16 +1,17 @@
 /*
- * The SMB1 message core as a C library (libgateway.a). It answers eleven requests: CLOSE 0x04, READ 0x0A, WRITE 0x0B,
- * LOCK_BYTE_RANGE 0x0C, UNLOCK_BYTE_RANGE 0x0D, PROCESS_EXIT 0x11, LOCKING_ANDX 0x24, READ_ANDX 0x2E, WRITE_ANDX 0x2F,
- * TREE_DISCONNECT 0x71 and LOGOFF_ANDX 0x74. READ, WRITE, LOCK_BYTE_RANGE and UNLOCK_BYTE_RANGE are the core commands of the
- * oldest benches: like their ANDX counterparts, but for what docs/HOST.md says of them.
+ * The SMB1 message core as a C library (libgateway.a). It answers twelve requests: CLOSE 0x04, READ 0x0A, WRITE 0x0B,
+ * LOCK_BYTE_RANGE 0x0C, UNLOCK_BYTE_RANGE 0x0D, PROCESS_EXIT 0x11, LOCKING_ANDX 0x24, OPEN_ANDX 0x2D, READ_ANDX 0x2E,
+ * WRITE_ANDX 0x2F, TREE_DISCONNECT 0x71 and LOGOFF_ANDX 0x74. READ, WRITE, LOCK_BYTE_RANGE and UNLOCK_BYTE_RANGE are the core
+ * commands of the oldest benches: like their ANDX counterparts, but for what docs/HOST.md says of them. OPEN_ANDX opens the
+ * files that the host has named in the catalogue.
  *
  * The host owns all memory. The tables are one struct of 64-bit words that the host keeps between calls, as it does the
  * file memory; the library keeps nothing. Start with gateway_empty. Calls on the same tables or the same file memory must
  * not run at the same time.
  *
  * No pointer may be NULL, not even one whose length is 0, and no two areas handed to one call may overlap: the tables,
- * an out-parameter (a message has two, the reply's length and the holder), the contents or the message, the file memory,
- * the reply room; a reader's state, its buffer, the piece and the step.
+ * an out-parameter (a message has two, the reply's length and the holder), the contents, the catalogue or the message, the
+ * file memory, the reply room; a reader's state, its buffer, the piece and the step.
  *
  * Every call on tables but gateway_empty returns one of the numbers below. A call that returns anything but GATEWAY_DONE
  * has written nothing at all: no table, no file byte, no reply byte, no out-parameter. The stream's calls, at the end of
@@ -33,7 +34,8 @@ extern "C" {
 #define GATEWAY_NOT_SOUND 4     /* tables not sound, or a word that does not fit its field */
 #define GATEWAY_FULL 5          /* table full */
 #define GATEWAY_NO_SUCH 6       /* no such session, or no such tree of that session */
-#define GATEWAY_OUT_OF_RANGE 7  /* file above 15, access above 2, right above 1, or load over 4,096 bytes */
+#define GATEWAY_OUT_OF_RANGE 7  /* file above 15, access above 2, right above 1, load over 4,096 bytes, or a catalogue of
+                                   over 16 names, or with a name of another length than 1 to 12, with a zero byte, or twice */
 #define GATEWAY_EXCEEDS_RIGHT 8 /* the open would exceed its tree's right */
 #define GATEWAY_FILE_OPEN 9     /* load of a file that has an open */
 
@@ -43,12 +45,21 @@ extern "C" {
 #define GATEWAY_OPENS 64
 #define GATEWAY_LOCKS 128
 #define GATEWAY_FILES 16
+#define GATEWAY_NAMES 16
 
 #define GATEWAY_FILE_SIZE 4096  /* bytes of file memory that each file has */
 #define GATEWAY_MEMORY 65536    /* bytes of file memory: file n stands at n * GATEWAY_FILE_SIZE */
 #define GATEWAY_ROOM 12292      /* bytes of reply room that a message needs at least */
-#define GATEWAY_WORDS 1172      /* 64-bit words in the tables */
+#define GATEWAY_NAME_BYTES 12   /* bytes that a name of the catalogue has at most */
+#define GATEWAY_WORDS 1461      /* 64-bit words in the tables */
+#define GATEWAY_CATALOGUE_WORDS 225 /* 64-bit words in a catalogue */
 #define GATEWAY_HOLDER_WORDS 6  /* 64-bit words in a holder */
+
+/* The sharing codes of an open: what it denies to other opens of its file. */
+#define GATEWAY_DENY_BOTH 1
+#define GATEWAY_DENY_WRITE 2
+#define GATEWAY_DENY_READ 3
+#define GATEWAY_DENY_NONE 4
 
 /*
  * The records. Each field is a 64-bit word, whatever its values: a comment gives the largest value that fits. A call
@@ -72,6 +83,8 @@ struct gateway_open {
     uint64_t process; /* PIDHigh * 65,536 + PIDLow of the request that opened the file; fits up to 4,294,967,295 */
     uint64_t file;    /* 0 to 15; fits up to 255 */
     uint64_t access;  /* 0 read, 1 write, 2 both; fits up to 255 */
+    uint64_t sharing; /* what an OPEN_ANDX asked for, one of the four codes above; GATEWAY_DENY_NONE of an open that the host
+                         added; fits up to 255 */
 };
 
 struct gateway_lock {
@@ -87,6 +100,19 @@ struct gateway_file {
     uint64_t size; /* how many of the file's bytes in the file memory count, up to 4,096; those behind are never sent */
 };
 
+/* A name by which OPEN_ANDX opens a file. Letters of ASCII are the same in both cases. */
+struct gateway_name {
+    uint64_t length;                   /* how many bytes, 1 to 12; fits up to 255 */
+    uint64_t text[GATEWAY_NAME_BYTES]; /* a byte to a word, none of the first `length` 0; each fits up to 255 */
+    uint64_t file;                     /* 0 to 15; fits up to 255 */
+};
+
+/* The names in use stand first, as many as the count says. */
+struct gateway_catalogue {
+    uint64_t count; /* 0 to 16 */
+    struct gateway_name names[GATEWAY_NAMES];
+};
+
 /* The tables. In each the records in use stand first, as many as the count says; locks in order of grant. */
 struct gateway_tables {
     uint64_t session_count;
@@ -98,6 +124,7 @@ struct gateway_tables {
     uint64_t lock_count;
     struct gateway_lock locks[GATEWAY_LOCKS];
     struct gateway_file files[GATEWAY_FILES];
+    struct gateway_catalogue catalogue;
 };
 
 /*
@@ -117,14 +144,16 @@ struct gateway_holder {
 };
 
 #ifdef __cplusplus
-static_assert(sizeof(struct gateway_tables) == GATEWAY_WORDS * sizeof(uint64_t), "the tables are 1172 words");
+static_assert(sizeof(struct gateway_tables) == GATEWAY_WORDS * sizeof(uint64_t), "the tables are 1461 words");
+static_assert(sizeof(struct gateway_catalogue) == GATEWAY_CATALOGUE_WORDS * sizeof(uint64_t), "a catalogue is 225 words");
 static_assert(sizeof(struct gateway_holder) == GATEWAY_HOLDER_WORDS * sizeof(uint64_t), "the holder is 6 words");
 #else
-_Static_assert(sizeof(struct gateway_tables) == GATEWAY_WORDS * sizeof(uint64_t), "the tables are 1172 words");
+_Static_assert(sizeof(struct gateway_tables) == GATEWAY_WORDS * sizeof(uint64_t), "the tables are 1461 words");
+_Static_assert(sizeof(struct gateway_catalogue) == GATEWAY_CATALOGUE_WORDS * sizeof(uint64_t), "a catalogue is 225 words");
 _Static_assert(sizeof(struct gateway_holder) == GATEWAY_HOLDER_WORDS * sizeof(uint64_t), "the holder is 6 words");
 #endif
 
-/* Writes tables with no record in use and every file empty. */
+/* Writes tables with no record in use, every file empty and no name in the catalogue. */
 void gateway_empty(struct gateway_tables *tables);
 
 /* Adds a session on a connection. On GATEWAY_DONE its UID, the smallest from 1 not in use, is in *uid. */
@@ -140,7 +169,8 @@ uint8_t gateway_add_tree(struct gateway_tables *tables, uint32_t uid, uint32_t r
 
 /*
  * Opens a file through the tree of that TID and UID, for a process: PIDHigh * 65,536 + PIDLow of the request that opens it.
- * On GATEWAY_DONE the FID is in *fid.
+ * On GATEWAY_DONE the FID is in *fid. The open denies nothing (GATEWAY_DENY_NONE), and what other opens of the file deny is not
+ * tested; an OPEN_ANDX that denies what its access has is refused as long as it stands.
  */
 uint8_t gateway_add_open(struct gateway_tables *tables, uint32_t uid, uint32_t tid, uint32_t process, uint32_t file,
                          uint32_t access, uint16_t *fid);
@@ -157,6 +187,14 @@ uint8_t gateway_load_file(struct gateway_tables *tables, uint32_t file, const ui
  * GATEWAY_DONE and changes nothing.
  */
 uint8_t gateway_drop_connection(struct gateway_tables *tables, uint32_t connection);
+
+/*
+ * Sets the catalogue whole: its count, at most 16, and all its names. Anything else is GATEWAY_OUT_OF_RANGE, and the old one
+ * stands: a name in use of no byte or more than 12, with a zero byte, with a file above 15, or that is another's but for the case
+ * of ASCII letters; or a word of a name in use, of any of its 12 places for bytes too, above 255. Two names may have one file. Opens
+ * that stand are not looked at.
+ */
+uint8_t gateway_set_catalogue(struct gateway_tables *tables, const struct gateway_catalogue *catalogue);
 
 /*
  * Carries out one request message of a connection. On GATEWAY_DONE the reply is the first *reply_length bytes of the

@@ -1,4 +1,4 @@
-// The gateway as a C program calls it (include/gateway.h): the tables are 1172 words of the host's. A number that names a record, a
+// The gateway as a C program calls it (include/gateway.h): the tables are 1461 words of the host's. A number that names a record, a
 // right, a file or an access is 32 bits wide, and one that its field cannot hold is answered as document 01 says for that number.
 
 mod argument;
@@ -12,6 +12,7 @@ use host::answer::DONE;
 use host::connection::drop_connection;
 use host::empty::empty_words;
 use host::file::load_file;
+use host::names::set_catalogue;
 use host::open::add_open;
 use host::session::add_session;
 use host::tree::add_tree;
@@ -21,12 +22,12 @@ ghost use mathlib.Core.Bool.{true};
 ghost use Rattle.host.specs.HostCall.{noTables};
 ghost use lib.ListN.{replicate};
 ghost use Rattle.tables.specs.Words.{tablesOf};
-ghost use Rattle.boundary.specs.Boundary.{numberOf, idAfter, sessionAdded, treeAdded, openAdded, connectionDropped, fileLoaded, loadNumberOf, memoryAfter, messageTaken, lengthAfter, holderAfter, ready, ForNext};
+ghost use Rattle.boundary.specs.Boundary.{numberOf, idAfter, sessionAdded, treeAdded, openAdded, connectionDropped, fileLoaded, loadNumberOf, memoryAfter, catalogueSet, messageTaken, lengthAfter, holderAfter, ready, ForNext};
 
 // Tables to start from.
 #[no_mangle]
-pub extern "C" fn gateway_empty(tables: &mut [u64; 1172])
-    ensures { λ _. ⌜ now (tables .exit) ≡ replicate 1172 0 ⌝ }
+pub extern "C" fn gateway_empty(tables: &mut [u64; 1461])
+    ensures { λ _. ⌜ now (tables .exit) ≡ replicate 1461 0 ⌝ }
     ensures { λ _. ⌜ tablesOf (now (tables .exit)) ≡ noTables ⌝ }
     ensures { λ _. ⌜ ready (now (tables .exit)) ≡ true ⌝ }
 {
@@ -36,7 +37,7 @@ pub extern "C" fn gateway_empty(tables: &mut [u64; 1172])
 // A session on a connection; its UID goes to uid.
 #[no_mangle]
 pub extern "C" fn gateway_add_session(
-    tables: &mut [u64; 1172],
+    tables: &mut [u64; 1461],
     connection: u32,
     uid: &mut u16,
 ) -> u8
@@ -56,7 +57,7 @@ pub extern "C" fn gateway_add_session(
 // A tree of a session; its TID goes to tid.
 #[no_mangle]
 pub extern "C" fn gateway_add_tree(
-    tables: &mut [u64; 1172],
+    tables: &mut [u64; 1461],
     uid: u32,
     right: u32,
     tid: &mut u16,
@@ -79,7 +80,7 @@ pub extern "C" fn gateway_add_tree(
 // An open of a file through a tree; its FID goes to fid.
 #[no_mangle]
 pub extern "C" fn gateway_add_open(
-    tables: &mut [u64; 1172],
+    tables: &mut [u64; 1461],
     uid: u32,
     tid: u32,
     process: u32,
@@ -114,7 +115,7 @@ pub extern "C" fn gateway_add_open(
 // The contents of a file that has no open, put into the file memory.
 #[no_mangle]
 pub extern "C" fn gateway_load_file(
-    tables: &mut [u64; 1172],
+    tables: &mut [u64; 1461],
     file: u32,
     contents: &[u8],
     memory: &mut [u8],
@@ -134,7 +135,7 @@ pub extern "C" fn gateway_load_file(
 
 // A connection has ended: its sessions go, each with what hangs on it.
 #[no_mangle]
-pub extern "C" fn gateway_drop_connection(tables: &mut [u64; 1172], connection: u32) -> u8
+pub extern "C" fn gateway_drop_connection(tables: &mut [u64; 1461], connection: u32) -> u8
     ensures { λ r. ⌜ r ≡ numberOf (now (tables .entry)) (connectionDropped (now (tables .entry)) connection) ⌝ }
     ensures { λ r. ⌜ ForNext (now (tables .entry)) (now (tables .exit)) r (connectionDropped (now (tables .entry)) connection .tables) ⌝ }
 {
@@ -146,11 +147,25 @@ pub extern "C" fn gateway_drop_connection(tables: &mut [u64; 1172], connection: 
     DONE
 }
 
+// The catalogue, set whole: 225 words, a count and 16 names of 14 words each.
+#[no_mangle]
+pub extern "C" fn gateway_set_catalogue(tables: &mut [u64; 1461], catalogue: &[u64; 225]) -> u8
+    ensures { λ r. ⌜ r ≡ numberOf (now (tables .entry)) (catalogueSet (now (tables .entry)) (now (catalogue .entry))) ⌝ }
+    ensures { λ r. ⌜ ForNext (now (tables .entry)) (now (tables .exit)) r (catalogueSet (now (tables .entry)) (now (catalogue .entry)) .tables) ⌝ }
+{
+    let a = set_catalogue(tables, catalogue);
+    let number = a.number;
+    if number != DONE {
+        return number;
+    }
+    DONE
+}
+
 // A request message of a connection. The reply goes to the start of the room, its length to written, and who holds the lock in its way
 // to holder.
 #[no_mangle]
 pub extern "C" fn gateway_take_message(
-    tables: &mut [u64; 1172],
+    tables: &mut [u64; 1461],
     connection: u32,
     message: &[u8],
     memory: &mut [u8],
