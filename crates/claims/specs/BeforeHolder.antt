@@ -33,13 +33,14 @@ use Rattle.chain.specs.declared.block.ReadFields.{ReadFields}
 use Rattle.chain.specs.declared.block.WriteFields.{WriteFields}
 use Rattle.chain.specs.declared.block.RangeFields.{RangeFields}
 use Rattle.chain.specs.declared.block.Body.{Body}
-use Rattle.chain.specs.declared.block.Body.the-variants.{Locking as LockingBody, Read as ReadBody, Write as WriteBody, Close, Logoff, TreeDisconnect, ProcessExit, CoreRead as CoreReadBody, CoreWrite as CoreWriteBody, LockByteRange, UnlockByteRange}
+use Rattle.chain.specs.declared.block.Body.the-variants.{Locking as LockingBody, Read as ReadBody, Write as WriteBody, Close, Logoff, TreeDisconnect, ProcessExit, CoreRead as CoreReadBody, CoreWrite as CoreWriteBody, LockByteRange, UnlockByteRange, Open as OpenBody}
 use Rattle.chain.specs.declared.block.Block.{Block}
 use Rattle.message.specs.Caller.{callerOf}
 use Rattle.message.specs.declared.caller.Caller.{Caller}
 use Rattle.message.specs.Contents.{sizeOf}
 use Rattle.message.specs.Refusal.{status, statusOf}
 use Rattle.message.specs.Command.{plain, Given, refused, done, isSession, withSession, withTree, isOpen, openAt, withOpen, servedType, requestOf, withLockList, lockingEnd, lockingAfter, doLocking, askBy, unlessBarred, barring, doRead, writing, endsPast, doWrite, asCore, rangeBy, oneRange, doRange, betweenSizes, doSetSize, doCoreWrite, perform}
+use Rattle.message.specs.JustOpened.{NOBODY, openedBy, bodyMeant}
 use Rattle.message.specs.Message.{areaOf, dataOf, linkTo, Ran, after, afterGiven, run, served, onlyStatus, runChain, answered, replyOf, Taken, notTaken, replied, take-message}
 use Rattle.message.specs.Reply.{replyBlock, replySize}
 use Rattle.claims.specs.YesOrNo.{Gave, refusedWith, onward, plainly, openIn, opened, grantsBefore, afterReleasesBefore, requestBefore, lockingBefore, unlessConflict, readBefore, writingBefore, writeBefore, coreGave, rangeBefore, setSizeBefore, coreWriteBefore, performBefore, RanBefore, refusedBefore, inFront, afterGave, runBefore, chainBefore, answeredBefore, TakenBefore, untaken, repliedBefore, takeBefore}
@@ -212,32 +213,33 @@ module _ (c : Caller) (t : Tables) (memory : List ℕ) where
   perform-before (CoreWriteBody f) area bytes = core-write-before f (drop 3 area)
   perform-before (LockByteRange f) area bytes = range-before f 0 1
   perform-before (UnlockByteRange f) area bytes = range-before f 1 0
+  perform-before (OpenBody f) area bytes = refl
 
 -- ---- a message
 
 -- a command's end, and the commands behind it
-given-before : (g : Given) (bs : List Block) (place : ℕ) (t : Tables) (memory : List ℕ) (x : ℕ → Tables → List ℕ → RanBefore)
-    (y : ℕ → Tables → List ℕ → Ran) → ((p : ℕ) (u : Tables) (m : List ℕ) → x p u m ≡ ranWithout (y p u m))
+given-before : (g : Given) (bs : List Block) (place : ℕ) (t : Tables) (memory : List ℕ) (x : ℕ → ℕ → Tables → List ℕ → RanBefore)
+    (y : ℕ → ℕ → Tables → List ℕ → Ran) → ((j p : ℕ) (u : Tables) (m : List ℕ) → x j p u m ≡ ranWithout (y j p u m))
     → afterGave (plainly g) bs place t memory x ≡ ranWithout (afterGiven g bs place t memory y)
 unfolding afterGave afterGiven plainly onward ranWithout refusedBefore inFront after
 given-before (refused why) bs place t memory x y e = refl
 given-before (done u m said) bs place t memory x y e =
-    ap (inFront (replyBlock said place (linkTo bs (place + replySize said)))) (e (place + replySize said) u m)
+    ap (inFront (replyBlock said place (linkTo bs (place + replySize said)))) (e (openedBy said) (place + replySize said) u m)
 
 -- "command by command"
-run-before : (c : Caller) (s : List ℕ) (bs : List Block) (place : ℕ) (t : Tables) (memory : List ℕ)
-    → runBefore c s bs place t memory ≡ ranWithout (run c s bs place t memory)
+run-before : (c : Caller) (s : List ℕ) (just : ℕ) (bs : List Block) (place : ℕ) (t : Tables) (memory : List ℕ)
+    → runBefore c s just bs place t memory ≡ ranWithout (run c s just bs place t memory)
 unfolding runBefore run ranWithout
-run-before c s [] place t memory = refl
-run-before c s (b ∷ bs) place t memory =
-    rw (perform-before c t memory (b .body) (areaOf s b) (dataOf s b))
-    (given-before (perform c t memory (b .body) (areaOf s b) (dataOf s b)) bs place t memory _ _ (λ p u m. run-before c s bs p u m))
+run-before c s just [] place t memory = refl
+run-before c s just (b ∷ bs) place t memory =
+    rw (perform-before c t memory (bodyMeant just (b .body)) (areaOf s b) (dataOf s b))
+    (given-before (perform c t memory (bodyMeant just (b .body)) (areaOf s b) (dataOf s b)) bs place t memory _ _ (λ j p u m. run-before c s j bs p u m))
 
 chain-before : (c : Caller) (s : List ℕ) (o : Option (List Block)) (t : Tables) (memory : List ℕ)
     → chainBefore c s o t memory ≡ ranWithout (runChain c s o t memory)
 unfolding chainBefore runChain onlyStatus refusedBefore ranWithout statusOf
 chain-before c s none t memory = refl
-chain-before c s (some bs) t memory = run-before c s bs FIRST t memory
+chain-before c s (some bs) t memory = run-before c s NOBODY bs FIRST t memory
 
 answered-before : (connection : ℕ) (s : List ℕ) (t : Tables) (memory : List ℕ)
     → answeredBefore connection s t memory ≡ ranWithout (answered connection s t memory)

@@ -47,11 +47,13 @@ oneTerminal =
       nsessions = 1;
       trees = record { tid = 1; uid = 1; right = 1 } ∷ [];
       ntrees = 1;
-      opens = record { fid = 1; uid = 1; tid = 1; process = 7; file = 0; access = 2 } ∷ [];
+      opens = record { fid = 1; uid = 1; tid = 1; process = 7; file = 0; access = 2; sharing = 4 } ∷ [];
       nopens = 1;
       locks = [];
       nlocks = 0;
       files = noFile ∷ [];
+      names = [];
+      nnames = 0;
     }
 
 -- the status of what a command gives

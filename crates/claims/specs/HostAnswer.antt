@@ -9,17 +9,18 @@ use lib.ListN.{length, take, length-map}
 use lib.Dec.{eqb}
 use borrow.Author.Tests.{eqb-true, ne-eqb}
 use native.Mathlib.Omega.{arith}
+use Rattle.records.specs.declared.Name.{Name}
 use Rattle.records.specs.declared.Tables.{Tables}
 use Rattle.records.specs.Held.{sessionsOf, treesOf, opensOf}
 use Rattle.numbers.specs.Number.{contains, smallestFree}
 use Rattle.numbers.specs.Column.{uidOf, tidOf, fidOf}
-use Rattle.host.specs.HostCall.{refused, done, newSession, addSession, newTree, addTree, newOpen, addOpen, loadNumber, loadFile, loadMemory, dropConnection}
+use Rattle.host.specs.HostCall.{refused, done, newSession, addSession, newTree, addTree, newOpen, addOpen, loadNumber, loadFile, loadMemory, dropConnection, setCatalogue}
 use Rattle.host.specs.declared.answer.Returned.{Returned}
 use Rattle.lists.specs.Truth.{decided}
 use Rattle.invariants.specs.Number.{smallest-low, smallest-high, smallest-free, smallest-least}
 use Rattle.invariants.specs.Shaped.{sessions-with, trees-with, opens-with}
 use Rattle.lists.specs.RoomLaws.{held-fewer}
-use Rattle.invariants.specs.HostCases.{addSession-either, addTree-either, addOpen-either, loadFile-either, dropConnection-either}
+use Rattle.invariants.specs.HostCases.{addSession-either, addTree-either, addOpen-either, loadFile-either, dropConnection-either, setCatalogue-either}
 
 -- ---- "UID, TID and FID are the smallest number from 1 not in use"
 
@@ -100,14 +101,14 @@ module _ (t : Tables) where
   -- "done; .. for an add, the new number": the open stands behind the others with that FID
   pub addOpen-held : (uid tid process file access : ℕ) → addOpen t uid tid process file access .number ≡ 0
       → opensOf (addOpen t uid tid process file access .tables)
-      ≡ opensOf t ++ (record { fid = addOpen t uid tid process file access .id; uid = uid; tid = tid; process = process; file = file; access = access } ∷ [])
+      ≡ opensOf t ++ (record { fid = addOpen t uid tid process file access .id; uid = uid; tid = tid; process = process; file = file; access = access; sharing = 4 } ∷ [])
   unfolding done newOpen
   addOpen-held uid tid process file access =
       addOpen-either t Held (refused-not-done HeldBy t) uid tid process file access
       (λ p e. opens-with t (opensOf t ++ (newOpen t uid tid process file access ∷ [])))
     where
       HeldBy : Returned → Type 0
-      HeldBy a = opensOf (a .tables) ≡ opensOf t ++ (record { fid = a .id; uid = uid; tid = tid; process = process; file = file; access = access } ∷ [])
+      HeldBy a = opensOf (a .tables) ≡ opensOf t ++ (record { fid = a .id; uid = uid; tid = tid; process = process; file = file; access = access; sharing = 4 } ∷ [])
 
       Held : Returned → Type 0
       Held a = a .number ≡ 0 → HeldBy a
@@ -157,6 +158,11 @@ module _ (t : Tables) where
   pub dropConnection-refused : (connection : ℕ) → (dropConnection t connection .number ≡ 0 → ⊥) → Unchanged t (dropConnection t connection)
   unfolding unless-done
   dropConnection-refused c = dropConnection-either t unless-done refused-unchanged c (λ a. done-not-refused _ _)
+
+  -- "A refusal of this table writes nothing at all": a catalogue, the tables not sound or a rule broken
+  pub setCatalogue-refused : (names : List Name) (count : ℕ) → (setCatalogue t names count .number ≡ 0 → ⊥) → Unchanged t (setCatalogue t names count)
+  unfolding unless-done
+  setCatalogue-refused names count = setCatalogue-either t unless-done refused-unchanged names count (λ a b. done-not-refused _ _)
 
   -- a load's number is that of its tests
   pub loadFile-number : (file : ℕ) (bytes memory : List ℕ) → loadFile t file bytes memory .number ≡ loadNumber t file (length bytes) (length memory)

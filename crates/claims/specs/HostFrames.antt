@@ -1,5 +1,5 @@
 -- What each host call leaves where it is done (number 0), table by table (document 01, "Tables and room" and "What a call
--- returns"): the record added, field by field, and every other record, count and size as it was. Assumes nothing.
+-- returns"; document 02, CR 6): the record added, field by field, and every other record, count and size as it was. Assumes nothing.
 use mathlib.Core.Path.{_≡_, refl, sym, ap}
 use mathlib.Core.List.{List, [], _∷_, _++_, map}
 use Prim.Native.Nat.{ℕ, _+_}
@@ -9,20 +9,21 @@ use Rattle.records.specs.declared.Session.{Session}
 use Rattle.records.specs.declared.Tree.{Tree}
 use Rattle.records.specs.declared.Open.{Open}
 use Rattle.records.specs.declared.File.{File}
+use Rattle.records.specs.declared.Name.{Name}
 use Rattle.records.specs.declared.Tables.{Tables}
-use Rattle.records.specs.Held.{sessionsOf, treesOf, opensOf, locksOf, withSessions, withTrees, withOpens, withLocks, withFiles}
+use Rattle.records.specs.Held.{sessionsOf, treesOf, opensOf, locksOf, withSessions, withTrees, withOpens, withLocks, withFiles, withCatalogue}
 use Rattle.numbers.specs.Column.{uidOf, tidOf, fidOf}
 use Rattle.removal.specs.Removal.{remove}
 use Rattle.removal.specs.declared.Gone.{Gone}
 use Rattle.removal.specs.declared.Gone.the-variants.{Connection}
-use Rattle.host.specs.HostCall.{refused, done, newSession, addSession, newTree, addTree, newOpen, addOpen, loadFile, loadMemory, dropConnection}
+use Rattle.host.specs.HostCall.{refused, done, newSession, addSession, newTree, addTree, newOpen, addOpen, loadFile, loadMemory, dropConnection, setCatalogue}
 use Rattle.host.specs.declared.answer.Returned.{Returned}
 use Rattle.invariants.specs.Shaped.{Shaped, sessions-with, trees-with, opens-with}
-use Rattle.invariants.specs.HostCases.{addSession-either, addTree-either, addOpen-either, loadFile-either, dropConnection-either}
+use Rattle.invariants.specs.HostCases.{addSession-either, addTree-either, addOpen-either, loadFile-either, dropConnection-either, setCatalogue-either}
 use Rattle.invariants.specs.RemovalSound.{left, remove-left, left-sessions, left-trees, left-opens, left-locks}
 use Rattle.claims.specs.HostAnswer.{NewNumber, smallest-new, refused-not-done}
 use Rattle.claims.specs.LoadBytes.{Loaded, loadMemory-done, loadFile-size, loadFile-others, loadFile-records}
-use Rattle.claims.specs.RemovalPlain.{ConnectionGone, FilesStand, drop-plain}
+use Rattle.claims.specs.RemovalPlain.{ConnectionGone, FilesStand, CatalogueStands, drop-plain}
 
 -- ---- a table that stands: its count and its records, in use or not
 
@@ -59,6 +60,7 @@ pub record SessionAdded (t : Tables) (connection : ℕ) (a : Returned) : Type 0 
   pub opens : OpensStand t (a .tables)
   pub locks : LocksStand t (a .tables)
   pub sizes : FilesStand t (a .tables)
+  pub catalogue : CatalogueStands t (a .tables)
 
 -- one tree behind the others, of that session, with that right and the TID given out; nothing else is touched
 pub record TreeAdded (t : Tables) (uid right : ℕ) (a : Returned) : Type 0 where
@@ -73,9 +75,10 @@ pub record TreeAdded (t : Tables) (uid right : ℕ) (a : Returned) : Type 0 wher
   pub opens : OpensStand t (a .tables)
   pub locks : LocksStand t (a .tables)
   pub sizes : FilesStand t (a .tables)
+  pub catalogue : CatalogueStands t (a .tables)
 
 -- one open behind the others, through that tree of that session, for that process, of that file, with that access and the FID
--- given out; nothing else is touched
+-- given out; it denies nothing (document 02, CR 6); nothing else is touched
 pub record OpenAdded (t : Tables) (uid tid process file access : ℕ) (a : Returned) : Type 0 where
   pub new : Open
   pub its-fid : new .fid ≡ a .id
@@ -84,6 +87,7 @@ pub record OpenAdded (t : Tables) (uid tid process file access : ℕ) (a : Retur
   pub its-process : new .process ≡ process
   pub its-file : new .file ≡ file
   pub its-access : new .access ≡ access
+  pub its-sharing : new .sharing ≡ 4
   pub given-out : NewNumber 64 (map fidOf (opensOf t)) (a .id)
   pub opens : opensOf (a .tables) ≡ opensOf t ++ (new ∷ [])
   pub open-count : a .tables .nopens ≡ length (opensOf t) + 1
@@ -91,6 +95,7 @@ pub record OpenAdded (t : Tables) (uid tid process file access : ℕ) (a : Retur
   pub trees : TreesStand t (a .tables)
   pub locks : LocksStand t (a .tables)
   pub sizes : FilesStand t (a .tables)
+  pub catalogue : CatalogueStands t (a .tables)
 
 -- the file has the bytes and their number as its size; no other byte, size or table is touched, and no number is given out
 pub record FileLoaded (t : Tables) (file : ℕ) (bytes memory : List ℕ) (a : Returned) (after : List ℕ) : Type 0 where
@@ -101,13 +106,26 @@ pub record FileLoaded (t : Tables) (file : ℕ) (bytes memory : List ℕ) (a : R
   pub trees : TreesStand t (a .tables)
   pub opens : OpensStand t (a .tables)
   pub locks : LocksStand t (a .tables)
+  pub catalogue : CatalogueStands t (a .tables)
   pub no-number : a .id ≡ 0
 
 -- the sessions of the connection are gone with what hangs on them; every other record stands in its order, each count is that of
--- the records left, no size is touched, and no number is given out
+-- the records left, neither size nor catalogue is touched, and no number is given out
 pub record ConnectionDropped (t : Tables) (connection : ℕ) (a : Returned) : Type 0 where
   pub records : ConnectionGone connection t (a .tables)
   pub counts : Counted (a .tables)
+  pub no-number : a .id ≡ 0
+
+-- document 02, CR 6: "a catalogue, set whole by the host": its count and all its names, in use or not, are those given; no other table or size is
+-- touched, and no number is given out
+pub record CatalogueSet (t : Tables) (given : List Name) (count : ℕ) (a : Returned) : Type 0 where
+  pub name-count : a .tables .nnames ≡ count
+  pub names : a .tables .names ≡ given
+  pub sessions : SessionsStand t (a .tables)
+  pub trees : TreesStand t (a .tables)
+  pub opens : OpensStand t (a .tables)
+  pub locks : LocksStand t (a .tables)
+  pub sizes : FilesStand t (a .tables)
   pub no-number : a .id ≡ 0
 
 -- ---- the calls
@@ -129,6 +147,7 @@ module _ (t : Tables) where
         opens = (refl, refl);
         locks = (refl, refl);
         sizes = refl;
+        catalogue = (refl, refl);
       }
 
   -- "add a .. tree"
@@ -148,6 +167,7 @@ module _ (t : Tables) where
         opens = (refl, refl);
         locks = (refl, refl);
         sizes = refl;
+        catalogue = (refl, refl);
       }
 
   -- "add a .. open"
@@ -165,6 +185,7 @@ module _ (t : Tables) where
         its-process = refl;
         its-file = refl;
         its-access = refl;
+        its-sharing = refl;
         given-out = smallest-new fidOf 64 (t .nopens) (t .opens) (passed .room);
         opens = opens-with t (opensOf t ++ (newOpen t uid tid process file access ∷ []));
         open-count = length-append (opensOf t) (newOpen t uid tid process file access ∷ []);
@@ -172,6 +193,7 @@ module _ (t : Tables) where
         trees = (refl, refl);
         locks = (refl, refl);
         sizes = refl;
+        catalogue = (refl, refl);
       }
 
   -- the counts that a removal leaves are those of the records left
@@ -199,6 +221,23 @@ module _ (t : Tables) where
         no-number = refl;
       }
 
+  -- "a catalogue, set whole by the host"
+  pub setCatalogue-frame : (given : List Name) (count : ℕ) → setCatalogue t given count .number ≡ 0
+      → CatalogueSet t given count (setCatalogue t given count)
+  unfolding done withCatalogue
+  setCatalogue-frame given count =
+      setCatalogue-either t (λ a. a .number ≡ 0 → CatalogueSet t given count a) (refused-not-done (CatalogueSet t given count) t) given count
+      λ tables rules e. record {
+        name-count = refl;
+        names = refl;
+        sessions = (refl, refl);
+        trees = (refl, refl);
+        opens = (refl, refl);
+        locks = (refl, refl);
+        sizes = refl;
+        no-number = refl;
+      }
+
   -- a load gives out no number
   loadFile-no-number : (file : ℕ) (bytes memory : List ℕ) → loadFile t file bytes memory .id ≡ 0
   unfolding done refused
@@ -218,5 +257,6 @@ module _ (t : Tables) where
         trees = (ap (λ (u : Tables). u .ntrees) only, ap (λ (u : Tables). u .trees) only);
         opens = (ap (λ (u : Tables). u .nopens) only, ap (λ (u : Tables). u .opens) only);
         locks = (ap (λ (u : Tables). u .nlocks) only, ap (λ (u : Tables). u .locks) only);
+        catalogue = (ap (λ (u : Tables). u .nnames) only, ap (λ (u : Tables). u .names) only);
         no-number = loadFile-no-number file bytes memory;
       }

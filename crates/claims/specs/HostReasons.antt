@@ -17,12 +17,14 @@ use Rattle.lists.specs.Members.{any-one, one-any}
 use Rattle.records.specs.declared.Session.{Session}
 use Rattle.records.specs.declared.Tree.{Tree}
 use Rattle.records.specs.declared.Open.{Open}
+use Rattle.records.specs.declared.Name.{Name}
 use Rattle.records.specs.declared.Tables.{Tables}
 use Rattle.records.specs.Held.{sessionsOf, treesOf, opensOf}
 use Rattle.numbers.specs.Number.{contains}
 use Rattle.numbers.specs.Column.{uidOf, tidOf}
+use Rattle.catalogue.specs.Name.{catalogueOk}
 use Rattle.soundness.specs.Sound.{sound, holdsOpen}
-use Rattle.host.specs.HostCall.{refused, done, addSession, addTree, newOpen, addOpen, isOf, loadNumber, loadFile, dropConnection}
+use Rattle.host.specs.HostCall.{refused, done, addSession, addTree, newOpen, addOpen, isOf, loadNumber, loadFile, dropConnection, setCatalogue}
 use Rattle.soundness.specs.Lookup.{isTree}
 use Rattle.host.specs.declared.answer.Returned.{Returned}
 use Rattle.invariants.specs.Numbered.{named-one, one-named, numbered-same}
@@ -30,6 +32,7 @@ use Rattle.invariants.specs.SoundParts.{sound-says}
 use Rattle.invariants.specs.RuleLaws.{holds-says}
 use Rattle.claims.specs.SoundPlain.{holds-ok, permits-says}
 use Rattle.invariants.specs.HostCases.{by-test}
+use Rattle.claims.specs.CataloguePlain.{PlainCatalogue, BrokenRule, catalogue-says, catalogue-ok, rule-broken, rule-fails}
 use Rattle.claims.specs.HostAnswer.{loadFile-number}
 
 -- ---- the reasons
@@ -89,6 +92,13 @@ pub data LoadReason (t : Tables) (file size memory : ℕ) : ℕ → Type 0 where
 pub data DropReason (t : Tables) : ℕ → Type 0 where
   drop-unsound : sound t ≡ false → DropReason t 4
   drop-done : sound t ≡ true → DropReason t 0
+
+-- setting the catalogue (document 02, CR 6): "4", and "for the catalogue 7: over 16 names, a name of another length, with a zero byte or doubled, a
+-- file above 15"
+pub data SetReason (t : Tables) (names : List Name) (count : ℕ) : ℕ → Type 0 where
+  set-unsound : sound t ≡ false → SetReason t names count 4
+  set-broken : sound t ≡ true → BrokenRule names count → SetReason t names count 7
+  set-done : sound t ≡ true → PlainCatalogue names count → SetReason t names count 0
 
 -- ---- the tests behind them
 
@@ -238,6 +248,16 @@ unfolding dropConnection refused done
 dropConnection-reason t c =
     by-test (λ a. DropReason t (a .number)) (not (sound t)) (refused 4 t) _ (λ u. drop-unsound (not-true (sound t) u)) (λ u. drop-done (not-false (sound t) u))
 
+-- "each is given only for its reason": setting the catalogue
+pub setCatalogue-reason : (t : Tables) (names : List Name) (count : ℕ) → SetReason t names count (setCatalogue t names count .number)
+unfolding setCatalogue refused done
+setCatalogue-reason t names count =
+    by-test (λ a. SetReason t names count (a .number)) (not (sound t)) (refused 4 t) _ (λ u. set-unsound (not-true (sound t) u)) λ u.
+    let e : sound t ≡ true = not-false (sound t) u in
+    by-test (λ a. SetReason t names count (a .number)) (not (catalogueOk names count)) (refused 7 t) _
+    (λ v. set-broken e (rule-broken names count (not-true (catalogueOk names count) v))) λ v.
+    set-done e (catalogue-says names count (not-false (catalogueOk names count) v))
+
 -- ---- the other way round: where the reason holds, its number is given
 
 -- "Order: 2, 4, 7, 6, 8, 9, 5, 1": adding a session
@@ -366,3 +386,10 @@ pub dropConnection-given : (t : Tables) (connection : ℕ) {n : ℕ} → DropRea
 unfolding dropConnection refused done
 dropConnection-given t c (drop-unsound a) = rw a
 dropConnection-given t c (drop-done a) = rw a
+
+-- "Order: 2, 4, 7, 6, 8, 9, 5, 1": setting the catalogue
+pub setCatalogue-given : (t : Tables) (names : List Name) (count : ℕ) {n : ℕ} → SetReason t names count n → setCatalogue t names count .number ≡ n
+unfolding setCatalogue refused done
+setCatalogue-given t names count (set-unsound a) = rw a
+setCatalogue-given t names count (set-broken a b) = rw (a, rule-fails names count b)
+setCatalogue-given t names count (set-done a b) = rw (a, catalogue-ok names count b)

@@ -1,6 +1,7 @@
 pub mod HostAnswer
 pub mod NothingNamed
 pub mod Distinct
+pub mod CataloguePlain
 pub mod SoundPlain
 pub mod HostReasons
 pub mod LoadBytes

@@ -98,6 +98,10 @@ LocksOfOpens t after = locksOf after ≡ keep (λ l. contains (l .fid) (map fidO
 abbrev pub FilesStand : Tables → Tables → Type 0
 FilesStand t after = after .files ≡ t .files
 
+-- nor is the catalogue: its count and its names, in use or not
+abbrev pub CatalogueStands : Tables → Tables → Type 0
+CatalogueStands t after = (after .nnames ≡ t .nnames) × (after .names ≡ t .names)
+
 -- "each with what hangs on them": the locks
 pub locks-follow : (gone : Gone) (t : Tables) → LocksOfOpens t (remove gone t)
 unfolding lockStays
@@ -108,6 +112,10 @@ pub files-stand : (gone : Gone) (t : Tables) → FilesStand t (remove gone t)
 unfolding remove sweepSessions sweepTrees sweepOpens sweepLocks withSessions withTrees withOpens withLocks
 files-stand gone t = refl
 
+pub catalogue-stands : (gone : Gone) (t : Tables) → CatalogueStands t (remove gone t)
+unfolding remove sweepSessions sweepTrees sweepOpens sweepLocks withSessions withTrees withOpens withLocks
+catalogue-stands gone t = (refl, refl)
+
 -- the open and the locks of its FID are gone
 pub record Closed (fid : ℕ) (t after : Tables) : Type 0 where
   pub sessions : sessionsOf after ≡ sessionsOf t
@@ -115,6 +123,7 @@ pub record Closed (fid : ℕ) (t after : Tables) : Type 0 where
   pub opens : opensOf after ≡ keep (λ o. not (eqb (o .fid) fid)) (opensOf t)
   pub locks : locksOf after ≡ keep (λ l. not (eqb (l .fid) fid)) (locksOf t)
   pub files : FilesStand t after
+  pub catalogue : CatalogueStands t after
 
 -- the tree, its opens and their locks are gone
 pub record Disconnected (tid : ℕ) (t after : Tables) : Type 0 where
@@ -123,6 +132,7 @@ pub record Disconnected (tid : ℕ) (t after : Tables) : Type 0 where
   pub opens : opensOf after ≡ keep (λ o. not (eqb (o .tid) tid)) (opensOf t)
   pub locks : LocksOfOpens t after
   pub files : FilesStand t after
+  pub catalogue : CatalogueStands t after
 
 -- the session, its trees, its opens and their locks are gone
 pub record LoggedOff (uid : ℕ) (t after : Tables) : Type 0 where
@@ -131,6 +141,7 @@ pub record LoggedOff (uid : ℕ) (t after : Tables) : Type 0 where
   pub opens : opensOf after ≡ keep (λ o. not (eqb (o .uid) uid)) (opensOf t)
   pub locks : LocksOfOpens t after
   pub files : FilesStand t after
+  pub catalogue : CatalogueStands t after
 
 -- the opens of that UID and process and their locks are gone
 pub record Exited (uid process : ℕ) (t after : Tables) : Type 0 where
@@ -139,6 +150,7 @@ pub record Exited (uid process : ℕ) (t after : Tables) : Type 0 where
   pub opens : opensOf after ≡ keep (λ o. not (eqb (o .uid) uid && eqb (o .process) process)) (opensOf t)
   pub locks : LocksOfOpens t after
   pub files : FilesStand t after
+  pub catalogue : CatalogueStands t after
 
 -- the sessions of the connection are gone, and trees, opens and locks of sessions that are gone
 pub record ConnectionGone (connection : ℕ) (t after : Tables) : Type 0 where
@@ -147,6 +159,7 @@ pub record ConnectionGone (connection : ℕ) (t after : Tables) : Type 0 where
   pub opens : opensOf after ≡ keep (λ o. contains (o .uid) (map uidOf (sessionsOf after))) (opensOf t)
   pub locks : LocksOfOpens t after
   pub files : FilesStand t after
+  pub catalogue : CatalogueStands t after
 
 module _ (t : Tables) (e : sound t ≡ true) where
   -- "CLOSE removes the open and its locks"
@@ -167,6 +180,7 @@ module _ (t : Tables) (e : sound t ≡ true) where
             ∙ keep-same (lockStays (map fidOf (keep (λ o. not (eqb (o .fid) fid)) (opensOf t)))) (λ l. not (eqb (l .fid) fid)) (locksOf t)
             (λ l m. contains-kept fidOf (λ k. not (eqb k fid)) (opensOf t) (l .fid) (open-exists t s l m));
         files = files-stand (OpenGone fid) t;
+        catalogue = catalogue-stands (OpenGone fid) t;
       }
 
   -- "TREE_DISCONNECT removes the tree and its opens"
@@ -186,6 +200,7 @@ module _ (t : Tables) (e : sound t ≡ true) where
             (λ o m. contains-kept tidOf (λ k. not (eqb k tid)) (treesOf t) (o .tid) (tree-exists t s o m));
         locks = locks-follow (TreeGone tid) t;
         files = files-stand (TreeGone tid) t;
+        catalogue = catalogue-stands (TreeGone tid) t;
       }
 
   -- "LOGOFF the session and its trees", and their opens
@@ -209,6 +224,7 @@ module _ (t : Tables) (e : sound t ≡ true) where
             (λ o m. open-follows t s (λ k. not (eqb k uid)) o m);
         locks = locks-follow (UserGone uid) t;
         files = files-stand (UserGone uid) t;
+        catalogue = catalogue-stands (UserGone uid) t;
       }
 
   -- "PROCESS_EXIT the opens of that UID and process"
@@ -224,6 +240,7 @@ module _ (t : Tables) (e : sound t ≡ true) where
         opens = after-opens (Process uid process) t ∙ opens-not-named t s (Process uid process) a b;
         locks = locks-follow (Process uid process) t;
         files = files-stand (Process uid process) t;
+        catalogue = catalogue-stands (Process uid process) t;
       }
 
   -- "drop a connection": its sessions, and the trees and opens of those
@@ -248,4 +265,5 @@ module _ (t : Tables) (e : sound t ≡ true) where
             ∙ ap (λ (l : List Session). keep (λ o. contains (o .uid) (map uidOf l)) (opensOf t)) (sym u);
         locks = locks-follow (Connection c) t;
         files = files-stand (Connection c) t;
+        catalogue = catalogue-stands (Connection c) t;
       }

@@ -1,5 +1,5 @@
--- Sound tables in plain words: document 01, "Tables and room", second paragraph, clause by clause, and that `sound` says just
--- that. Assumes nothing.
+-- Sound tables in plain words: document 01, "Tables and room", second paragraph, and document 02, CR 6 ("Soundness gains sharing codes and the
+-- catalogue's rules"), clause by clause, and that `sound` says just that. Assumes nothing.
 use mathlib.Core.Path.{_≡_, sym, ap, _∙_}
 use mathlib.Core.Logic.{inl, inr, _↔_}
 use mathlib.Core.Bool.{Bool, true, false, not, _&&_}
@@ -26,12 +26,13 @@ use Rattle.records.specs.Held.{sessionsOf, treesOf, opensOf, locksOf}
 use Rattle.numbers.specs.Number.{contains, numbered, numberOk}
 use Rattle.numbers.specs.Column.{uidOf, tidOf, fidOf}
 use Rattle.soundness.specs.File.{fileOf}
-use Rattle.soundness.specs.Sound.{sound, fileOk, treeOk, permits, holdsOpen, openOk, lockOk, agree, agreeAll}
+use Rattle.soundness.specs.Sound.{sharingOk, sound, fileOk, treeOk, permits, holdsOpen, openOk, lockOk, agree, agreeAll}
 use Rattle.invariants.specs.Numbered.{number-says, named-one, one-named}
 use Rattle.soundness.specs.SoundLaws.{Room}
 use Rattle.invariants.specs.SoundParts.{Sound, sound-says, sound-ok}
 use Rattle.invariants.specs.RuleLaws.{TreeOk, tree-says, tree-ok, holds-says, OpenOk, open-says, open-ok, LockOk, lock-says, lock-ok, fileOf-here, fileOf-other}
 use Rattle.claims.specs.Distinct.{Numbers, numbered-says, numbered-ok}
+use Rattle.claims.specs.CataloguePlain.{PlainCatalogue, catalogue-says, catalogue-ok}
 
 -- ---- the plain words
 
@@ -72,6 +73,10 @@ pub record PlainSound (t : Tables) : Type 0 where
   pub rights : (r : Tree) → In r (treesOf t) → r .right ≤ 1
   pub accesses : (o : Open) → In o (opensOf t) → o .access ≤ 2
   pub files : (o : Open) → In o (opensOf t) → o .file ≤ 15
+  -- document 02, CR 6: "sharing codes 1 to 4"
+  pub sharings : (o : Open) → In o (opensOf t) → (1 ≤ o .sharing) × (o .sharing ≤ 4)
+  -- "and the catalogue's rules": up to 16 names, each of 1 to 12 bytes, none of them 0, with a file of 0 to 15; none doubled
+  pub catalogue : PlainCatalogue (t .names) (t .nnames)
   -- "no lock passes 2^64"
   pub lock-ends : (l : Lock) → In l (locksOf t) → l .offset + l .length ≤ 2 ^ 64
   -- "two locks of one file that overlap are both shared"
@@ -80,6 +85,15 @@ pub record PlainSound (t : Tables) : Type 0 where
       → (lockAt t i .shared ≡ true) × (lockAt t j .shared ≡ true)
 
 -- ---- the rules for one record
+
+-- "sharing codes 1 to 4"
+sharing-says : (sharing : ℕ) → sharingOk sharing ≡ true → (1 ≤ sharing) × (sharing ≤ 4)
+unfolding sharingOk
+sharing-says sharing e = let b = both-hold (leb 1 sharing) (leb sharing 4) e in (leb-true 1 sharing (b .0), leb-true sharing 4 (b .1))
+
+sharing-ok : (sharing : ℕ) → (1 ≤ sharing) × (sharing ≤ 4) → sharingOk sharing ≡ true
+unfolding sharingOk
+sharing-ok sharing h = hold-both (leb 1 sharing) (leb sharing 4) (le-leb 1 sharing (h .0)) (le-leb sharing 4 (h .1))
 
 -- right 0 permits access 0 alone
 pub permits-says : (right access : ℕ) → permits right access ≡ true → right ≡ 0 → access ≡ 0
@@ -259,6 +273,8 @@ module _ (t : Tables) (s : Sound t) where
         rights = λ r m. leb-true (r .right) 1 (plain-tree r m .right);
         accesses = λ o m. leb-true (o .access) 2 (plain-open o m .access);
         files = λ o m. leb-true (o .file) 15 (plain-open o m .file);
+        sharings = λ o m. sharing-says (o .sharing) (plain-open o m .sharing);
+        catalogue = catalogue-says (t .names) (t .nnames) (s .catalogue);
         lock-ends = λ l m. ends-says (l .offset) (l .length) (plain-lock l m .ends);
         lock-pairs = pairs-says (opensOf t) (s .records .fids) (locksOf t) (s .locks .agreed);
       }
@@ -275,6 +291,7 @@ module _ (t : Tables) (p : PlainSound t) where
       open-ok (treesOf t) o (record {
         file = le-leb (o .file) 15 (p .files o m);
         access = le-leb (o .access) 2 (p .accesses o m);
+        sharing = sharing-ok (o .sharing) (p .sharings o m);
         held = one-any (holdsOpen o) (r .1) (holds-ok o (r .0) (r .2) (r .3) (r .4));
       })
 
@@ -303,6 +320,7 @@ module _ (t : Tables) (p : PlainSound t) where
           owned = each-all (lockOk (map fidOf (opensOf t))) (locksOf t) computed-lock;
           agreed = pairs-ok (opensOf t) computed-fids (locksOf t) (p .lock-open) (p .lock-pairs);
         };
+        catalogue = catalogue-ok (t .names) (t .nnames) (p .catalogue);
       }
 
 -- "Tables are sound if ..": the computed test holds of just the tables that the words describe

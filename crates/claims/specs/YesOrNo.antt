@@ -32,7 +32,7 @@ use Rattle.chain.specs.declared.block.ReadFields.{ReadFields}
 use Rattle.chain.specs.declared.block.WriteFields.{WriteFields}
 use Rattle.chain.specs.declared.block.RangeFields.{RangeFields}
 use Rattle.chain.specs.declared.block.Body.{Body}
-use Rattle.chain.specs.declared.block.Body.the-variants.{Locking as LockingBody, Read as ReadBody, Write as WriteBody, Close, Logoff, TreeDisconnect, ProcessExit, CoreRead as CoreReadBody, CoreWrite as CoreWriteBody, LockByteRange, UnlockByteRange}
+use Rattle.chain.specs.declared.block.Body.the-variants.{Locking as LockingBody, Read as ReadBody, Write as WriteBody, Close, Logoff, TreeDisconnect, ProcessExit, CoreRead as CoreReadBody, CoreWrite as CoreWriteBody, LockByteRange, UnlockByteRange, Open as OpenBody}
 use Rattle.chain.specs.declared.block.Block.{Block}
 use Rattle.message.specs.Caller.{callerOf}
 use Rattle.message.specs.declared.caller.Caller.{Caller}
@@ -40,6 +40,7 @@ use Rattle.message.specs.Contents.{sizeOf, readBytes, grown, written, withSize,
 use Rattle.message.specs.Refusal.{status, statusOf}
 use Rattle.message.specs.declared.refusal.Status.{Status}
 use Rattle.message.specs.Command.{Said, locked, read, wrote, plain, coreWrote, Given, refused, done, isOpen, withOpen, servedType, requestOf, askBy, endsPast, coreSaid, rangeBy, oneRange, betweenSizes, perform}
+use Rattle.message.specs.JustOpened.{NOBODY, openedBy, bodyMeant}
 use Rattle.message.specs.Message.{areaOf, dataOf, linkTo, served}
 use Rattle.message.specs.Reply.{replyHeader, replyBlock, refusedBlock, replySize}
 
@@ -156,6 +157,7 @@ performBefore c t memory (CoreReadBody f) area bytes = coreGave (readBefore c t 
 performBefore c t memory (CoreWriteBody f) area bytes = coreWriteBefore c t memory f (drop 3 area)
 performBefore c t memory (LockByteRange f) area bytes = rangeBefore c t memory f 0 1
 performBefore c t memory (UnlockByteRange f) area bytes = rangeBefore c t memory f 1 0
+performBefore c t memory (OpenBody f) area bytes = plainly (perform c t memory (OpenBody f) area bytes)
 
 -- what a chain leaves: its status, the tables, the file memory, and the reply blocks
 pub record RanBefore : Type 0 where
@@ -173,20 +175,20 @@ unfoldable pub inFront : List ℕ → RanBefore → RanBefore
 inFront bytes r = record { status = r .status; tables = r .tables; memory = r .memory; blocks = bytes ++ r .blocks }
 
 -- "Commands before it in the chain stand; those after it aren't begun."
-unfoldable pub afterGave : Gave → List Block → ℕ → Tables → List ℕ → (ℕ → Tables → List ℕ → RanBefore) → RanBefore
+unfoldable pub afterGave : Gave → List Block → ℕ → Tables → List ℕ → (ℕ → ℕ → Tables → List ℕ → RanBefore) → RanBefore
 afterGave (refusedWith why) bs place t memory rest = refusedBefore why t memory
 afterGave (did t′ memory′ said) bs place t memory rest =
-    inFront (replyBlock said place (linkTo bs (place + replySize said))) (rest (place + replySize said) t′ memory′)
+    inFront (replyBlock said place (linkTo bs (place + replySize said))) (rest (openedBy said) (place + replySize said) t′ memory′)
 
-unfoldable pub runBefore : Caller → List ℕ → List Block → ℕ → Tables → List ℕ → RanBefore
-runBefore c s [] place t memory = record { status = status 0 0; tables = t; memory = memory; blocks = [] }
-runBefore c s (b ∷ bs) place t memory =
-    afterGave (performBefore c t memory (b .body) (areaOf s b) (dataOf s b)) bs place t memory (λ p t′ m. runBefore c s bs p t′ m)
+unfoldable pub runBefore : Caller → List ℕ → ℕ → List Block → ℕ → Tables → List ℕ → RanBefore
+runBefore c s just [] place t memory = record { status = status 0 0; tables = t; memory = memory; blocks = [] }
+runBefore c s just (b ∷ bs) place t memory =
+    afterGave (performBefore c t memory (bodyMeant just (b .body)) (areaOf s b) (dataOf s b)) bs place t memory (λ j p t′ m. runBefore c s j bs p t′ m)
 
 -- "2/22 header command not served; 2/1 not a sentence": "2/22 and 2/1 come before anything is carried out."
 unfoldable pub chainBefore : Caller → List ℕ → Option (List Block) → Tables → List ℕ → RanBefore
 chainBefore c s none t memory = refusedBefore (status 2 1) t memory
-chainBefore c s (some bs) t memory = runBefore c s bs FIRST t memory
+chainBefore c s (some bs) t memory = runBefore c s NOBODY bs FIRST t memory
 
 unfoldable pub answeredBefore : ℕ → List ℕ → Tables → List ℕ → RanBefore
 answeredBefore connection s t memory =
