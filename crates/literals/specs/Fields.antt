@@ -1,8 +1,8 @@
--- Document 01's places of the fields ("The grammar of a chain"), and of the core commands' (document 02, CR 3), a second time, as numbers, and the whole processes of ranges (CR 4). Each message below has at each place the place itself,
+-- Document 01's places of the fields ("The grammar of a chain"), of the core commands' (document 02, CR 3) and of OPEN_ANDX's (CR 6), a second time, as numbers, and the whole processes of ranges (CR 4). Each message below has at each place the place itself,
 -- in hex, but where the grammar asks another byte. So a field that is read at another place, or from other bytes, is another number.
 -- Assumes nothing.
 use mathlib.Core.Path.{_≡_, refl}
-use Prim.Native.Nat.{ℕ, _+_, _*_, _/_, _%_}
+use Prim.Native.Nat.{ℕ, _+_, _-_, _*_, _/_, _%_}
 use mathlib.Core.Bool.{Bool, true, false}
 use mathlib.Core.List.{List, [], _∷_, _++_}
 use lib.ListN.{replicate}
@@ -13,17 +13,18 @@ use Rattle.locks.specs.Request.{ofHeader, rangesOf}
 use Rattle.locks.specs.declared.types.LockRange.{LockRange}
 use Rattle.locks.specs.declared.types.Request.{Request}
 use Rattle.chain.specs.Judged.{isWhole}
-use Rattle.chain.specs.Parse.{shaped, bare, isLarge, lockingFits, readFits, dataInside, writeFits, coreWriteFits, mayFollow, linkFits, linkAt, answer, wideOffset, parseLocking, parseRead, parseWrite, parseLogoff, parseBare, parseCoreWrite, parse}
+use Rattle.chain.specs.Parse.{shaped, bare, isLarge, lockingFits, readFits, dataInside, writeFits, coreWriteFits, terminated, openFits, mayFollow, linkFits, linkAt, answer, wideOffset, parseLocking, parseRead, parseWrite, parseLogoff, parseBare, parseCoreWrite, parseOpen, parse}
 use Rattle.chain.specs.declared.block.Block.{Block}
 use Rattle.chain.specs.declared.block.RangeFields.{RangeFields}
+use Rattle.chain.specs.declared.block.OpenFields.{OpenFields}
 use Rattle.chain.specs.declared.block.Body.{Body}
-use Rattle.chain.specs.declared.block.Body.the-variants.{Locking, Read, Write, Close, Logoff, TreeDisconnect, ProcessExit, CoreRead, CoreWrite, LockByteRange, UnlockByteRange}
+use Rattle.chain.specs.declared.block.Body.the-variants.{Locking, Read, Write, Close, Logoff, TreeDisconnect, ProcessExit, CoreRead, CoreWrite, LockByteRange, UnlockByteRange, Open}
 use Rattle.chain.specs.declared.block.Next.{Next}
 use Rattle.chain.specs.declared.block.Next.the-variants.{End, Follow}
 use Rattle.chain.specs.declared.block.Parsed.{Parsed}
 use Rattle.chain.specs.declared.block.Parsed.the-variants.{Whole, Malformed}
 use Rattle.message.specs.Caller.{callerOf}
-use Rattle.message.specs.Command.{requestOf, rangeBy, oneRange}
+use Rattle.message.specs.Command.{requestOf, rangeBy, oneRange, nameAsked}
 use Rattle.message.specs.Message.{areaOf, dataOf}
 use Rattle.literals.specs.Counting.{countFrom}
 
@@ -239,6 +240,57 @@ pub data-block : (fitting (λ x. dataBlock (3 ∷ 0 ∷ []) (6 ∷ 0 ∷ []) x (
 unfolding fitting keep countFrom dataBlock isWhole behindHeader parse parseCoreWrite answer coreWriteFits shaped le16At le32At
 data-block = (refl, refl, refl, refl, refl, refl, refl)
 
+-- ---- OPEN_ANDX (document 02, CR 6; the words are [MS-CIFS]'s)
+
+-- "Flags 2, AccessMode 2, SearchAttrs 2, FileAttrs 2, CreationTime 4, OpenMode 2, AllocationSize 4, Timeout 4, Reserved 4": 15 words; a READ_ANDX next. Flags' bit 0 is set in 0x25; of 0x27 the access is
+-- 7 and the sharing code 2; OpenMode is the whole word at 0x31. Its byte area starts at 0x41: the name 41 42 43, and a zero byte.
+unfoldable pub open15 : List ℕ
+open15 =
+    behindHeader
+    ((0x0F ∷ 0x2E ∷ 0x22 ∷ 0x23 ∷ 0x24 ∷ 0x25 ∷ 0x26 ∷ 0x27 ∷ 0x28 ∷ 0x29 ∷ 0x2A ∷ 0x2B ∷ 0x2C ∷ 0x2D ∷ 0x2E ∷ 0x2F ∷ [])
+    ++ ((0x30 ∷ 0x31 ∷ 0x32 ∷ 0x33 ∷ 0x34 ∷ 0x35 ∷ 0x36 ∷ 0x37 ∷ 0x38 ∷ 0x39 ∷ 0x3A ∷ 0x3B ∷ 0x3C ∷ 0x3D ∷ 0x3E ∷ 0x04 ∷ 0x00 ∷ [])
+    ++ (0x41 ∷ 0x42 ∷ 0x43 ∷ 0x00 ∷ 0x45 ∷ [])))
+
+pub open-15 : (parse open15 0x2D 32 ≡ whole 0x2D 37 (Open (record { full = true; access = 7; sharing = 2; mode = 0x3231 })) (Follow 0x2E 0x2423))
+    × (nameAsked (areaOf open15 at32) ≡ 0x41 ∷ 0x42 ∷ 0x43 ∷ [])
+unfolding whole at32 open15 behindHeader areaOf nameAsked parse parseOpen answer openFits terminated linkFits linkAt mayFollow shaped le16At
+open-15 = (refl, refl)
+
+-- the same with that lower byte of Flags and of AccessMode, a name of those bytes, and no block behind it
+unfoldable pub openWith : ℕ → ℕ → List ℕ → List ℕ
+openWith flags access bytes =
+    behindHeader
+    ((0x0F ∷ 0xFF ∷ 0x22 ∷ 0x23 ∷ 0x24 ∷ flags ∷ 0x26 ∷ access ∷ 0x28 ∷ 0x29 ∷ 0x2A ∷ 0x2B ∷ 0x2C ∷ 0x2D ∷ 0x2E ∷ 0x2F ∷ [])
+    ++ ((0x30 ∷ 0x31 ∷ 0x32 ∷ 0x33 ∷ 0x34 ∷ 0x35 ∷ 0x36 ∷ 0x37 ∷ 0x38 ∷ 0x39 ∷ 0x3A ∷ 0x3B ∷ 0x3C ∷ 0x3D ∷ 0x3E ∷ []) ++ bytes))
+
+unfoldable pub itsOpen : OpenFields → Parsed
+itsOpen f = whole 0x2D 34 (Open f) End
+
+-- "Flags bit 0": none of the others. "Other AccessMode bits are ignored": access is bits 0 to 2, sharing bits 4 to 6, so that 0x5D, 0x55, 0xD5 and 0xDD are the same
+pub open-bits : (parse (openWith 0xFE 0x23 (1 ∷ 0 ∷ 0 ∷ [])) 0x2D 32 ≡ itsOpen (record { full = false; access = 3; sharing = 2; mode = 0x3231 }))
+    × (parse (openWith 0x01 0x5D (1 ∷ 0 ∷ 0 ∷ [])) 0x2D 32 ≡ itsOpen (record { full = true; access = 5; sharing = 5; mode = 0x3231 }))
+    × (parse (openWith 0x01 0x55 (1 ∷ 0 ∷ 0 ∷ [])) 0x2D 32 ≡ itsOpen (record { full = true; access = 5; sharing = 5; mode = 0x3231 }))
+    × (parse (openWith 0x01 0xD5 (1 ∷ 0 ∷ 0 ∷ [])) 0x2D 32 ≡ itsOpen (record { full = true; access = 5; sharing = 5; mode = 0x3231 }))
+    × (parse (openWith 0x01 0xDD (1 ∷ 0 ∷ 0 ∷ [])) 0x2D 32 ≡ itsOpen (record { full = true; access = 5; sharing = 5; mode = 0x3231 }))
+    × (parse (openWith 0x01 0xF8 (1 ∷ 0 ∷ 0 ∷ [])) 0x2D 32 ≡ itsOpen (record { full = true; access = 0; sharing = 7; mode = 0x3231 }))
+    × (parse (openWith 0x01 0x8F (1 ∷ 0 ∷ 0 ∷ [])) 0x2D 32 ≡ itsOpen (record { full = true; access = 7; sharing = 0; mode = 0x3231 }))
+unfolding itsOpen whole openWith behindHeader parse parseOpen answer openFits terminated linkFits linkAt mayFollow shaped le16At
+open-bits = (refl, refl, refl, refl, refl, refl, refl)
+
+-- the bytes from 0 to 255 with which a byte area is a name and one zero byte
+unfoldable pub naming : (ℕ → List ℕ) → List ℕ
+naming bytes = keep (λ x. isWhole (parse (openWith 0 0 (bytes x)) 0x2D 32)) (countFrom 0 256)
+
+-- "a name of any length, even none, without zero bytes, then one zero byte": of a name's byte, every one but 0; of the last, 0 alone; of ByteCount's lower byte, here before 41 00 42 00, 2 alone
+pub name-bytes : (naming (λ x. 1 ∷ 0 ∷ x ∷ []) ≡ 0 ∷ [])
+    × (naming (λ x. 3 ∷ 0 ∷ x ∷ 0x42 ∷ 0 ∷ []) ≡ countFrom 1 255)
+    × (naming (λ x. 3 ∷ 0 ∷ 0x41 ∷ x ∷ 0 ∷ []) ≡ countFrom 1 255)
+    × (naming (λ x. 3 ∷ 0 ∷ 0x41 ∷ 0x42 ∷ x ∷ []) ≡ 0 ∷ [])
+    × (naming (λ x. x ∷ 0 ∷ 0x41 ∷ 0 ∷ 0x42 ∷ replicate 300 0) ≡ 2 ∷ [])
+    × (isWhole (parse (openWith 0 0 ((0x01 ∷ 0x01 ∷ replicate 256 0x41) ++ (0 ∷ []))) 0x2D 32) ≡ true)
+unfolding naming keep countFrom isWhole openWith behindHeader parse parseOpen answer openFits terminated linkFits linkAt mayFollow shaped le16At
+name-bytes = (refl, refl, refl, refl, refl, refl)
+
 -- ---- no other number of words
 
 -- a block of that many words with no byte, all 0 but for its first word's first byte; and one of a WRITE with no data, its DataOffset where its
@@ -252,6 +304,10 @@ noData words = behindHeader ((words ∷ 0xFF ∷ replicate 21 0) ++ ((35 + 2 * w
 -- one of a core WRITE of count 0, its data block empty
 unfoldable pub emptyData : ℕ → List ℕ
 emptyData words = behindHeader ((words ∷ replicate (2 * words) 0) ++ (3 ∷ 0 ∷ 1 ∷ 0 ∷ 0 ∷ []))
+
+-- one of an OPEN_ANDX with an empty name
+unfoldable pub emptyName : ℕ → List ℕ
+emptyName words = behindHeader ((words ∷ 0xFF ∷ replicate (2 * words - 1) 0) ++ (1 ∷ 0 ∷ 0 ∷ []))
 
 -- the word counts from 0 to 255 with which such a block is one of that command
 unfoldable pub wordCounts : ℕ → (ℕ → List ℕ) → List ℕ
@@ -269,5 +325,6 @@ pub words-column : (wordCounts 0x24 (zeros 0xFF) ≡ 8 ∷ [])
     × (wordCounts 0x0B emptyData ≡ 5 ∷ [])
     × (wordCounts 0x0C (zeros 0) ≡ 5 ∷ [])
     × (wordCounts 0x0D (zeros 0) ≡ 5 ∷ [])
-unfolding wordCounts keep countFrom zeros noData emptyData isWhole behindHeader parse parseLocking parseRead parseWrite parseLogoff parseBare parseCoreWrite answer lockingFits readFits writeFits coreWriteFits dataInside linkFits linkAt mayFollow isLarge rangeSize bare shaped wideOffset le16At le32At
-words-column = (refl, refl, refl, refl, refl, refl, refl, refl, refl, refl, refl)
+    × (wordCounts 0x2D emptyName ≡ 15 ∷ [])
+unfolding wordCounts keep countFrom zeros noData emptyData emptyName isWhole behindHeader parse parseLocking parseRead parseWrite parseLogoff parseBare parseCoreWrite parseOpen answer lockingFits readFits writeFits coreWriteFits openFits terminated dataInside linkFits linkAt mayFollow isLarge rangeSize bare shaped wideOffset le16At le32At
+words-column = (refl, refl, refl, refl, refl, refl, refl, refl, refl, refl, refl, refl)

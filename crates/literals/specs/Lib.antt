@@ -8,5 +8,6 @@ pub mod Words
 pub mod Inside
 pub mod Replies
 pub mod CoreCommands
+pub mod Opening
 pub mod Stream
 pub mod TwoProcesses

@@ -1,5 +1,5 @@
 -- Small tables and files, with numbers that differ from one another. Assumes nothing.
-use Prim.Native.Nat.{ℕ}
+use Prim.Native.Nat.{ℕ, _-_}
 use mathlib.Core.Bool.{true, false}
 use mathlib.Core.List.{List, [], _∷_, _++_}
 use lib.ListN.{length, replicate}
@@ -8,7 +8,9 @@ use Rattle.records.specs.declared.Tree.{Tree}
 use Rattle.records.specs.declared.Open.{Open}
 use Rattle.records.specs.declared.Lock.{Lock}
 use Rattle.records.specs.declared.File.{File}
+use Rattle.records.specs.declared.Name.{Name}
 use Rattle.records.specs.declared.Tables.{Tables}
+use Rattle.records.specs.Empty.{noName}
 
 unfoldable pub session : ℕ → ℕ → Session
 session uid connection = record { uid = uid; connection = connection }
@@ -16,14 +18,19 @@ session uid connection = record { uid = uid; connection = connection }
 unfoldable pub tree : ℕ → ℕ → ℕ → Tree
 tree tid uid right = record { tid = tid; uid = uid; right = right }
 
+-- an open as the host adds it, with sharing code 4
 unfoldable pub open-of : ℕ → ℕ → ℕ → ℕ → ℕ → ℕ → Open
-open-of fid uid tid process file access = record { fid = fid; uid = uid; tid = tid; process = process; file = file; access = access }
+open-of fid uid tid process file access = record { fid = fid; uid = uid; tid = tid; process = process; file = file; access = access; sharing = 4 }
+
+-- a name of the catalogue, its bytes and then zeros
+unfoldable pub name : List ℕ → ℕ → Name
+name bytes file = record { length = length bytes; text = bytes ++ replicate (12 - length bytes) 0; file = file }
 
 -- 16 files: file 1 has a size of 6, the others are empty
 unfoldable pub sizes : List File
 sizes = record { size = 0 } ∷ record { size = 6 } ∷ replicate 14 (record { size = 0 })
 
--- tables with just those records
+-- tables with just those records, and no name in the catalogue
 unfoldable pub tablesWith : List Session → List Tree → List Open → List Lock → Tables
 tablesWith sessions trees opens locks =
     record {
@@ -36,6 +43,8 @@ tablesWith sessions trees opens locks =
       locks = locks;
       nlocks = length locks;
       files = sizes;
+      names = replicate 16 noName;
+      nnames = 0;
     }
 
 -- UID 3 on connection 5, its tree TID 2 for reading and writing, and FID 4, an open of file 1 for both by process 0x0D0C1B1A

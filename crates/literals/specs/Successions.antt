@@ -1,4 +1,4 @@
--- What may follow what (document 02, CR 5): "of all 65,536 pairs it allows exactly the eight listed". The checker computes one test over the whole table, and a
+-- What may follow what (document 02, CR 5): "of all 65,536 pairs it allows exactly the eight listed"; CR 6: "CR 5's eight pairs become nine". The checker computes one test over the whole table, and a
 -- lemma turns the test into the rule. Assumes nothing.
 use mathlib.Core.Path.{_≡_, refl, sym, _∙_}
 use mathlib.Core.Logic.{_↔_}
@@ -12,7 +12,7 @@ use borrow.Author.Tests.{eqb-true, eq-eqb}
 use Rattle.lists.specs.Walk.{any, all}
 use Rattle.lists.specs.Members.{all-each, any-one, one-any}
 use Rattle.lists.specs.Truth.{both-hold, hold-both}
-use Rattle.chain.specs.Layout.{CLOSE, LOCKING, READ, WRITE, CORE-READ, CORE-WRITE}
+use Rattle.chain.specs.Layout.{CLOSE, LOCKING, READ, WRITE, CORE-READ, CORE-WRITE, OPEN}
 use Rattle.chain.specs.Grammar.{MayFollow}
 use Rattle.chain.specs.Parse.{mayFollow}
 use Rattle.invariants.specs.Follows.{follow-table}
@@ -26,8 +26,8 @@ pub record Pair : Type 0 where
 unfoldable pub pair : ℕ → ℕ → Pair
 pair command next = record { command = command; next = next }
 
--- Document 01's column "May be followed by", row by row in its order, and last in LOCKING's row the two of document 02's CR 3. READ and WRITE are READ_ANDX and WRITE_ANDX
--- here, CORE-READ and CORE-WRITE that request's READ and WRITE. docs/GRAMMAR.md prints this list, and tests/follow_table holds it to that page and to the source.
+-- Document 01's column "May be followed by", row by row in its order, last in LOCKING's row the two of document 02's CR 3, and a last row of its CR 6. READ, WRITE and OPEN are READ_ANDX,
+-- WRITE_ANDX and OPEN_ANDX here, CORE-READ and CORE-WRITE CR 3's READ and WRITE. docs/GRAMMAR.md prints this list, and tests/follow_table holds it to that page and to the source.
 unfoldable pub listed : List Pair
 listed =
     pair LOCKING READ
@@ -38,6 +38,7 @@ listed =
     ∷ pair WRITE WRITE
     ∷ pair WRITE READ
     ∷ pair WRITE CLOSE
+    ∷ pair OPEN READ
     ∷ []
 
 -- the same as a test
@@ -99,7 +100,7 @@ module _ (command next : ℕ) (low : command < 256) (low′ : next < 256) where
       alike-same (mayFollow command next) (isListed command next)
       (all-each (λ (n : ℕ). alike (mayFollow command n) (isListed command n)) (counted 0 256 next (omega arith) (omega arith)) row)
 
-  -- "of all 65,536 pairs it allows exactly the eight listed": the answer of `chain::command::may_follow`, whose contract is an equation with mayFollow
+  -- "of all 65,536 pairs it allows exactly the eight listed", nine with CR 6's: the answer of `chain::command::may_follow`, whose contract is an equation with mayFollow
   pub exactly-listed : (mayFollow command next ≡ true) ↔ In (pair command next) listed
   exactly-listed = (λ e. listed-in command next (sym same-test ∙ e), λ i. same-test ∙ in-listed command next i)
 

@@ -2,37 +2,38 @@
 use mathlib.Core.Path.{_≡_, refl}
 use Prim.Native.Nat.{ℕ, _+_}
 use mathlib.Core.Bool.{Bool, true, false, not, _&&_}
-use mathlib.Core.List.{List, [], _∷_}
+use mathlib.Core.List.{List, [], _∷_, _++_}
 use lib.ListN.{length, getD, set, replicate}
 use Rattle.lists.specs.Walk.{all}
 use Rattle.records.specs.declared.Tables.{Tables}
-use Rattle.records.specs.Empty.{noSession, noTree, noOpen, noLock, noFile}
-use Rattle.tables.specs.Words.{upTo, sessionOf, treeOf, openOf, lockOf, arrayOf, sessionArray, treeArray, openArray, lockArray, fileArray, tablesOf, within, recordsFit, inUseFit}
+use Rattle.records.specs.Empty.{noSession, noTree, noOpen, noLock, noFile, noName}
+use Rattle.tables.specs.Words.{upTo, sessionOf, treeOf, openOf, lockOf, nameOf, arrayOf, sessionArray, treeArray, openArray, lockArray, nameArray, fileArray, tablesOf, within, recordsFit, inUseFit}
 use Rattle.message.specs.declared.refusal.HeldBy.the-variants.{Nobody, Holder as held-by}
 use Rattle.boundary.specs.Boundary.{holderWords}
 use Rattle.literals.specs.Counting.{countFrom}
 
--- 1172 words, the word at each place the place itself; but the last open's file (513) and access (514), which fit up to 255, are 213 and 214, and of the
--- first lock and the last, shared (520, 1155) is 1 and 0
+-- 1461 words, the word at each place the place itself; but the last open's file (576), access (577) and sharing (578), which fit up to 255, are 216, 217 and 218,
+-- and of the first lock and the last, shared (584, 1219) is 1 and 0. A name's words are cut to a byte: 1237 is 213.
 unfoldable pub ownWords : List ℕ
-ownWords = set (set (set (set (countFrom 0 1172) 513 213) 514 214) 520 1) 1155 0
+ownWords = set (set (set (set (set (countFrom 0 1461) 576 216) 577 217) 578 218) 584 1) 1219 0
 
 unfoldable pub taken : Tables
 taken = tablesOf ownWords
 
--- session_count, tree_count, open_count and lock_count
-pub counts : (taken .nsessions ≡ 0) × (taken .ntrees ≡ 33) × (taken .nopens ≡ 130) × (taken .nlocks ≡ 515)
+-- session_count, tree_count, open_count, lock_count and the catalogue's count
+pub counts : (taken .nsessions ≡ 0) × (taken .ntrees ≡ 33) × (taken .nopens ≡ 130) × (taken .nlocks ≡ 579) × (taken .nnames ≡ 1236)
 unfolding taken ownWords countFrom tablesOf
-counts = (refl, refl, refl, refl)
+counts = (refl, refl, refl, refl, refl)
 
--- how many records there are, in use or not: "Sessions 16 ..; trees 32 ..; opens 64 ..; locks 128 ..; Files: 16"
+-- how many records there are, in use or not: "Sessions 16 ..; trees 32 ..; opens 64 ..; locks 128 ..; Files: 16"; document 02, CR 6: "up to 16 names"
 pub records : (length (taken .sessions) ≡ 16)
     × (length (taken .trees) ≡ 32)
     × (length (taken .opens) ≡ 64)
     × (length (taken .locks) ≡ 128)
     × (length (taken .files) ≡ 16)
-unfolding taken ownWords countFrom tablesOf sessionArray treeArray openArray lockArray fileArray arrayOf upTo
-records = (refl, refl, refl, refl, refl)
+    × (length (taken .names) ≡ 16)
+unfolding taken ownWords countFrom tablesOf sessionArray treeArray openArray lockArray fileArray nameArray arrayOf upTo
+records = (refl, refl, refl, refl, refl, refl)
 
 -- uid, connection
 pub session-words : (getD (taken .sessions) 0 noSession ≡ record { uid = 1; connection = 2 })
@@ -46,34 +47,41 @@ pub tree-words : (getD (taken .trees) 0 noTree ≡ record { tid = 34; uid = 35; 
 unfolding taken ownWords countFrom tablesOf treeArray arrayOf upTo treeOf
 tree-words = (refl, refl)
 
--- fid, uid, tid, process, file, access
-pub open-words : (getD (taken .opens) 0 noOpen ≡ record { fid = 131; uid = 132; tid = 133; process = 134; file = 135; access = 136 })
-    × (getD (taken .opens) 63 noOpen ≡ record { fid = 509; uid = 510; tid = 511; process = 512; file = 213; access = 214 })
+-- fid, uid, tid, process, file, access, sharing
+pub open-words : (getD (taken .opens) 0 noOpen ≡ record { fid = 131; uid = 132; tid = 133; process = 134; file = 135; access = 136; sharing = 137 })
+    × (getD (taken .opens) 63 noOpen ≡ record { fid = 572; uid = 573; tid = 574; process = 575; file = 216; access = 217; sharing = 218 })
 unfolding taken ownWords countFrom tablesOf openArray arrayOf upTo openOf
 open-words = (refl, refl)
 
 -- fid, process, offset, length, shared
-pub lock-words : (getD (taken .locks) 0 noLock ≡ record { fid = 516; process = 517; offset = 518; length = 519; shared = true })
-    × (getD (taken .locks) 127 noLock ≡ record { fid = 1151; process = 1152; offset = 1153; length = 1154; shared = false })
+pub lock-words : (getD (taken .locks) 0 noLock ≡ record { fid = 580; process = 581; offset = 582; length = 583; shared = true })
+    × (getD (taken .locks) 127 noLock ≡ record { fid = 1215; process = 1216; offset = 1217; length = 1218; shared = false })
 unfolding taken ownWords countFrom tablesOf lockArray arrayOf upTo lockOf
 lock-words = (refl, refl)
 
 -- size
-pub file-words : (getD (taken .files) 0 noFile ≡ record { size = 1156 }) × (getD (taken .files) 15 noFile ≡ record { size = 1171 })
+pub file-words : (getD (taken .files) 0 noFile ≡ record { size = 1220 }) × (getD (taken .files) 15 noFile ≡ record { size = 1235 })
 unfolding taken ownWords countFrom tablesOf fileArray upTo
 file-words = (refl, refl)
+
+-- length, twelve bytes, file
+pub name-words : (getD (taken .names) 0 noName ≡ record { length = 213; text = countFrom 214 12; file = 226 })
+    × (getD (taken .names) 15 noName ≡ record { length = 167; text = countFrom 168 12; file = 180 })
+unfolding taken ownWords countFrom tablesOf nameArray arrayOf upTo nameOf
+name-words = (refl, refl)
 
 -- ---- the largest value that fits
 
 -- one record of each table in use, its words 0
 unfoldable pub oneEach : List ℕ
-oneEach = set (set (set (set (replicate 1172 0) 0 1) 33 1) 130 1) 515 1
+oneEach = set (set (set (set (set (replicate 1461 0) 0 1) 33 1) 130 1) 579 1) 1236 1
 
 -- the word at a place fits up to that value, and not above it
 unfoldable pub fitsUpTo : ℕ → ℕ → Bool
 fitsUpTo at most = inUseFit (set oneEach at most) && not (inUseFit (set oneEach at (most + 1)))
 
--- a session's UID and connection; a tree's TID, UID and right; an open's FID, UID, TID, process, file and access; a lock's FID, process and shared
+-- a session's UID and connection; a tree's TID, UID and right; an open's FID, UID, TID, process, file, access and sharing; a lock's FID, process and shared; a name's
+-- length, its first byte and its last, and its file
 pub limits : (fitsUpTo 1 65535 ≡ true)
     × (fitsUpTo 2 4294967295 ≡ true)
     × (fitsUpTo 34 65535 ≡ true)
@@ -85,18 +93,23 @@ pub limits : (fitsUpTo 1 65535 ≡ true)
     × (fitsUpTo 134 4294967295 ≡ true)
     × (fitsUpTo 135 255 ≡ true)
     × (fitsUpTo 136 255 ≡ true)
-    × (fitsUpTo 516 65535 ≡ true)
-    × (fitsUpTo 517 4294967295 ≡ true)
-    × (fitsUpTo 520 1 ≡ true)
+    × (fitsUpTo 137 255 ≡ true)
+    × (fitsUpTo 580 65535 ≡ true)
+    × (fitsUpTo 581 4294967295 ≡ true)
+    × (fitsUpTo 584 1 ≡ true)
+    × (fitsUpTo 1237 255 ≡ true)
+    × (fitsUpTo 1238 255 ≡ true)
+    × (fitsUpTo 1249 255 ≡ true)
+    × (fitsUpTo 1250 255 ≡ true)
 unfolding fitsUpTo oneEach inUseFit recordsFit within all upTo
-limits = (refl, refl, refl, refl, refl, refl, refl, refl, refl, refl, refl, refl, refl, refl)
+limits = (refl, refl, refl, refl, refl, refl, refl, refl, refl, refl, refl, refl, refl, refl, refl, refl, refl, refl, refl)
 
 -- a lock's offset and length are any word, and the words of records not in use are free: the largest word at the second record's places fits
 unfoldable pub fits : ℕ → Bool
 fits at = inUseFit (set oneEach at 18446744073709551615)
 
-pub free-words : all fits (518 ∷ 519 ∷ 3 ∷ 4 ∷ 37 ∷ 38 ∷ 39 ∷ 137 ∷ 138 ∷ 139 ∷ 140 ∷ 141 ∷ 142 ∷ 521 ∷ 522 ∷ 523 ∷ 524 ∷ 525 ∷ []) ≡ true
-unfolding fits oneEach inUseFit recordsFit within all upTo
+pub free-words : all fits (582 ∷ 583 ∷ 3 ∷ 4 ∷ (countFrom 37 3 ++ (countFrom 138 7 ++ (countFrom 585 5 ++ countFrom 1251 14)))) ≡ true
+unfolding fits oneEach inUseFit recordsFit within all upTo countFrom
 free-words = refl
 
 -- ---- the holder
