@@ -10,15 +10,15 @@ use lib.Seq.{length-take-le, getD-take, getD-drop, getD-append-add, getD-set-sam
 use lib.Dec.{eqb}
 use borrow.Author.Tests.{eqb-true}
 use Rattle.wire.specs.LittleEndian.{byteAt, le16At}
-use Rattle.chain.specs.Layout.{LOCKING, READ, WRITE, LOGOFF, NO_COMMAND, headerCommand, FIRST, wordCount, byteArea, blockEnd, andxCommand, dataLength, dataOffset}
-use Rattle.chain.specs.Grammar.{IsBlock, locking-10, locking-20, read-10, read-12, write-12, write-14, close, logoff, tree-disconnect, process-exit, core-read, core-write, lock-byte-range, unlock-byte-range, NamedAndx, locking-andx, read-andx, write-andx, logoff-andx, Plain, close-plain, tree-disconnect-plain, process-exit-plain, core-read-plain, core-write-plain, lock-byte-range-plain, unlock-byte-range-plain}
+use Rattle.chain.specs.Layout.{LOCKING, READ, WRITE, LOGOFF, OPEN, NO_COMMAND, headerCommand, FIRST, wordCount, byteArea, blockEnd, andxCommand, dataLength, dataOffset}
+use Rattle.chain.specs.Grammar.{IsBlock, locking-10, locking-20, read-10, read-12, write-12, write-14, close, logoff, tree-disconnect, process-exit, core-read, core-write, lock-byte-range, unlock-byte-range, open-15, NamedAndx, locking-andx, read-andx, write-andx, logoff-andx, open-andx, Plain, close-plain, tree-disconnect-plain, process-exit-plain, core-read-plain, core-write-plain, lock-byte-range-plain, unlock-byte-range-plain}
 use Rattle.chain.specs.declared.block.Block.{Block}
 use Rattle.invariants.specs.BlockParse.{block-inside, write-words, andx-words, blockSize}
 use Rattle.readings.specs.Moved.{Kept, kept-plain, kept-count, kept-front, kept-behind, kept-not-write, Moved}
 
 -- the requests named ANDX
 unfoldable pub namedAndx : ℕ → Bool
-namedAndx command = eqb command LOCKING || (eqb command READ || (eqb command WRITE || eqb command LOGOFF))
+namedAndx command = eqb command LOCKING || (eqb command READ || (eqb command WRITE || (eqb command LOGOFF || eqb command OPEN)))
 
 -- "with AndXCommand 0xFF where it has one": it is a block's byte 1
 unfoldable pub endSet : ℕ → List ℕ → List ℕ
@@ -96,6 +96,7 @@ andx-is locking-andx = refl
 andx-is read-andx = refl
 andx-is write-andx = refl
 andx-is logoff-andx = refl
+andx-is open-andx = refl
 
 -- a WRITE block's data: where it starts and ends
 write-data : {s : List ℕ} {at command : ℕ} → IsBlock s at command → command ≡ WRITE
@@ -114,6 +115,7 @@ write-data (core-read h) e = absurd (omega arith)
 write-data (core-write h) e = absurd (omega arith)
 write-data (lock-byte-range h) e = absurd (omega arith)
 write-data (unlock-byte-range h) e = absurd (omega arith)
+write-data (open-15 h) e = absurd (omega arith)
 
 -- bytes kept are not those set
 kept-end : {command k : ℕ} → Kept command k → namedAndx command ≡ true → k ≡ 1 → ⊥

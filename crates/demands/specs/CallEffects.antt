@@ -1,6 +1,6 @@
 -- What a message of one command that is done gives and leaves, said of the call (document 01, "Locks, reads and writes" and "Reply blocks"; document 02, CR 3).
 -- Assumes nothing.
-use mathlib.Core.Path.{_≡_, _∙_}
+use mathlib.Core.Path.{_≡_, sym, ap, _∙_}
 use Prim.Native.Nat.{ℕ, min, _+_, _-_, _≤_, _<_}
 use native.Mathlib.Omega.{arith}
 use mathlib.Core.List.{List, [], _∷_, _++_}
@@ -31,11 +31,13 @@ use Rattle.message.specs.Refusal.{status}
 use Rattle.message.specs.declared.link.Link.the-variants.{None as noLink}
 use Rattle.message.specs.Contents.{sizeOf, readBytes}
 use Rattle.message.specs.Command.{Said, read, wrote, plain, loggedOff, coreRead, coreWrote, Given, done, doRead, doWrite, asCore, doSetSize, doCoreWrite, perform}
+use Rattle.message.specs.JustOpened.{NOBODY}
 use Rattle.message.specs.Reply.{replyHeader, replyBlock, replySize}
 use Rattle.message.specs.Message.{areaOf, dataOf, Taken, take-message}
 use Rattle.invariants.specs.Sound.{Good, size-most}
 use Rattle.invariants.specs.Fit.{Fit, take-message-good}
 use Rattle.demands.specs.Calls.{statusRead}
+use Rattle.invariants.specs.JustOpenedLaws.{meant-nobody}
 use Rattle.demands.specs.RefusedCall.{gives, Untouched}
 use Rattle.demands.specs.Admitted.{Admitted}
 use Rattle.demands.specs.FileCommands.{Yields, WroteFile, read-left, read-yields, write-says, write-leaves, write-nothing, as-core, core-read-left, core-read-yields, core-write-leaves, core-write-says, data-counted, core-counted}
@@ -93,9 +95,9 @@ unfolding blockAt
 one-filled (chained-end h l) f same = core-counted h _ f same
 
 -- what the command of a known body gives
-pub gives-body : (c : Caller) (s : List ℕ) (b : Block) (t : Tables) (memory : List ℕ) (body : Body) {g : Given} → b .body ≡ body → gives c s b t memory ≡ g
+pub gives-body : (c : Caller) (s : List ℕ) (b : Block) (t : Tables) (memory : List ℕ) (body : Body) {g : Given} → b .body ≡ body → gives c s NOBODY b t memory ≡ g
     → perform c t memory body (areaOf s b) (dataOf s b) ≡ g
-gives-body c s b t memory body is e = rw (← is) e
+gives-body c s b t memory body is e = ap (λ (x : Body). perform c t memory x (areaOf s b) (dataOf s b)) (sym is ∙ sym (meant-nobody (b .body))) ∙ e
 
 -- what is left by a removal that is done
 removed : (P : Tables → Type 0) {after u : Tables} {memory m : List ℕ} {x y : Said} → P after → done after memory x ≡ done u m y → P u × (m ≡ memory)

@@ -21,6 +21,7 @@ use Rattle.invariants.specs.Chained.{read-chained}
 use Rattle.message.specs.Caller.{callerOf}
 use Rattle.message.specs.Refusal.{status}
 use Rattle.message.specs.declared.refusal.Status.{Status}
+use Rattle.message.specs.JustOpened.{NOBODY}
 use Rattle.message.specs.Reply.{two, replyHeader}
 use Rattle.message.specs.Message.{Ran, run, runChain, served, answered, replyOf, Taken, replied, take-message}
 use Rattle.demands.specs.Malformed.{malformed}
@@ -52,7 +53,7 @@ status-call connection s t memory room f =
 
 -- a sentence is answered by its commands in turn, and the reply's length is the header's and theirs
 module _ (connection : ℕ) (s : List ℕ) (t : Tables) (memory : List ℕ) where
-  pub sentence-answered : (bs : List Block) → blocks s ≡ some bs → answered connection s t memory ≡ run (callerOf connection s) s bs FIRST t memory
+  pub sentence-answered : (bs : List Block) → blocks s ≡ some bs → answered connection s t memory ≡ run (callerOf connection s) s NOBODY bs FIRST t memory
   unfolding answered runChain blocks
   sentence-answered bs e = rw (chained-served (read-chained s (headerCommand s) FIRST bs e), e)
 
@@ -78,6 +79,6 @@ malformed-call connection s t memory room f e =
 -- "This is a single claim about the whole list of blocks": of any reading its blocks are those sent
 pub reading-one-by-one : (connection : ℕ) (s : List ℕ) {spans : List Span} → Reading s spans → (t : Tables) (memory room small : List ℕ) → Good t → Fit s t memory room
     → length small ≡ 12292
-    → (bs : List Block) × (map spanOf bs ≡ spans) × (take-message connection s t memory room ≡ comparedCall s room (callAll connection s small bs t memory))
+    → (bs : List Block) × (map spanOf bs ≡ spans) × (take-message connection s t memory room ≡ comparedCall s room (callAll connection s small NOBODY bs t memory))
 reading-one-by-one connection s r t memory room small g f n =
     let a = reader-complete r in (a .0, a .2, calls-one-by-one connection s (a .0) (a .1) t memory room small g f n)

@@ -27,11 +27,12 @@ use Rattle.message.specs.Command.{Given, refused, done, perform}
 use Rattle.message.specs.Reply.{two, replyHeader}
 use Rattle.message.specs.Message.{areaOf, dataOf, Ran, after, afterGiven, run, served, onlyStatus, runChain, answered, replyOf, Taken, replied, take-message}
 use Rattle.message.specs.declared.refusal.Refusal.{Refusal}
-use Rattle.message.specs.declared.refusal.Refusal.the-variants.{NotServed, NotSentence, NoSession, NoTree, NoOpen, NoAccess, LockType, NoSuchLock, PassesEnd, Conflict, NoRecord, NoSpace}
+use Rattle.message.specs.declared.refusal.Refusal.the-variants.{NotServed, NotSentence, NoSession, NoTree, NoOpen, NoAccess, LockType, NoSuchLock, PassesEnd, Conflict, NoRecord, NoSpace, OpenMode, BadAccess, NoSuchFile, BadShare, NoFids}
 use Rattle.invariants.specs.GivenCases.{cond-case}
-use Rattle.demands.specs.Alone.{alone}
+use Rattle.message.specs.JustOpened.{NOBODY, bodyMeant}
+use Rattle.demands.specs.Returned.{returnedFid}
 use Rattle.demands.specs.HolderBeside.{nobody-exact, answered-beside}
-use Rattle.demands.specs.OneByOne.{Sent, succeeded, replyThen, sendOn, sendAll, joined, compared, one-by-one}
+use Rattle.demands.specs.OneByOne.{Sent, succeeded, replyThen, sendOn, own, sendAll, joined, compared, one-by-one}
 use Rattle.demands.specs.OneByOneReply.{lastReply, comparedReply, one-by-one-reply}
 use Rattle.invariants.specs.Sound.{Good}
 use Rattle.invariants.specs.Fit.{Fit, fit-answered}
@@ -63,16 +64,16 @@ callThen reply calls = record { number = calls .number; holder = calls .holder; 
 unfoldable pub carriedOut : Taken → Bool
 carriedOut r = eqb (r .number) 0 && statusZero (replyIn r)
 
--- "It stops after the first one refused (Status not 0) or the last block."
-unfoldable pub callOn : Taken → List Block → (Tables → List ℕ → Calls) → Calls
+-- "It stops after the first one refused (Status not 0) or the last block." The next gets the FID that the reply returned (document 02, CR 6)
+unfoldable pub callOn : Taken → List Block → (ℕ → Tables → List ℕ → Calls) → Calls
 callOn r [] rest = lastCall r
-callOn r (b ∷ bs) rest = cond (carriedOut r) (callThen (replyIn r) (rest (r .tables) (r .memory))) (lastCall r)
+callOn r (b ∷ bs) rest = cond (carriedOut r) (callThen (replyIn r) (rest (returnedFid (replyIn r)) (r .tables) (r .memory))) (lastCall r)
 
 -- "each block in turn makes a message", taken by the definition: "The first gets the sound tables and files that the chain got, each next those the last one left"
-unfoldable pub callAll : ℕ → List ℕ → List ℕ → List Block → Tables → List ℕ → Calls
-callAll connection s room [] t memory = record { number = 0; holder = Nobody; tables = t; memory = memory; replies = [] }
-callAll connection s room (b ∷ bs) t memory =
-    callOn (take-message connection (alone s b) t memory room) bs (λ t′ m. callAll connection s room bs t′ m)
+unfoldable pub callAll : ℕ → List ℕ → List ℕ → ℕ → List Block → Tables → List ℕ → Calls
+callAll connection s room just [] t memory = record { number = 0; holder = Nobody; tables = t; memory = memory; replies = [] }
+callAll connection s room just (b ∷ bs) t memory =
+    callOn (take-message connection (own s just b) t memory room) bs (λ j t′ m. callAll connection s room j bs t′ m)
 
 -- "the last reply's header with the chain's Command, then a block for each message sent"
 unfoldable pub chainReply : List ℕ → List (List ℕ) → List ℕ
@@ -108,23 +109,28 @@ code-small PassesEnd = omega arith
 code-small (Conflict h) = omega arith
 code-small NoRecord = omega arith
 code-small NoSpace = omega arith
+code-small OpenMode = omega arith
+code-small BadAccess = omega arith
+code-small NoSuchFile = omega arith
+code-small BadShare = omega arith
+code-small NoFids = omega arith
 
-after-small : (g : Given) (bs : List Block) (place : ℕ) (t : Tables) (memory : List ℕ) (rest : ℕ → Tables → List ℕ → Ran)
-    → ((p : ℕ) (u : Tables) (m : List ℕ) → rest p u m .status .code < 65536) → afterGiven g bs place t memory rest .status .code < 65536
+after-small : (g : Given) (bs : List Block) (place : ℕ) (t : Tables) (memory : List ℕ) (rest : ℕ → ℕ → Tables → List ℕ → Ran)
+    → ((j p : ℕ) (u : Tables) (m : List ℕ) → rest j p u m .status .code < 65536) → afterGiven g bs place t memory rest .status .code < 65536
 unfolding afterGiven after
 after-small (refused why) bs place t memory rest f = code-small why
-after-small (done u m said) bs place t memory rest f = f _ u m
+after-small (done u m said) bs place t memory rest f = f _ _ u m
 
-run-small : (c : Caller) (s : List ℕ) (bs : List Block) (place : ℕ) (t : Tables) (memory : List ℕ) → run c s bs place t memory .status .code < 65536
+run-small : (c : Caller) (s : List ℕ) (just : ℕ) (bs : List Block) (place : ℕ) (t : Tables) (memory : List ℕ) → run c s just bs place t memory .status .code < 65536
 unfolding run status
-run-small c s [] place t memory = omega arith
-run-small c s (b ∷ bs) place t memory =
-    after-small (perform c t memory (b .body) (areaOf s b) (dataOf s b)) bs place t memory _ (λ p u m. run-small c s bs p u m)
+run-small c s just [] place t memory = omega arith
+run-small c s just (b ∷ bs) place t memory =
+    after-small (perform c t memory (bodyMeant just (b .body)) (areaOf s b) (dataOf s b)) bs place t memory _ (λ j p u m. run-small c s j bs p u m)
 
 chain-small : (c : Caller) (s : List ℕ) (o : Option (List Block)) (t : Tables) (memory : List ℕ) → runChain c s o t memory .status .code < 65536
 unfolding runChain onlyStatus
 chain-small c s none t memory = code-small NotSentence
-chain-small c s (some bs) t memory = run-small c s bs FIRST t memory
+chain-small c s (some bs) t memory = run-small c s NOBODY bs FIRST t memory
 
 pub answered-small : (connection : ℕ) (s : List ℕ) (t : Tables) (memory : List ℕ) → answered connection s t memory .status .code < 65536
 unfolding answered onlyStatus
@@ -194,39 +200,39 @@ unfolding callsOf
 nothing-called t memory = refl
 
 -- one call, and the rest
-step : (connection : ℕ) (s room : List ℕ) (b : Block) (bs : List Block) (t : Tables) (memory : List ℕ)
-    → callAll connection s room bs (answered connection (alone s b) t memory .tables) (answered connection (alone s b) t memory .memory)
-    ≡ callsOf (sendAll connection s bs (answered connection (alone s b) t memory .tables) (answered connection (alone s b) t memory .memory))
-    → callOn (replied (alone s b) room (answered connection (alone s b) t memory)) bs (λ u m. callAll connection s room bs u m)
-    ≡ callsOf (sendOn (alone s b) (answered connection (alone s b) t memory) (λ u m. sendAll connection s bs u m))
+step : (connection : ℕ) (s room : List ℕ) (just : ℕ) (b : Block) (bs : List Block) (t : Tables) (memory : List ℕ)
+    → (let r = answered connection (own s just b) t memory in
+    callAll connection s room (returnedFid (replyOf (own s just b) r)) bs (r .tables) (r .memory) ≡ callsOf (sendAll connection s (returnedFid (replyOf (own s just b) r)) bs (r .tables) (r .memory)))
+    → callOn (replied (own s just b) room (answered connection (own s just b) t memory)) bs (λ j u m. callAll connection s room j bs u m)
+    ≡ callsOf (sendOn (own s just b) (answered connection (own s just b) t memory) (λ j u m. sendAll connection s j bs u m))
 unfolding callOn carriedOut lastCall sendOn sendAll replied
-step connection s room b [] t memory e =
-    rw (reply-read (alone s b) room (answered connection (alone s b) t memory))
-    (last-sent (succeeded (answered connection (alone s b) t memory .status)) (replyOf (alone s b) (answered connection (alone s b) t memory)) _ _ _ _
-    (answered-nobody connection (alone s b) t memory))
-step connection s room b (d ∷ bs) t memory e =
+step connection s room just b [] t memory e =
+    rw (reply-read (own s just b) room (answered connection (own s just b) t memory))
+    (last-sent (succeeded (answered connection (own s just b) t memory .status)) (replyOf (own s just b) (answered connection (own s just b) t memory)) _ _ _ _
+    (answered-nobody connection (own s just b) t memory))
+step connection s room just b (d ∷ bs) t memory e =
     rw (
-      reply-read (alone s b) room (answered connection (alone s b) t memory),
-      status-read (alone s b) (answered connection (alone s b) t memory) (answered-small connection (alone s b) t memory),
+      reply-read (own s just b) room (answered connection (own s just b) t memory),
+      status-read (own s just b) (answered connection (own s just b) t memory) (answered-small connection (own s just b) t memory),
     )
-    (more-sent (succeeded (answered connection (alone s b) t memory .status)) (replyOf (alone s b) (answered connection (alone s b) t memory)) _ _ _ _ _ _ e)
+    (more-sent (succeeded (answered connection (own s just b) t memory .status)) (replyOf (own s just b) (answered connection (own s just b) t memory)) _ _ _ _ _ _ e)
 
 -- all of them
-calls-sent : (connection : ℕ) (s room : List ℕ) → 12292 ≤ length room → {bs : List Block} {t : Tables} {memory : List ℕ} → AllFit connection s bs t memory
-    → callAll connection s room bs t memory ≡ callsOf (sendAll connection s bs t memory)
+calls-sent : (connection : ℕ) (s room : List ℕ) → 12292 ≤ length room → {just : ℕ} {bs : List Block} {t : Tables} {memory : List ℕ} → AllFit connection s just bs t memory
+    → callAll connection s room just bs t memory ≡ callsOf (sendAll connection s just bs t memory)
 unfolding callAll sendAll
 calls-sent connection s room enough {t = t} {memory = memory} none-left = nothing-called t memory
-calls-sent connection s room enough {t = t} {memory = memory} (next-fits {b} {bs} fit more) =
-    ap (λ (r : Taken). callOn r bs (λ u m. callAll connection s room bs u m)) (fit-answered connection (alone s b) t memory room (fit room enough))
-    ∙ step connection s room b bs t memory (calls-sent connection s room enough more)
+calls-sent connection s room enough {t = t} {memory = memory} (next-fits {just} {b} {bs} low fit more) =
+    ap (λ (r : Taken). callOn r bs (λ j u m. callAll connection s room j bs u m)) (fit-answered connection (own s just b) t memory room (fit room enough))
+    ∙ step connection s room just b bs t memory (calls-sent connection s room enough more)
 
 -- "This is a single claim about the whole list of blocks": of a sentence fit to be answered, the call gives what the calls of its blocks give, each sent
 -- in a message of its own with reply room 12,292
 pub calls-one-by-one : (connection : ℕ) (s : List ℕ) (bs : List Block) → blocks s ≡ some bs → (t : Tables) (memory room small : List ℕ) → Good t → Fit s t memory room
-    → length small ≡ 12292 → take-message connection s t memory room ≡ comparedCall s room (callAll connection s small bs t memory)
+    → length small ≡ 12292 → take-message connection s t memory room ≡ comparedCall s room (callAll connection s small NOBODY bs t memory)
 unfolding comparedCall replied callsOf chainReply comparedReply compared
 calls-one-by-one connection s bs e t memory room small g fit n =
-    let c : callAll connection s small bs t memory ≡ callsOf (sendAll connection s bs t memory) =
+    let c : callAll connection s small NOBODY bs t memory ≡ callsOf (sendAll connection s NOBODY bs t memory) =
     calls-sent connection s small (omega arith) (all-fit connection s bs e (fit .not-dropped) t memory g (fit .memory-whole)) in
     let h : length s ≤ 8192 = not-long s (fit .not-dropped) in
     fit-answered connection s t memory room fit

@@ -1,6 +1,6 @@
 -- The status of each command and the one reason for it, in plain words (document 01, "Refusals on the wire": the codes, and "Order: as written, for the whole of each
--- command with all its ranges"; document 02, CR 3, of the core commands: "as for the counterparts"). A reason names the failure of those before it in that order; the status
--- is given just where its reason holds. Assumes nothing.
+-- command with all its ranges"; document 02, CR 3, of the core commands: "as for the counterparts"; CR 6, of OPEN_ANDX: OpenReasons.antt). A reason names the failure of those
+-- before it in that order; the status is given just where its reason holds. Assumes nothing.
 use mathlib.Core.Path.{_≡_, refl, sym, ap, _∙_}
 use mathlib.Core.Logic.{_⊎_, inl, inr, _↔_}
 use Prim.Native.Nat.{ℕ, _+_, _*_, _/_, _%_, _^_, _≤_, _<_}
@@ -36,17 +36,18 @@ use Rattle.chain.specs.declared.block.ReadFields.{ReadFields}
 use Rattle.chain.specs.declared.block.WriteFields.{WriteFields}
 use Rattle.chain.specs.declared.block.RangeFields.{RangeFields}
 use Rattle.chain.specs.declared.block.Body.{Body}
-use Rattle.chain.specs.declared.block.Body.the-variants.{Locking as LockingBody, Read as ReadBody, Write as WriteBody, Close, Logoff, TreeDisconnect, ProcessExit, CoreRead as CoreReadBody, CoreWrite as CoreWriteBody, LockByteRange, UnlockByteRange}
+use Rattle.chain.specs.declared.block.Body.the-variants.{Locking as LockingBody, Read as ReadBody, Write as WriteBody, Close, Logoff, TreeDisconnect, ProcessExit, CoreRead as CoreReadBody, CoreWrite as CoreWriteBody, LockByteRange, UnlockByteRange, Open as OpenBody}
 use Rattle.message.specs.declared.caller.Caller.{Caller}
 use Rattle.message.specs.Refusal.{status, statusOf}
 use Rattle.message.specs.declared.refusal.Status.{Status}
 use Rattle.message.specs.declared.refusal.Refusal.the-variants.{NoAccess, LockType}
 use Rattle.message.specs.Contents.{readBytes}
-use Rattle.message.specs.Command.{Given, refused, done, read, withSession, withTree, withOpen, servedType, requestOf, lockingEnd, lockingAfter, doLocking, askBy, unlessBarred, barring, doRead, endsPast, doWrite, asCore, rangeBy, oneRange, doRange, betweenSizes, doSetSize, doCoreWrite, perform}
+use Rattle.message.specs.Command.{Given, refused, done, read, withSession, withTree, withOpen, servedType, requestOf, lockingEnd, lockingAfter, doLocking, askBy, unlessBarred, barring, doRead, endsPast, doWrite, asCore, rangeBy, oneRange, doRange, betweenSizes, doSetSize, doCoreWrite, nameAsked, perform}
 use Rattle.demands.specs.LoneLock.{May, InWay, Owner, BarsLock, lowerSize, sizesApart, BarsSize, BarsRange, read-conflict as read-exact, sharedIn, exclusive-way, range-back}
 use Rattle.demands.specs.Admitted.{SessionHere, Admitted, NoSessionFor, NoTreeFor, NoOpenFor, admitted-may, session-or, tree-or, open-or, with-session, with-tree, with-open, session-given, tree-given, open-given}
 use Rattle.demands.specs.LockWords.{Released, Unnamed, Releasing, all-released, one-unnamed, release-means, released-is, unnamed-is, released-was, PastEnd, past-means, past-is, one-past, AllGranted, OneBlocked, Opened, Granting, all-granted, one-blocked, grant-means, granted-is, blocked-is, none-to-release, none-released, none-unnamed, one-released, one-names-none, names-none, none-to-grant, grant-then, none-granted, blocked-here, none-blocked, one-barred, one-more, one-granted}
 use Rattle.demands.specs.WritingReasons.{WritingStatus, conflicts-status, other-status, writing-reason, writing-given}
+use Rattle.demands.specs.OpenReasons.{OpenStatus, opening-reason, opening-given}
 use Rattle.demands.specs.CoreReasons.{LockStatus, lock-not, lock-barred, lock-full, lock-done, UnlockStatus, unlock-not, unlock-unnamed, unlock-done, out-listed, listed-out, out-fits}
 
 -- ---- the reasons
@@ -144,6 +145,7 @@ Reason c t area (CoreReadBody f) n = ReadStatus c t f n
 Reason c t area (CoreWriteBody f) n = CoreWriteStatus c t f n
 Reason c t area (LockByteRange f) n = LockStatus c t f n
 Reason c t area (UnlockByteRange f) n = UnlockStatus c t f n
+Reason c t area (OpenBody f) n = OpenStatus c t f (nameAsked area) n
 
 -- ---- a write's end
 
@@ -573,7 +575,7 @@ module _ (c : Caller) (t : Tables) (memory : List ℕ) (ok : sound t ≡ true) w
     unfolding doRange oneRange
     unlock-given r = core-status (doLocking c t memory (oneRange f 1 0) its-area) ∙ locking-given (oneRange f 1 0) its-area announced (from-unlock r)
 
--- ---- all eleven
+-- ---- all twelve
 
 -- a LOCKING block's byte area is just the announced ranges, as it is in every block of a reading
 unfoldable pub Announced : Body → List ℕ → Type 0
@@ -594,6 +596,7 @@ module _ (c : Caller) (t : Tables) (memory : List ℕ) (ok : sound t ≡ true) w
   perform-reason (CoreWriteBody f) area bytes h = core-write-reason c t memory ok f _
   perform-reason (LockByteRange f) area bytes h = lock-reason c t memory ok f
   perform-reason (UnlockByteRange f) area bytes h = unlock-reason c t memory ok f
+  perform-reason (OpenBody f) area bytes h = opening-reason c t memory ok f (nameAsked area)
 
   -- "Order: as written": and where the reason holds, its status is given
   pub perform-given : (b : Body) (area bytes : List ℕ) → Announced b area → {n : Status} → Reason c t area b n → statusIn (perform c t memory b area bytes) ≡ n
@@ -609,6 +612,7 @@ module _ (c : Caller) (t : Tables) (memory : List ℕ) (ok : sound t ≡ true) w
   perform-given (CoreWriteBody f) area bytes h r = core-write-given c t memory ok f _ r
   perform-given (LockByteRange f) area bytes h r = lock-given c t memory ok f r
   perform-given (UnlockByteRange f) area bytes h r = unlock-given c t memory ok f r
+  perform-given (OpenBody f) area bytes h r = opening-given c t memory ok f (nameAsked area) r
 
   -- a command has a status exactly for its reason
   pub perform-exact : (b : Body) (area bytes : List ℕ) → Announced b area → (n : Status) → (statusIn (perform c t memory b area bytes) ≡ n) ↔ Reason c t area b n

@@ -5,7 +5,7 @@ use Prim.Native.Nat.{ℕ, _≤_}
 use native.Mathlib.Omega.{arith}
 use mathlib.Core.List.{List, List·Memᴰ as In, List·Memᴰ·head as first, List·Memᴰ·tail as later}
 use lib.ListN.{length, drop}
-use Rattle.chain.specs.Layout.{CORE-WRITE, headerCommand, FIRST, firstFid, coreCount, coreOffset, markedData}
+use Rattle.chain.specs.Layout.{READ, CORE-WRITE, headerCommand, FIRST, firstFid, coreCount, coreOffset, markedData}
 use Rattle.chain.specs.Grammar.{IsBlock, Span, spanAt, ReadingFrom, plain-end, andx-end, andx-next, Reading}
 use Rattle.chain.specs.declared.block.ReadFields.{ReadFields}
 use Rattle.chain.specs.declared.block.WriteFields.{WriteFields}
@@ -18,7 +18,8 @@ use Rattle.readings.specs.CoreAlone.{EndsChain, ends-read, ends-write}
 use Rattle.readings.specs.Moved.{Moved, movedBody, moved-block, moved-body}
 use Rattle.readings.specs.MovedBytes.{part, moved-marked-area}
 use Rattle.demands.specs.Alone.{alone-command, alone-moved}
-use Rattle.demands.specs.SpansOneByOne.{aloneSpan, alone-span}
+use Rattle.demands.specs.Carrying.{carrying-other}
+use Rattle.demands.specs.SpansOneByOne.{aloneSpan, alone-span, ownSpan}
 use Rattle.demands.specs.WireFields.{coreData}
 use Rattle.demands.specs.DataBlock.{marked-block}
 use Rattle.demands.specs.CorePairCalls.{marked-part}
@@ -65,12 +66,12 @@ same-block ends-write h m is =
 -- ---- of readings
 
 -- a block of a reading is a block of the table, behind the header, and as long as its bytes say
-record Stands (s : List ℕ) (x : Span) : Type 0 where
-  is-block : IsBlock s (x .place) (x .command)
-  so-long : x .size ≡ blockSize s (x .place)
-  behind : 32 ≤ x .place
+pub record Stands (s : List ℕ) (x : Span) : Type 0 where
+  pub is-block : IsBlock s (x .place) (x .command)
+  pub so-long : x .size ≡ blockSize s (x .place)
+  pub behind : 32 ≤ x .place
 
-stands-in : {s : List ℕ} {command at : ℕ} {spans : List Span} → ReadingFrom s command at spans → 32 ≤ at → (x : Span) → In x spans → Stands s x
+pub stands-in : {s : List ℕ} {command at : ℕ} {spans : List Span} → ReadingFrom s command at spans → 32 ≤ at → (x : Span) → In x spans → Stands s x
 unfolding spanAt
 stands-in (plain-end h p) low x (first e) = rw e (record { is-block = h; so-long = refl; behind = low })
 stands-in (andx-end h a f) low x (first e) = rw e (record { is-block = h; so-long = refl; behind = low })
@@ -79,11 +80,17 @@ stands-in (andx-next h m g r) low x (later i) = stands-in r (omega arith) x i
 
 -- "each block in turn makes a message .., then the block at 32": of a core READ or WRITE, alone or behind a LOCKING
 pub core-sent : (s : List ℕ) {spans : List Span} → Reading s spans → length s ≤ 8192 → (x : Span) → In x spans → EndsChain (x .command)
-    → SameBlock s (x .place) (aloneSpan s x) (x .command)
-unfolding spanOf
-core-sent s r small x i ends =
+    → (just : ℕ) → SameBlock s (x .place) (ownSpan s just x) (x .command)
+unfolding spanOf ownSpan
+core-sent s r small x i ends just =
     let b : Block = record { command = x .command; at = x .place; length = x .size; body = Logoff; next = End } in
     let w = stands-in r (omega arith) x i in
     let inside = block-inside (w .is-block) in
     let low = w .behind in
-    rw (← alone-span s b) (same-block ends (w .is-block) (alone-moved b (w .is-block) (w .so-long) low small) (alone-command s b (omega arith)))
+    let sent : SameBlock s (x .place) (aloneSpan s x) (x .command) =
+    rw (← alone-span s b) (same-block ends (w .is-block) (alone-moved b (w .is-block) (w .so-long) low small) (alone-command s b (omega arith))) in
+    rw (carrying-other just (aloneSpan s x) (λ e. not-read ends (sym (sent .is) ∙ e))) sent
+  where
+    not-read : {n : ℕ} → EndsChain n → n ≡ READ → ⊥
+    not-read ends-read e = omega arith
+    not-read ends-write e = omega arith

@@ -28,6 +28,7 @@ use Rattle.invariants.specs.BlockTests.{fits, fits-complete}
 use Rattle.invariants.specs.BlockParse.{bodyAt, blockAt, Linked, link-plain, link-end, link-next}
 use Rattle.invariants.specs.Chained.{chained-end, chained-more, chained-read}
 use Rattle.invariants.specs.Fit.{Fit, fit-answered}
+use Rattle.invariants.specs.JustOpenedLaws.{run-first}
 use Rattle.readings.specs.MovedBytes.{part, areaAt}
 use Rattle.claims.specs.StreamKept.{Bytes}
 use Rattle.message.specs.declared.caller.Caller.{Caller}
@@ -36,6 +37,7 @@ use Rattle.message.specs.Refusal.{status}
 use Rattle.message.specs.declared.refusal.Status.{Status}
 use Rattle.message.specs.declared.link.Link.the-variants.{None as noLink, Next as next}
 use Rattle.message.specs.Command.{Said, locked, Given, doLocking, perform}
+use Rattle.message.specs.JustOpened.{NOBODY, openedBy, bodyMeant}
 use Rattle.message.specs.Reply.{replyHeader, replyBlock, refusedBlock, replySize}
 use Rattle.message.specs.Message.{areaOf, dataOf, Ran, after, linkTo, afterGiven, run, answered, replyOf, Taken, replied, take-message}
 use Rattle.demands.specs.Malformed.{length-area}
@@ -175,7 +177,7 @@ record RunsAlike (Blocks : Status → List ℕ → List ℕ → Type 0) (one oth
 
 -- of the last command of each
 last-alike : {g h : Given} → Alike g h → (c d : Caller) (s t : List ℕ) (place : ℕ) (u : Tables) (memory : List ℕ)
-    → RunsAlike (BlocksAlike place) (afterGiven g [] place u memory (λ p v m. run c s [] p v m)) (afterGiven h [] place u memory (λ p v m. run d t [] p v m))
+    → RunsAlike (BlocksAlike place) (afterGiven g [] place u memory (λ j p v m. run c s j [] p v m)) (afterGiven h [] place u memory (λ j p v m. run d t j [] p v m))
 unfolding afterGiven after run linkTo
 last-alike (refused-alike why) c d s t place u memory =
     record { same-status = refl; same-holder = refl; same-tables = refl; same-memory = refl; blocks-alike = refused-blocks (refusal-not-zero why) }
@@ -237,7 +239,12 @@ core-calls connection s t {core} {other} equal b is is′ sender r q u memory ro
     (perform (callerOf connection t) u memory (o .block .body) (areaOf t (o .block)) (dataOf t (o .block))) =
     rw (← sender, first-body p core is, first-area p, first-body o other is′, first-area o, first-data o) (pair-alike pair u memory (dataOf s (p .block))) in
     calls-alike connection s t u memory room f g
-    (rw (sentence-answered connection s u memory (p .block ∷ []) (p .is-read), sentence-answered connection t u memory (o .block ∷ []) (o .is-read))
+    (rw (
+      sentence-answered connection s u memory (p .block ∷ []) (p .is-read),
+      sentence-answered connection t u memory (o .block ∷ []) (o .is-read),
+      run-first c s (p .block) [] FIRST u memory,
+      run-first (callerOf connection t) t (o .block) [] FIRST u memory,
+    )
     (last-alike alike c (callerOf connection t) s t FIRST u memory))
 
 -- ---- behind a LOCKING: "READ and WRITE may end a chain after LOCKING_ANDX"
@@ -281,10 +288,10 @@ two-blocks {x = x} (andx-next {rest = rest} h m g r) e =
     record { second = reading-block r; is-read = chained-read (chained-more h (link-next m g) (chained-end (reading-block r) (last-block r z))) }
 
 -- a LOCKING in front of two chains that are alike
-locking-before : {g : Given} → LockingSays g → (b d : Block) (u : Tables) (memory : List ℕ) (one other : ℕ → Tables → List ℕ → Ran)
-    → ((place : ℕ) (v : Tables) (m : List ℕ) → RunsAlike (BlocksAlike place) (one place v m) (other place v m))
+locking-before : {g : Given} → LockingSays g → (b d : Block) (u : Tables) (memory : List ℕ) (one other : ℕ → ℕ → Tables → List ℕ → Ran)
+    → ((place : ℕ) (v : Tables) (m : List ℕ) → RunsAlike (BlocksAlike place) (one NOBODY place v m) (other NOBODY place v m))
     → RunsAlike (ChainsAlike (b .command) (d .command)) (afterGiven g (b ∷ []) FIRST u memory one) (afterGiven g (d ∷ []) FIRST u memory other)
-unfolding afterGiven after linkTo replySize
+unfolding afterGiven after linkTo replySize openedBy
 locking-before (locking-refused {why}) b d u memory one other alike =
     record { same-status = refl; same-holder = refl; same-tables = refl; same-memory = refl; blocks-alike = locking-refused-alike (refusal-not-zero why) }
 locking-before (locking-done {t = v} {memory = m}) b d u memory one other alike =
@@ -299,9 +306,9 @@ locking-before (locking-done {t = v} {memory = m}) b d u memory one other alike 
 
 -- the chain of a LOCKING and one command behind it
 chain-run : (c : Caller) (s : List ℕ) → headerCommand s ≡ LOCKING → (nx : Next) (b : Block) (u : Tables) (memory : List ℕ)
-    → run c s (blockAt s (headerCommand s) FIRST nx ∷ b ∷ []) FIRST u memory
-    ≡ afterGiven (doLocking c u memory (lockingFields s) (areaAt s FIRST)) (b ∷ []) FIRST u memory (λ p v m. run c s (b ∷ []) p v m)
-unfolding run blockAt areaOf bodyAt perform
+    → run c s NOBODY (blockAt s (headerCommand s) FIRST nx ∷ b ∷ []) FIRST u memory
+    ≡ afterGiven (doLocking c u memory (lockingFields s) (areaAt s FIRST)) (b ∷ []) FIRST u memory (λ j p v m. run c s j (b ∷ []) p v m)
+unfolding run blockAt areaOf bodyAt bodyMeant perform
 chain-run c s e nx b u memory = rw e
 
 -- a message that is a LOCKING and a core READ or WRITE, and one that is the same LOCKING and its counterpart
@@ -320,8 +327,8 @@ chain-calls connection s t same {core} {other} is is′ equal sender r q u memor
     let lock : doLocking c u memory (lockingFields s) (areaAt s FIRST) ≡ doLocking d u memory (lockingFields t) (areaAt t FIRST) =
     rw (sender, same .same-fid, same .same-type, same .same-unlocks, same .same-locks, same .same-ranges) in
     let pair = read-write-pair equal (rw is at (a .second)) c in
-    let behind : (place : ℕ) (v : Tables) (m : List ℕ) → RunsAlike (BlocksAlike place) (run c s (one ∷ []) place v m) (run d t (two ∷ []) place v m) =
-    λ place v m. last-alike (rw (is, is′, ← sender) (pair-alike pair v m _)) c d s t place v m in
+    let behind : (place : ℕ) (v : Tables) (m : List ℕ) → RunsAlike (BlocksAlike place) (run c s NOBODY (one ∷ []) place v m) (run d t NOBODY (two ∷ []) place v m) =
+    λ place v m. rw (run-first c s one [] place v m, run-first d t two [] place v m) (last-alike (rw (is, is′, ← sender) (pair-alike pair v m _)) c d s t place v m) in
     calls-alike connection s t u memory room f g
     (rw (
       sentence-answered connection s u memory _ (a .is-read),
@@ -332,4 +339,4 @@ chain-calls connection s t same {core} {other} is is′ equal sender r q u memor
       ← is,
       ← is′,
     )
-    (locking-before (locking-says d u memory (lockingFields t) (areaAt t FIRST)) one two u memory (run c s (one ∷ [])) (run d t (two ∷ [])) behind))
+    (locking-before (locking-says d u memory (lockingFields t) (areaAt t FIRST)) one two u memory (λ j p v m. run c s j (one ∷ []) p v m) (λ j p v m. run d t j (two ∷ []) p v m) behind))

@@ -24,9 +24,10 @@ use Rattle.message.specs.Refusal.{status, statusOf}
 use Rattle.message.specs.declared.refusal.Status.{Status}
 use Rattle.message.specs.declared.refusal.HeldBy.the-variants.{Nobody}
 use Rattle.message.specs.declared.refusal.Refusal.{Refusal}
-use Rattle.message.specs.declared.refusal.Refusal.the-variants.{NotServed, NotSentence, NoSession, NoTree, NoOpen, NoAccess, LockType, NoSuchLock, PassesEnd, Conflict, NoRecord, NoSpace}
+use Rattle.message.specs.declared.refusal.Refusal.the-variants.{NotServed, NotSentence, NoSession, NoTree, NoOpen, NoAccess, LockType, NoSuchLock, PassesEnd, Conflict, NoRecord, NoSpace, OpenMode, BadAccess, NoSuchFile, BadShare, NoFids}
 use Rattle.message.specs.declared.link.Link.the-variants.{None as noLink}
 use Rattle.message.specs.Command.{Said, Given, refused, done, withSession, withTree, withOpen}
+use Rattle.message.specs.JustOpened.{NOBODY}
 use Rattle.message.specs.Reply.{replyHeader, replyBlock, replySize}
 use Rattle.message.specs.Message.{after, linkTo, afterGiven, run, Taken, replyOf, replied, take-message}
 use Rattle.invariants.specs.ReplySize.{length-header, length-block}
@@ -53,6 +54,11 @@ code-some PassesEnd = omega arith
 code-some (Conflict place) = omega arith
 code-some NoRecord = omega arith
 code-some NoSpace = omega arith
+code-some OpenMode = omega arith
+code-some BadAccess = omega arith
+code-some NoSuchFile = omega arith
+code-some BadShare = omega arith
+code-some NoFids = omega arith
 
 coded-not-done : {P : Type 0} (n : Status) → 1 ≤ n .code → n ≡ status 0 0 → P
 unfolding status
@@ -65,20 +71,20 @@ long-enough s e = let n : 35 ≤ length s = not-short s e in omega arith
 -- the one command of the message was done, and what it left and said is what the call left and wrote
 pub record Carried (c : Caller) (s : List ℕ) (b : Block) (t : Tables) (memory room : List ℕ) (call : Taken) : Type 0 where
   pub said : Said
-  pub given : gives c s b t memory ≡ done (call .tables) (call .memory) said
+  pub given : gives c s NOBODY b t memory ≡ done (call .tables) (call .memory) said
   pub reply : call .room ≡ put room 0 (replyHeader s (status 0 0) ++ replyBlock said FIRST noLink)
   pub reply-length : call .length ≡ 32 + replySize said
   pub nobody-holds : call .holder ≡ Nobody
 
 -- commands of which the one was done
-run-one : (c : Caller) (s : List ℕ) (b : Block) (t : Tables) (memory : List ℕ) {u : Tables} {m : List ℕ} {said : Said} → gives c s b t memory ≡ done u m said
-    → run c s (b ∷ []) FIRST t memory ≡ record { status = status 0 0; holder = Nobody; tables = u; memory = m; blocks = replyBlock said FIRST noLink }
+run-one : (c : Caller) (s : List ℕ) (b : Block) (t : Tables) (memory : List ℕ) {u : Tables} {m : List ℕ} {said : Said} → gives c s NOBODY b t memory ≡ done u m said
+    → run c s NOBODY (b ∷ []) FIRST t memory ≡ record { status = status 0 0; holder = Nobody; tables = u; memory = m; blocks = replyBlock said FIRST noLink }
 unfolding run afterGiven after linkTo
 run-one c s b t memory {u} {m} {said} e =
     rw e (ap (λ (l : List ℕ). record { status = status 0 0; holder = Nobody; tables = u; memory = m; blocks = l }) (append-nil (replyBlock said FIRST noLink)))
 
 module _ (connection : ℕ) (s : List ℕ) (b : Block) (e : blocks s ≡ some (b ∷ [])) (t : Tables) (memory room : List ℕ) (fit : Fit s t memory room) where
-  carried-by : (g : Given) → gives (callerOf connection s) s b t memory ≡ g → statusRead (take-message connection s t memory room .room) ≡ status 0 0
+  carried-by : (g : Given) → gives (callerOf connection s) s NOBODY b t memory ≡ g → statusRead (take-message connection s t memory room .room) ≡ status 0 0
       → Carried (callerOf connection s) s b t memory room (take-message connection s t memory room)
   unfolding replied replyOf
   carried-by (refused why) g z =
@@ -101,7 +107,7 @@ module _ (connection : ℕ) (s : List ℕ) (b : Block) (e : blocks s ≡ some (b
   -- Status 0/0 says that it was
   pub carried : statusRead (take-message connection s t memory room .room) ≡ status 0 0
       → Carried (callerOf connection s) s b t memory room (take-message connection s t memory room)
-  carried = carried-by (gives (callerOf connection s) s b t memory) refl
+  carried = carried-by (gives (callerOf connection s) s NOBODY b t memory) refl
 
 -- ---- from a command that is done to what it asked
 

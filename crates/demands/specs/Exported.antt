@@ -6,26 +6,27 @@ use mathlib.Core.Logic.{_⊎_, ⊎-elim}
 use Prim.Native.Nat.{ℕ, _<_, _≤_}
 use native.Mathlib.Omega.{arith}
 use native.Mathlib.Decide.{ℕ-discrete}
-use mathlib.Core.Bool.{true, false}
+use mathlib.Core.Bool.{true, false, _&&_}
 use mathlib.Core.List.{List, [], _∷_}
 use lib.ListN.{length}
 use lib.Dec.{eqb}
 use borrow.Author.Tests.{eqb-true, eq-eqb}
-use Rattle.lists.specs.Truth.{decided, both-hold}
+use Rattle.lists.specs.Truth.{decided, both-hold, hold-both, fails, not-decided-twice}
 use Rattle.host.specs.declared.answer.Returned.{Returned}
-use Rattle.host.specs.HostCall.{refused, done, addSession, addTree, addOpen, loadFile, loadMemory, dropConnection}
+use Rattle.soundness.specs.Sound.{sound}
+use Rattle.host.specs.HostCall.{refused, done, addSession, addTree, addOpen, loadFile, loadMemory, dropConnection, setCatalogue}
 use Rattle.locks.specs.declared.types.Holder.{Holder}
 use Rattle.message.specs.declared.refusal.HeldBy.{HeldBy}
 use Rattle.message.specs.declared.refusal.HeldBy.the-variants.{Nobody, Holder as held-by}
 use Rattle.message.specs.Message.{Taken, notTaken, take-message}
 use Rattle.invariants.specs.GivenCases.{cond-case}
 use Rattle.invariants.specs.HostCases.{loadFile-either, dropConnection-either}
-use Rattle.tables.specs.Words.{inUseFit, tablesOf}
-use Rattle.boundary.specs.Boundary.{ready, ForNext, numberOf, isDone, idAfter, sessionAdded, treeAdded, openAdded, connectionDropped, fileLoaded, loadNumberOf, memoryAfter, wrongRoom, messageTaken, lengthAfter, holderWords, holderAfter}
-use Rattle.boundary.specs.BoundaryLaws.{words-shaped, wrong-number, wrong-memory, unfit-memory, fit-memory}
+use Rattle.tables.specs.Words.{word, nameArray, nameLimits, tableFits, inUseFit, tablesOf}
+use Rattle.boundary.specs.Boundary.{ready, ForNext, numberOf, isDone, idAfter, sessionAdded, treeAdded, openAdded, connectionDropped, fileLoaded, loadNumberOf, memoryAfter, catalogueSet, wrongRoom, messageTaken, lengthAfter, holderWords, holderAfter}
+use Rattle.boundary.specs.BoundaryLaws.{words-shaped, wrong-number, wrong-memory, unfit-memory, fit-memory, set-core, set-unsound, set-no-bytes, set-done-fits, set-no-number}
 use Rattle.boundary.specs.MessageLaws.{room-short, memory-wrong, room-right, row-room, message-fit, message-unfit, length-stands, length-given, holder-stands, holder-given}
 use Rattle.claims.specs.HostAnswer.{loadMemory-refused}
-use Rattle.claims.specs.HostFrames.{SessionAdded, TreeAdded, OpenAdded, FileLoaded, ConnectionDropped, addSession-frame, addTree-frame, addOpen-frame, loadFile-frame, dropConnection-frame}
+use Rattle.claims.specs.HostFrames.{SessionAdded, TreeAdded, OpenAdded, FileLoaded, ConnectionDropped, CatalogueSet, addSession-frame, addTree-frame, addOpen-frame, loadFile-frame, dropConnection-frame, setCatalogue-frame}
 use Rattle.demands.specs.RoomKept.{refused-writes-nothing}
 
 -- ---- the plain words
@@ -56,6 +57,16 @@ pub record LoadSeen (w : List ℕ) (file : ℕ) (contents memory : List ℕ) (r 
   pub same : r ≡ 0 → readOff r 0 out ≡ loadFile (tablesOf w) file contents memory
   pub left : r ≡ 0 → FileLoaded (tablesOf w) file contents memory (readOff r 0 out) after
   pub kept : (r ≡ 0 → ⊥) → (out ≡ w) × (after ≡ memory)
+  pub again : ready w ≡ true → ready out ≡ true
+
+-- the catalogue (document 02, CR 6): the 225 words given hold its names, where each word of a name in use is a byte
+pub record CatalogueSeen (w given : List ℕ) (r : ℕ) (out : List ℕ) : Type 0 where
+  pub not-sound : ready w ≡ false → r ≡ 4
+  pub no-bytes : ready w ≡ true → tableFits nameLimits 16 given ≡ false → r ≡ 7
+  pub number : inUseFit w ≡ true → tableFits nameLimits 16 given ≡ true → r ≡ setCatalogue (tablesOf w) (nameArray given) (word given 0) .number
+  pub same : r ≡ 0 → readOff r 0 out ≡ setCatalogue (tablesOf w) (nameArray given) (word given 0)
+  pub left : r ≡ 0 → CatalogueSet (tablesOf w) (nameArray given) (word given 0) (readOff r 0 out)
+  pub kept : (r ≡ 0 → ⊥) → out ≡ w
   pub again : ready w ≡ true → ready out ≡ true
 
 -- what the host reads off after a message, with the holder h
@@ -213,6 +224,53 @@ module _ (w : List ℕ) (r : ℕ) (out : List ℕ) where
           same = λ z. of-any (done-whole z) .same z;
           left = λ z. rw (done-bytes z) (of-any (done-whole z) .left z);
           kept = λ n. (next .kept n, refused-bytes n);
+          again = next .again;
+        }
+
+  -- `gateway_set_catalogue`
+  module _ (given : List ℕ) (number : r ≡ numberOf w (catalogueSet w given)) (next : ForNext w out r (catalogueSet w given .tables)) where
+    set-given : 0 ≡ idAfter 0 w (catalogueSet w given)
+    unfolding idAfter
+    set-given = cond-case (λ k. 0 ≡ k) (isDone w (catalogueSet w given)) _ 0 (λ _. sym (set-no-number w given)) (λ _. refl)
+
+    set-not-sound : ready w ≡ false → r ≡ 4
+    unfolding ready refused
+    set-not-sound e =
+        ⊎-elim
+        (λ f.
+        number-fit w 0 (catalogueSet w given) r out 0 number set-given next f
+        ∙ ap (λ (a : Returned). a .number) (set-unsound w given (fails (sound (tablesOf w)) (λ s. not-decided-twice (inUseFit w && sound (tablesOf w)) (hold-both (inUseFit w) (sound (tablesOf w)) f s) e))))
+        (number-unfit w 0 (catalogueSet w given) r out 0 number set-given next)
+        (decided (inUseFit w))
+
+    set-no-byte : ready w ≡ true → tableFits nameLimits 16 given ≡ false → r ≡ 7
+    unfolding ready refused
+    set-no-byte h f =
+        let b = both-hold (inUseFit w) (sound (tablesOf w)) h in
+        number-fit w 0 (catalogueSet w given) r out 0 number set-given next (b .0) ∙ ap (λ (a : Returned). a .number) (set-no-bytes w given (b .1) f)
+
+    set-number : inUseFit w ≡ true → tableFits nameLimits 16 given ≡ true → r ≡ setCatalogue (tablesOf w) (nameArray given) (word given 0) .number
+    set-number e f =
+        number-fit w 0 (catalogueSet w given) r out 0 number set-given next e ∙ ap (λ (a : Returned). a .number) (set-core w given f)
+
+    -- done, the core's own
+    set-is-core : r ≡ 0 → catalogueSet w given ≡ setCatalogue (tablesOf w) (nameArray given) (word given 0)
+    set-is-core z =
+        set-core w given (set-done-fits w given (sym (number-fit w 0 (catalogueSet w given) r out 0 number set-given next (done-fits w 0 (catalogueSet w given) r out 0 number set-given next z)) ∙ z))
+
+    set-same : r ≡ 0 → readOff r 0 out ≡ setCatalogue (tablesOf w) (nameArray given) (word given 0)
+    set-same z = is-core w 0 (catalogueSet w given) r out 0 number set-given next z ∙ set-is-core z
+
+    pub catalogue-seen : CatalogueSeen w given r out
+    catalogue-seen =
+        record {
+          not-sound = set-not-sound;
+          no-bytes = set-no-byte;
+          number = set-number;
+          same = set-same;
+          left = λ z.
+              rw (set-same z) (setCatalogue-frame (tablesOf w) (nameArray given) (word given 0) (ap (λ (a : Returned). a .number) (sym (set-same z)) ∙ z));
+          kept = next .kept;
           again = next .again;
         }
 

@@ -18,9 +18,10 @@ use Rattle.records.specs.Empty.{noOpen}
 use Rattle.records.specs.Held.{opensOf, withFiles}
 use Rattle.locks.specs.declared.types.Ask.{Ask}
 use Rattle.claims.specs.SoundPlain.{sound-plain}
+use Rattle.claims.specs.RemovalPlain.{CatalogueStands}
 use Rattle.chain.specs.Layout.{WRITE, CORE-WRITE, wordCount, blockEnd, fidAfterAndx, offsetLow, writeOffsetHigh, dataLength, dataOffset, firstFid, coreCount, coreOffset, markedData}
 use Rattle.chain.specs.Parse.{wideOffset}
-use Rattle.chain.specs.Grammar.{IsBlock, Data, locking-10, locking-20, read-10, read-12, write-12, write-14, close, logoff, tree-disconnect, process-exit, core-read, core-write, lock-byte-range, unlock-byte-range}
+use Rattle.chain.specs.Grammar.{IsBlock, Data, locking-10, locking-20, read-10, read-12, write-12, write-14, close, logoff, tree-disconnect, process-exit, core-read, core-write, lock-byte-range, unlock-byte-range, open-15}
 use Rattle.chain.specs.declared.block.Body.the-variants.{Write as WriteBody, CoreWrite as CoreWriteBody}
 use Rattle.chain.specs.declared.block.Next.{Next}
 use Rattle.chain.specs.declared.block.ReadFields.{ReadFields}
@@ -44,12 +45,18 @@ pub record Yields (file z offset most : ℕ) (memory bytes : List ℕ) : Type 0 
   pub which : (i : ℕ) → i < length bytes → getD bytes i 0 ≡ getD memory (file * 4096 + offset + i) 0
 
 -- the tables and the file memory after a write of some bytes: "Bytes between the old size and the write become 0, and a size below the write's end becomes that
--- end"; every other size and every other table as before
+-- end"; every other size and every other table, the catalogue among them, as before
 pub record WroteFile (t after : Tables) (file offset : ℕ) (bytes memory left : List ℕ) : Type 0 where
   pub bytes-left : Wrote file (sizeOf t file) offset bytes memory left
   pub size : sizeOf after file ≡ max (sizeOf t file) (offset + length bytes)
   pub other-sizes : (i : ℕ) → (i ≡ file → ⊥) → sizeOf after i ≡ sizeOf t i
   pub other-tables : after ≡ withFiles t (after .files)
+  pub catalogue : CatalogueStands t after
+
+-- tables that differ in file sizes alone have the same catalogue
+pub catalogue-kept : (t after : Tables) → after ≡ withFiles t (after .files) → CatalogueStands t after
+unfolding withFiles
+catalogue-kept t after e = (ap (λ (x : Tables). x .nnames) e, ap (λ (x : Tables). x .names) e)
 
 -- a command that is done was not refused on the way
 never : {P : Type 0} → _≡_ {A = ℕ} 0 1 → P
@@ -129,6 +136,7 @@ module _ (c : Caller) (t : Tables) (memory : List ℕ) (full : length memory ≡
         size = resized-size t (o .file) (f .offset) (f .count) some-bytes (g .shaped) low ∙ ap (λ (k : ℕ). max (sizeOf t (o .file)) (f .offset + k)) (sym n);
         other-sizes = resized-others t (o .file) (f .offset) (f .count) some-bytes;
         other-tables = resized-records t (o .file) (f .offset) (f .count) some-bytes;
+        catalogue = catalogue-kept t _ (resized-records t (o .file) (f .offset) (f .count) some-bytes);
       })
 
   -- "Length 0 writes nothing, changes no size"; what it says is `write-says`
@@ -236,6 +244,7 @@ data-counted (core-read h) next f same = never cc
 data-counted (core-write h) next f same = never cc
 data-counted (lock-byte-range h) next f same = never cc
 data-counted (unlock-byte-range h) next f same = never cc
+data-counted (open-15 h) next f same = never cc
 
 -- the fields of a core WRITE block
 abbrev coreWriteFields : List ℕ → ℕ → WriteFields
@@ -265,3 +274,4 @@ core-counted {s} {at} (core-write h) next f same =
     length-drop 3 (areaOf s (blockAt s CORE-WRITE at next)) ∙ n ∙ ap (λ (x : WriteFields). x .count) z
 core-counted (lock-byte-range h) next f same = never cc
 core-counted (unlock-byte-range h) next f same = never cc
+core-counted (open-15 h) next f same = never cc

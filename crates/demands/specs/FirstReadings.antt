@@ -2,7 +2,7 @@
 -- call and of the message's bytes: of any reading for the first command, and of a reading of one block for every status. Assumes nothing.
 use mathlib.Core.Path.{_≡_}
 use mathlib.Core.Logic.{_↔_, Iff·trans}
-use Prim.Native.Nat.{ℕ, _%_}
+use Prim.Native.Nat.{ℕ, _/_, _%_}
 use mathlib.Core.Bool.{false}
 use mathlib.Core.List.{List, [], _∷_}
 use lib.ListN.{getD, drop}
@@ -12,27 +12,29 @@ use Rattle.records.specs.declared.Open.{Open}
 use Rattle.records.specs.declared.Tables.{Tables}
 use Rattle.records.specs.Empty.{noOpen}
 use Rattle.records.specs.Held.{opensOf, locksOf}
-use Rattle.chain.specs.Layout.{CLOSE, PROCESS_EXIT, LOCKING, READ, WRITE, TREE_DISCONNECT, LOGOFF, CORE-READ, CORE-WRITE, LOCK_BYTE_RANGE, UNLOCK_BYTE_RANGE, headerCommand, FIRST, fidAfterAndx, readMax, dataLength, firstFid, coreCount, coreOffset, rangeLength, rangeOffset}
+use Rattle.chain.specs.Layout.{CLOSE, PROCESS_EXIT, LOCKING, READ, WRITE, TREE_DISCONNECT, LOGOFF, CORE-READ, CORE-WRITE, LOCK_BYTE_RANGE, UNLOCK_BYTE_RANGE, OPEN, headerCommand, FIRST, fidAfterAndx, readMax, dataLength, firstFid, coreCount, coreOffset, rangeLength, rangeOffset, accessMode}
 use Rattle.chain.specs.Grammar.{Span, Reading}
-use Rattle.chain.specs.Parse.{wideOffset, rangeFields}
+use Rattle.chain.specs.Parse.{wideOffset, rangeFields, openFields}
 use Rattle.chain.specs.declared.block.Body.{Body}
-use Rattle.chain.specs.declared.block.Body.the-variants.{Locking as LockingBody, Read as ReadBody, Write as WriteBody, Close, Logoff, TreeDisconnect, ProcessExit, CoreRead as CoreReadBody, CoreWrite as CoreWriteBody, LockByteRange, UnlockByteRange}
+use Rattle.chain.specs.declared.block.Body.the-variants.{Locking as LockingBody, Read as ReadBody, Write as WriteBody, Close, Logoff, TreeDisconnect, ProcessExit, CoreRead as CoreReadBody, CoreWrite as CoreWriteBody, LockByteRange, UnlockByteRange, Open as OpenBody}
 use Rattle.invariants.specs.BlockParse.{bodyAt}
 use Rattle.invariants.specs.Fit.{Fit}
 use Rattle.message.specs.Caller.{callerOf}
 use Rattle.message.specs.Refusal.{status}
 use Rattle.message.specs.declared.refusal.Status.{Status}
 use Rattle.message.specs.declared.caller.Caller.{Caller}
-use Rattle.message.specs.Command.{doRead, doWrite, doCoreWrite, perform}
+use Rattle.message.specs.Command.{doRead, doWrite, doCoreWrite, nameAsked, perform}
 use Rattle.message.specs.Message.{areaOf, dataOf, take-message}
 use Rattle.demands.specs.Calls.{statusRead}
 use Rattle.demands.specs.LoneLock.{Conflicts, May, InWay, Owner, lowerSize, sizesApart, AnyLock, read-conflict, write-conflict, size-conflict, core-conflict, range-conflict}
 use Rattle.demands.specs.LoneCall.{FirstConflict, first-conflict, first-read-call, first-write-call, one-says, lockingFields, lockingArea}
 use Rattle.demands.specs.Admitted.{Admitted, admitted-may}
 use Rattle.demands.specs.CoreReasons.{LockStatus, UnlockStatus}
+use Rattle.demands.specs.OpenReasons.{OpenPermitted, OpenStatus, open-shared, opening-given, shared-exact}
+use Rattle.demands.specs.Sharing.{KeptOut}
 use Rattle.demands.specs.CommandReasons.{SessionStatus, TreeStatus, CloseStatus, ReadStatus, WriteStatus, CoreWriteStatus, LockingStatus, Reason}
 use Rattle.demands.specs.ReasonCalls.{call-exact}
-use Rattle.demands.specs.WireFields.{senderProcess, readFrom, readFields, writeFrom, writeFields, coreReadFields, coreWriteFields, FirstBlock, reading-first, one-first, first-body, first-area}
+use Rattle.demands.specs.WireFields.{senderProcess, readFrom, readFields, writeFrom, writeFields, coreReadFields, coreWriteFields, openName, FirstBlock, reading-first, one-first, first-body, first-area, first-name}
 
 -- "an exclusive lock of another owner overlaps offset and max": the owner is the message's FID with its sender's process
 abbrev pub BarsReadOn : List ℕ → Tables → Open → Type 0
@@ -211,3 +213,22 @@ module _ (connection : ℕ) (s : List ℕ) {span : Span} (r : Reading s (span �
       ↔ UnlockStatus (callerOf connection s) t (rangeFields s FIRST) n
   unfolding bodyAt Reason
   unlock-exact e n = reason-of (UnlockByteRange (rangeFields s FIRST)) (first-body only UNLOCK_BYTE_RANGE e) n
+
+  -- OPEN_ANDX (document 02, CR 6)
+  pub open-exact : headerCommand s ≡ OPEN → (n : Status) → (statusRead (take-message connection s t memory room .room) ≡ n)
+      ↔ OpenStatus (callerOf connection s) t (openFields s FIRST) (openName s) n
+  unfolding bodyAt Reason
+  open-exact e n =
+      let name : nameAsked (lockingArea s) ≡ openName s = rw (first-area only) at (first-name only) in
+      rw name at (reason-of (OpenBody (openFields s FIRST)) (first-body only OPEN e) n)
+
+  -- "An open fails if it asks what another open of the file denies or denies what one has": one that passes the tests before is answered 1/32 exactly if it does
+  pub open-shared-exact : headerCommand s ≡ OPEN → {file : ℕ} → OpenPermitted (callerOf connection s) t (openFields s FIRST) (openName s) file
+      → (statusRead (take-message connection s t memory room .room) ≡ status 1 32) ↔ KeptOut t file (accessMode s FIRST % 8) (accessMode s FIRST / 16 % 8)
+  open-shared-exact e p =
+      let exact = open-exact e (status 1 32) in
+      let ok = fit .tables-sound in (
+        λ h. shared-exact (callerOf connection s) t memory ok (openFields s FIRST) (openName s) p .0
+            (opening-given (callerOf connection s) t memory ok (openFields s FIRST) (openName s) (exact .0 h)),
+        λ k. exact .1 (open-shared p k),
+      )

@@ -25,6 +25,7 @@ use Rattle.invariants.specs.Chained.{Chained, chained-end, chained-more, read-c
 use Rattle.message.specs.Caller.{callerOf}
 use Rattle.message.specs.declared.caller.Caller.{Caller}
 use Rattle.message.specs.Command.{Given, refused, done, perform}
+use Rattle.message.specs.JustOpened.{NOBODY, bodyMeant}
 use Rattle.message.specs.Reply.{replyHeader}
 use Rattle.message.specs.Message.{areaOf, dataOf, Ran, after, afterGiven, run, runChain, answered, replyOf}
 use Rattle.demands.specs.PerformMoved.{perform-bytes}
@@ -62,29 +63,29 @@ module _ (s t : List ℕ) (header : take 32 t ≡ take 32 s) where
 
 -- ---- equal blocks
 
--- a block that is alike does the same
-alike-same : {s t : List ℕ} {command at : ℕ} (c : Caller) (u : Tables) (memory : List ℕ) (next : Next) → IsBlock s at command → Alike s t (spanAt s command at)
-    → perform c u memory (bodyAt s command at) (areaOf t (blockAt s command at next)) (dataOf t (blockAt s command at next))
-    ≡ perform c u memory (bodyAt s command at) (areaOf s (blockAt s command at next)) (dataOf s (blockAt s command at next))
+-- a block that is alike does the same, whatever FID 0xFFFF means in it
+alike-same : {s t : List ℕ} {command at : ℕ} (c : Caller) (u : Tables) (memory : List ℕ) (just : ℕ) (next : Next) → IsBlock s at command → Alike s t (spanAt s command at)
+    → perform c u memory (bodyMeant just (bodyAt s command at)) (areaOf t (blockAt s command at next)) (dataOf t (blockAt s command at next))
+    ≡ perform c u memory (bodyMeant just (bodyAt s command at)) (areaOf s (blockAt s command at next)) (dataOf s (blockAt s command at next))
 unfolding areaOf dataOf blockAt
-alike-same c u memory next h alike = perform-bytes c u memory h (unmoved h alike)
+alike-same c u memory just next h alike = perform-bytes c u memory h (unmoved h alike) just
 
 -- what follows is the same: so is the whole
-after-same : (g : Given) (bs : List Block) (place : ℕ) (t : Tables) (memory : List ℕ) (f h : ℕ → Tables → List ℕ → Ran)
-    → ((p : ℕ) (u : Tables) (m : List ℕ) → f p u m ≡ h p u m) → afterGiven g bs place t memory f ≡ afterGiven g bs place t memory h
+after-same : (g : Given) (bs : List Block) (place : ℕ) (t : Tables) (memory : List ℕ) (f h : ℕ → ℕ → Tables → List ℕ → Ran)
+    → ((j p : ℕ) (u : Tables) (m : List ℕ) → f j p u m ≡ h j p u m) → afterGiven g bs place t memory f ≡ afterGiven g bs place t memory h
 unfolding afterGiven
 after-same (refused why) bs place t memory f h e = refl
-after-same (done u m said) bs place t memory f h e = ap (after _) (e _ u m)
+after-same (done u m said) bs place t memory f h e = ap (after _) (e _ _ u m)
 
 -- the blocks of a reading that are alike do the same
 run-same : {s : List ℕ} (t : List ℕ) {command at : ℕ} {bs : List Block} (c : Caller) → Chained s command at bs → AllAlike s t (map spanOf bs)
-    → (place : ℕ) (u : Tables) (memory : List ℕ) → run c t bs place u memory ≡ run c s bs place u memory
+    → (just place : ℕ) (u : Tables) (memory : List ℕ) → run c t just bs place u memory ≡ run c s just bs place u memory
 unfolding run blockAt spanOf spanAt
-run-same {s} t c (chained-end {command} {at} h l) alike place u memory =
-    ap (λ (g : Given). afterGiven g [] place u memory (λ p v m. run c s [] p v m)) (alike-same c u memory _ h (alike _ (first refl)))
-run-same {s} t c (chained-more {command} {at} {rest = rest} h l r) alike place u memory =
-    ap (λ (g : Given). afterGiven g rest place u memory (λ p v m. run c t rest p v m)) (alike-same c u memory _ h (alike _ (first refl)))
-    ∙ after-same _ rest place u memory (λ p v m. run c t rest p v m) (λ p v m. run c s rest p v m) (λ p v m. run-same t c r (λ x i. alike x (later i)) p v m)
+run-same {s} t c (chained-end {command} {at} h l) alike just place u memory =
+    ap (λ (g : Given). afterGiven g [] place u memory (λ j p v m. run c s j [] p v m)) (alike-same c u memory just _ h (alike _ (first refl)))
+run-same {s} t c (chained-more {command} {at} {rest = rest} h l r) alike just place u memory =
+    ap (λ (g : Given). afterGiven g rest place u memory (λ j p v m. run c t j rest p v m)) (alike-same c u memory just _ h (alike _ (first refl)))
+    ∙ after-same _ rest place u memory (λ j p v m. run c t j rest p v m) (λ j p v m. run c s j rest p v m) (λ j p v m. run-same t c r (λ x i. alike x (later i)) j p v m)
 
 module _ (s t : List ℕ) (header : take 32 t ≡ take 32 s) {spans : List Span} (r : Reading s spans) where
   -- the whole chain
@@ -95,7 +96,7 @@ module _ (s t : List ℕ) (header : take 32 t ≡ take 32 s) {spans : List Span}
       let e : blocks s ≡ some (a .bs) = a .answer in
       let f : blocks t ≡ blocks s = unread-blocks t (header-byte s t header 4 (omega arith)) r alike in
       let g : AllAlike s t (map spanOf (a .bs)) = rw (a .same) alike in
-      rw (f, e) (run-same t c (read-chained s (headerCommand s) FIRST (a .bs) e) g FIRST u memory)
+      rw (f, e) (run-same t c (read-chained s (headerCommand s) FIRST (a .bs) e) g NOBODY FIRST u memory)
 
   -- bytes that are not looked at change nothing of what the message leaves
   pub unread-answered : AllAlike s t spans → (connection : ℕ) (u : Tables) (memory : List ℕ) → answered connection t u memory ≡ answered connection s u memory

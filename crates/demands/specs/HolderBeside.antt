@@ -17,8 +17,9 @@ use Rattle.message.specs.declared.refusal.Status.{Status}
 use Rattle.message.specs.declared.refusal.HeldBy.{HeldBy}
 use Rattle.message.specs.declared.refusal.HeldBy.the-variants.{Nobody, Holder as held-by}
 use Rattle.message.specs.declared.refusal.Refusal.{Refusal}
-use Rattle.message.specs.declared.refusal.Refusal.the-variants.{NotServed, NotSentence, NoSession, NoTree, NoOpen, NoAccess, LockType, NoSuchLock, PassesEnd, Conflict, NoRecord, NoSpace}
+use Rattle.message.specs.declared.refusal.Refusal.the-variants.{NotServed, NotSentence, NoSession, NoTree, NoOpen, NoAccess, LockType, NoSuchLock, PassesEnd, Conflict, NoRecord, NoSpace, OpenMode, BadAccess, NoSuchFile, BadShare, NoFids}
 use Rattle.message.specs.Command.{Given, refused, done, perform}
+use Rattle.message.specs.JustOpened.{NOBODY, openedBy, bodyMeant}
 use Rattle.message.specs.Reply.{replySize}
 use Rattle.message.specs.Message.{areaOf, dataOf, Ran, after, afterGiven, run, served, onlyStatus, runChain, answered}
 use Rattle.invariants.specs.GivenCases.{cond-case}
@@ -56,24 +57,30 @@ refusal-beside PassesEnd = other-code _ (λ q. omega arith)
 refusal-beside (Conflict h) = somebody refl
 refusal-beside NoRecord = other-code _ (λ q. omega arith)
 refusal-beside NoSpace = other-code _ (λ q. omega arith)
+refusal-beside OpenMode = other-code _ (λ q. omega arith)
+refusal-beside BadAccess = other-code _ (λ q. omega arith)
+refusal-beside NoSuchFile = other-code _ (λ q. omega arith)
+refusal-beside BadShare = other-code _ (λ q. omega arith)
+refusal-beside NoFids = other-code _ (λ q. omega arith)
 
-given-beside : (g : Given) (bs : List Block) (place : ℕ) (t : Tables) (memory : List ℕ) (rest : ℕ → Tables → List ℕ → Ran)
-    → ((p : ℕ) (u : Tables) (m : List ℕ) → Beside (rest p u m .status) (rest p u m .holder))
+given-beside : (g : Given) (bs : List Block) (place : ℕ) (t : Tables) (memory : List ℕ) (rest : ℕ → ℕ → Tables → List ℕ → Ran)
+    → ((j p : ℕ) (u : Tables) (m : List ℕ) → Beside (rest j p u m .status) (rest j p u m .holder))
     → Beside (afterGiven g bs place t memory rest .status) (afterGiven g bs place t memory rest .holder)
 unfolding afterGiven after
 given-beside (refused why) bs place t memory rest f = refusal-beside why
-given-beside (done u m said) bs place t memory rest f = f (place + replySize said) u m
+given-beside (done u m said) bs place t memory rest f = f (openedBy said) (place + replySize said) u m
 
-run-beside : (c : Caller) (s : List ℕ) (bs : List Block) (place : ℕ) (t : Tables) (memory : List ℕ) → Beside (run c s bs place t memory .status) (run c s bs place t memory .holder)
+run-beside : (c : Caller) (s : List ℕ) (just : ℕ) (bs : List Block) (place : ℕ) (t : Tables) (memory : List ℕ)
+    → Beside (run c s just bs place t memory .status) (run c s just bs place t memory .holder)
 unfolding run status
-run-beside c s [] place t memory = other-code _ (λ q. omega arith)
-run-beside c s (b ∷ bs) place t memory =
-    given-beside (perform c t memory (b .body) (areaOf s b) (dataOf s b)) bs place t memory (λ p u m. run c s bs p u m) (λ p u m. run-beside c s bs p u m)
+run-beside c s just [] place t memory = other-code _ (λ q. omega arith)
+run-beside c s just (b ∷ bs) place t memory =
+    given-beside (perform c t memory (bodyMeant just (b .body)) (areaOf s b) (dataOf s b)) bs place t memory (λ j p u m. run c s j bs p u m) (λ j p u m. run-beside c s j bs p u m)
 
 chain-beside : (c : Caller) (s : List ℕ) (o : Option (List Block)) (t : Tables) (memory : List ℕ) → Beside (runChain c s o t memory .status) (runChain c s o t memory .holder)
 unfolding runChain onlyStatus holderOf
 chain-beside c s none t memory = refusal-beside NotSentence
-chain-beside c s (some bs) t memory = run-beside c s bs FIRST t memory
+chain-beside c s (some bs) t memory = run-beside c s NOBODY bs FIRST t memory
 
 pub answered-beside : (connection : ℕ) (s : List ℕ) (t : Tables) (memory : List ℕ)
     → Beside (answered connection s t memory .status) (answered connection s t memory .holder)

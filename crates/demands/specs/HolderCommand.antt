@@ -36,8 +36,8 @@ use Rattle.chain.specs.declared.block.ReadFields.{ReadFields}
 use Rattle.chain.specs.declared.block.WriteFields.{WriteFields}
 use Rattle.chain.specs.declared.block.RangeFields.{RangeFields}
 use Rattle.chain.specs.declared.block.Body.{Body}
-use Rattle.chain.specs.declared.block.Body.the-variants.{Locking as LockingBody, Read as ReadBody, Write as WriteBody, Close, Logoff, TreeDisconnect, ProcessExit, CoreRead as CoreReadBody, CoreWrite as CoreWriteBody, LockByteRange, UnlockByteRange}
-use Rattle.invariants.specs.GivenCases.{cond-case, session-case, tree-case, open-case}
+use Rattle.chain.specs.declared.block.Body.the-variants.{Locking as LockingBody, Read as ReadBody, Write as WriteBody, Close, Logoff, TreeDisconnect, ProcessExit, CoreRead as CoreReadBody, CoreWrite as CoreWriteBody, LockByteRange, UnlockByteRange, Open as OpenBody}
+use Rattle.invariants.specs.GivenCases.{cond-case, session-case, tree-case, open-case, opening-case}
 use Rattle.message.specs.declared.caller.Caller.{Caller}
 use Rattle.message.specs.Refusal.{status, statusOf}
 use Rattle.message.specs.declared.refusal.Status.{Status}
@@ -248,7 +248,7 @@ module _ (c : Caller) (t : Tables) (memory : List ℕ) (ok : sound t ≡ true) w
       let area = smallForm (rangeBy c f) in
       Iff·trans (core-names (doLocking c t memory (oneRange f unlocks locks) area) h) (locking-exact (oneRange f unlocks locks) area (rw one refl) h)
 
-  -- ---- all eleven
+  -- ---- all twelve
 
   -- the commands that ask the list for nothing have no holder
   pub perform-held : (b : Body) (area bytes : List ℕ) → Announced b area → (h : Holder) → Names (perform c t memory b area bytes) h ↔ CommandHeld c t area b h
@@ -267,3 +267,8 @@ module _ (c : Caller) (t : Tables) (memory : List ℕ) (ok : sound t ≡ true) w
   perform-held (CoreWriteBody f) area bytes k h = core-write-exact f (drop 3 area) h
   perform-held (LockByteRange f) area bytes k h = Iff·trans (one-range f 0 1 refl h) (range-held c t ok f h)
   perform-held (UnlockByteRange f) area bytes k h = Iff·trans (one-range f 1 0 refl h) (λ r. let none : r .held .granted < 0 = r .held .fewer in omega arith, λ r. absurd r)
+  perform-held (OpenBody f) area bytes k h = (
+    opening-case (λ (g : Given). Names g h → ⊥) c t memory f _ (λ e. never cc) (λ e. never cc) (λ e. never cc) (λ e. never cc) (λ e. never cc) (λ e. never cc) (λ e. never cc)
+        (λ e. never cc) (λ j _ e. never cc),
+    λ r. absurd r,
+  )

@@ -25,7 +25,9 @@ use Rattle.message.specs.declared.refusal.Status.{Status}
 use Rattle.message.specs.declared.refusal.HeldBy.the-variants.{Holder as held-by}
 use Rattle.message.specs.declared.refusal.Refusal.the-variants.{Conflict}
 use Rattle.message.specs.Command.{Given, refused}
+use Rattle.message.specs.JustOpened.{NOBODY}
 use Rattle.message.specs.Message.{areaOf, dataOf, Ran, Taken}
+use Rattle.invariants.specs.JustOpenedLaws.{meant-nobody}
 use Rattle.demands.specs.Calls.{sentence-answered}
 use Rattle.demands.specs.MessageReasons.{done-exact}
 use Rattle.demands.specs.LoneLock.{Conflicts, Owner, lowerSize, sizesApart, AnyLock}
@@ -59,7 +61,8 @@ module _ (connection : ℕ) (s : List ℕ) (t : Tables) (memory room : List ℕ)
     unfolding holderOf
     named-given g n =
         holder-answered connection s t memory room fit
-        ∙ ap (λ (r : Ran). r .holder) (sentence-answered connection s t memory (b ∷ bs) e ∙ step-refused (callerOf connection s) s b bs FIRST t memory (Conflict g) n)
+        ∙ ap (λ (r : Ran). r .holder) (sentence-answered connection s t memory (b ∷ bs) e
+        ∙ step-refused (callerOf connection s) s NOBODY b bs FIRST t memory (Conflict g) (rw (meant-nobody (b .body)) n))
 
     conflict-names : Conflicts given → call connection s t memory room .holder ≡ held-by h → Names given h
     conflict-names w n =

@@ -20,7 +20,7 @@ use Rattle.chain.specs.declared.block.ReadFields.{ReadFields}
 use Rattle.chain.specs.declared.block.WriteFields.{WriteFields}
 use Rattle.chain.specs.declared.block.RangeFields.{RangeFields}
 use Rattle.chain.specs.declared.block.Body.{Body}
-use Rattle.chain.specs.declared.block.Body.the-variants.{Locking as LockingBody, Read as ReadBody, Write as WriteBody, Close, Logoff, TreeDisconnect, ProcessExit, CoreRead as CoreReadBody, CoreWrite as CoreWriteBody, LockByteRange, UnlockByteRange}
+use Rattle.chain.specs.declared.block.Body.the-variants.{Locking as LockingBody, Read as ReadBody, Write as WriteBody, Close, Logoff, TreeDisconnect, ProcessExit, CoreRead as CoreReadBody, CoreWrite as CoreWriteBody, LockByteRange, UnlockByteRange, Open as OpenBody}
 use Rattle.message.specs.declared.caller.Caller.{Caller}
 use Rattle.demands.specs.LoneLock.{OfFile, Owner, InWay, lowerSize, sizesApart, AnyLock, coreRange, sharedIn}
 use Rattle.demands.specs.Admitted.{Admitted}
@@ -104,6 +104,7 @@ CommandHeld c t area (CoreReadBody f) h = ReadHeld c t f h
 CommandHeld c t area (CoreWriteBody f) h = CoreWriteHeld c t f h
 CommandHeld c t area (LockByteRange f) h = RangeLockHeld c t f h
 CommandHeld c t area (UnlockByteRange f) h = ⊥
+CommandHeld c t area (OpenBody f) h = ⊥
 
 -- ---- where a holder stands
 
@@ -137,3 +138,4 @@ held-where c t area (CoreWriteBody f) h (write-held n r) = one-range (first-stan
 held-where c t area (CoreWriteBody f) h (size-held z r) = one-range (first-stands (r .first))
 held-where c t area (LockByteRange f) h r = one-range (first-stands (r .first))
 held-where c t area (UnlockByteRange f) h r = absurd r
+held-where c t area (OpenBody f) h r = absurd r

@@ -3,6 +3,8 @@ pub mod Malformed
 pub mod PerformMoved
 pub mod FreeBytesMessage
 pub mod Alone
+pub mod Returned
+pub mod Carrying
 pub mod OneByOne
 pub mod OneByOneReply
 pub mod LoneLock
@@ -19,6 +21,8 @@ pub mod LoneCall
 pub mod LockWords
 pub mod WritingReasons
 pub mod CoreReasons
+pub mod Sharing
+pub mod OpenReasons
 pub mod CommandReasons
 pub mod CorePairs
 pub mod ReasonCalls
@@ -37,6 +41,7 @@ pub mod SetSize
 pub mod Shown
 pub mod OldBytes
 pub mod LockEffects
+pub mod OpenEffects
 pub mod FirstReadings
 pub mod LockReasons
 pub mod SpansOneByOne
@@ -65,3 +70,4 @@ pub mod Processes
 pub mod CorePairCalls
 pub mod CorePairCases
 pub mod CoreMoved
+pub mod OpenChain

@@ -27,6 +27,7 @@ use Rattle.chain.specs.Parse.{rangeFields}
 use Rattle.chain.specs.declared.block.RangeFields.{RangeFields}
 use Rattle.chain.specs.declared.block.Block.{Block}
 use Rattle.chain.specs.declared.block.Body.the-variants.{Locking as LockingBody, LockByteRange, UnlockByteRange}
+use Rattle.claims.specs.RemovalPlain.{CatalogueStands}
 use Rattle.invariants.specs.BlockParse.{bodyAt}
 use Rattle.invariants.specs.Chained.{read-chained}
 use Rattle.invariants.specs.Sound.{Good}
@@ -104,9 +105,10 @@ pub record LockingDone (connection : ℕ) (s : List ℕ) (t : Tables) (memory : 
   pub locked : Locked s t through (unlockCount s FIRST) (lockCount s FIRST) left last
   -- "1/8 exactly if over 128 would then be held": these are not over
   pub not-over : length last ≤ 128
-  -- these are the locks held; every other table and every file byte is as before
+  -- these are the locks held; every other table, the catalogue among them, and every file byte is as before
   pub held : locksOf (call .tables) ≡ last
   pub other-tables : call .tables ≡ withLockList t (call .tables .locks) (call .tables .nlocks)
+  pub catalogue : CatalogueStands t (call .tables)
   pub whole : call .tables ≡ withLocks t last
   pub same-memory : call .memory ≡ memory
 
@@ -126,6 +128,7 @@ pub record LockRangeDone (connection : ℕ) (s : List ℕ) (t : Tables) (memory 
   pub not-over : length (locksOf t) < 128
   pub held : locksOf (call .tables) ≡ locksOf t ++ (lock ∷ [])
   pub other-tables : call .tables ≡ withLockList t (call .tables .locks) (call .tables .nlocks)
+  pub catalogue : CatalogueStands t (call .tables)
   pub whole : call .tables ≡ withLocks t (locksOf t ++ (lock ∷ []))
   pub same-memory : call .memory ≡ memory
   -- a block of no words and no bytes
@@ -142,10 +145,16 @@ pub record UnlockRangeDone (connection : ℕ) (s : List ℕ) (t : Tables) (memor
   pub of-length : range .length ≡ rangeLength s FIRST % 4294967296
   pub unlocked : TakenOut (firstFid s FIRST) range (locksOf t) (locksOf (call .tables))
   pub other-tables : call .tables ≡ withLockList t (call .tables .locks) (call .tables .nlocks)
+  pub catalogue : CatalogueStands t (call .tables)
   pub whole : call .tables ≡ withLocks t (locksOf (call .tables))
   pub same-memory : call .memory ≡ memory
   pub reply : PlainBlock (call .room)
   pub reply-ends : call .length ≡ 35
+
+-- tables that differ in locks alone have the same catalogue
+catalogue-stands : (t after : Tables) → after ≡ withLockList t (after .locks) (after .nlocks) → CatalogueStands t after
+unfolding withLockList
+catalogue-stands t after e = (ap (λ (x : Tables). x .nnames) e, ap (λ (x : Tables). x .names) e)
 
 -- ---- ranges of the block's byte area are those of the message
 
@@ -256,6 +265,7 @@ locking-reading connection s r t memory room g fit z e =
       not-over = l .not-over;
       held = l .held;
       other-tables = l .other-tables;
+      catalogue = catalogue-stands t _ (l .other-tables);
       whole = l .whole;
       same-memory = l .same-memory;
     }
@@ -310,6 +320,7 @@ module _ (connection : ℕ) (s : List ℕ) {span : Span} (r : Reading s (span �
         not-over = l .not-over;
         held = l .held;
         other-tables = l .other-tables;
+        catalogue = catalogue-stands t _ (l .other-tables);
         whole = l .whole;
         same-memory = l .same-memory;
         reply = said .0;
@@ -334,6 +345,7 @@ module _ (connection : ℕ) (s : List ℕ) {span : Span} (r : Reading s (span �
         of-length = refl;
         unlocked = l .unlocked;
         other-tables = l .other-tables;
+        catalogue = catalogue-stands t _ (l .other-tables);
         whole = l .whole;
         same-memory = l .same-memory;
         reply = said .0;

@@ -18,7 +18,7 @@ use Rattle.locks.specs.Range.{passesEnd}
 use Rattle.locks.specs.Wire.{rangeSize}
 use Rattle.locks.specs.Request.{rangePasses}
 use Rattle.chain.specs.Layout.{LOCKING, headerCommand, FIRST, byteArea, byteCount, fidAfterAndx, lockType, unlockCount, lockCount}
-use Rattle.chain.specs.Grammar.{IsBlock, locking-10, locking-20, read-10, read-12, write-12, write-14, close, logoff, tree-disconnect, process-exit, core-read, core-write, lock-byte-range, unlock-byte-range, Span, Reading}
+use Rattle.chain.specs.Grammar.{IsBlock, locking-10, locking-20, read-10, read-12, write-12, write-14, close, logoff, tree-disconnect, process-exit, core-read, core-write, lock-byte-range, unlock-byte-range, open-15, Span, Reading}
 use Rattle.chain.specs.Chain.{blocks}
 use Rattle.chain.specs.declared.block.LockingFields.{LockingFields}
 use Rattle.chain.specs.declared.block.ReadFields.{ReadFields}
@@ -35,11 +35,13 @@ use Rattle.message.specs.Caller.{callerOf}
 use Rattle.message.specs.Refusal.{status, statusOf}
 use Rattle.message.specs.declared.refusal.Status.{Status}
 use Rattle.message.specs.declared.refusal.Refusal.{Refusal}
-use Rattle.message.specs.declared.refusal.Refusal.the-variants.{NotServed, NotSentence, NoSession, NoTree, NoOpen, NoAccess, LockType, NoSuchLock, PassesEnd, Conflict, NoRecord, NoSpace}
+use Rattle.message.specs.declared.refusal.Refusal.the-variants.{NotServed, NotSentence, NoSession, NoTree, NoOpen, NoAccess, LockType, NoSuchLock, PassesEnd, Conflict, NoRecord, NoSpace, OpenMode, BadAccess, NoSuchFile, BadShare, NoFids}
 use Rattle.message.specs.declared.caller.Caller.{Caller}
-use Rattle.message.specs.Command.{Said, locked, loggedOff, read, wrote, plain, coreRead, coreWrote, Given, refused, done, doLocking, doRead, doWrite, perform}
+use Rattle.message.specs.Command.{Said, locked, loggedOff, read, wrote, plain, coreRead, coreWrote, opened, Given, refused, done, doLocking, doRead, doWrite, perform}
+use Rattle.message.specs.JustOpened.{openedBy, bodyMeant}
 use Rattle.message.specs.Reply.{replyBlock, refusedBlock, replySize}
 use Rattle.message.specs.Message.{areaOf, dataOf, Ran, after, linkTo, afterGiven, run, Taken, take-message}
+use Rattle.invariants.specs.JustOpenedLaws.{run-first}
 use Rattle.demands.specs.Malformed.{length-area}
 use Rattle.invariants.specs.ReplySize.{length-block}
 use Rattle.demands.specs.LoneLock.{Conflicts, BarsLock, read-conflict, write-conflict, loneRange, sharedIn, lock-conflict}
@@ -79,6 +81,11 @@ conflict-status PassesEnd e = never _ _ e (λ q. omega arith)
 conflict-status (Conflict h) e = (h, refl)
 conflict-status NoRecord e = never _ _ e (λ q. omega arith)
 conflict-status NoSpace e = never _ _ e (λ q. omega arith)
+conflict-status OpenMode e = never _ _ e (λ q. omega arith)
+conflict-status BadAccess e = never _ _ e (λ q. omega arith)
+conflict-status NoSuchFile e = never _ _ e (λ q. omega arith)
+conflict-status BadShare e = never _ _ e (λ q. omega arith)
+conflict-status NoFids e = never _ _ e (λ q. omega arith)
 
 -- a command that is done is not refused for conflict
 done-conflict : (u : Tables) (m : List ℕ) (said : Said) → Conflicts (done u m said) → ⊥
@@ -94,27 +101,29 @@ size-least (wrote count) = omega arith
 size-least plain = omega arith
 size-least (coreRead bytes) = omega arith
 size-least (coreWrote count) = omega arith
+size-least (opened fid size access results) = omega arith
 
 -- of a command that is done, or refused, and those behind it there is a block
-pub given-least : (g : Given) (bs : List Block) (place : ℕ) (t : Tables) (memory : List ℕ) (rest : ℕ → Tables → List ℕ → Ran)
+pub given-least : (g : Given) (bs : List Block) (place : ℕ) (t : Tables) (memory : List ℕ) (rest : ℕ → ℕ → Tables → List ℕ → Ran)
     → 3 ≤ length (afterGiven g bs place t memory rest .blocks)
 unfolding afterGiven after refusedBlock
 given-least (refused why) bs place t memory rest = omega arith
 given-least (done u m said) bs place t memory rest =
     let b : length (replyBlock said place (linkTo bs (place + replySize said))) ≡ replySize said = length-block said place (linkTo bs (place + replySize said)) in
     let c : 3 ≤ replySize said = size-least said in
-    rw (length-append (replyBlock said place (linkTo bs (place + replySize said))) (rest (place + replySize said) u m .blocks)) (omega arith)
+    rw (length-append (replyBlock said place (linkTo bs (place + replySize said))) (rest (openedBy said) (place + replySize said) u m .blocks)) (omega arith)
 
 -- commands that end with 1/33 give a block
-run-least : (c : Caller) (s : List ℕ) (bs : List Block) (place : ℕ) (t : Tables) (memory : List ℕ) → run c s bs place t memory .status ≡ status 1 33
-    → 3 ≤ length (run c s bs place t memory .blocks)
+run-least : (c : Caller) (s : List ℕ) (bs : List Block) (just place : ℕ) (t : Tables) (memory : List ℕ) → run c s just bs place t memory .status ≡ status 1 33
+    → 3 ≤ length (run c s just bs place t memory .blocks)
 unfolding run status
-run-least c s [] place t memory e = never _ _ e (λ q. omega arith)
-run-least c s (b ∷ bs) place t memory e = given-least (perform c t memory (b .body) (areaOf s b) (dataOf s b)) bs place t memory (λ p u m. run c s bs p u m)
+run-least c s [] just place t memory e = never _ _ e (λ q. omega arith)
+run-least c s (b ∷ bs) just place t memory e =
+    given-least (perform c t memory (bodyMeant just (b .body)) (areaOf s b) (dataOf s b)) bs place t memory (λ j p u m. run c s j bs p u m)
 
 -- the first command is refused for conflict exactly if the status is 1/33 and there is one block: a later one's stands behind the first one's
-given-conflict : (g : Given) (bs : List Block) (place : ℕ) (t : Tables) (memory : List ℕ) (rest : ℕ → Tables → List ℕ → Ran)
-    → ((p : ℕ) (u : Tables) (m : List ℕ) → rest p u m .status ≡ status 1 33 → 3 ≤ length (rest p u m .blocks))
+given-conflict : (g : Given) (bs : List Block) (place : ℕ) (t : Tables) (memory : List ℕ) (rest : ℕ → ℕ → Tables → List ℕ → Ran)
+    → ((j p : ℕ) (u : Tables) (m : List ℕ) → rest j p u m .status ≡ status 1 33 → 3 ≤ length (rest j p u m .blocks))
     → ((afterGiven g bs place t memory rest .status ≡ status 1 33) × (length (afterGiven g bs place t memory rest .blocks) ≡ 3)) ↔ Conflicts g
 unfolding afterGiven after statusOf refusedBlock
 given-conflict (refused why) bs place t memory rest h = (
@@ -122,11 +131,11 @@ given-conflict (refused why) bs place t memory rest h = (
   λ k. (ap (λ (x : Given). afterGiven x bs place t memory rest .status) (k .1), refl),
 )
 given-conflict (done u m said) bs place t memory rest h = (
-  λ e. let a : 3 ≤ length (rest (place + replySize said) u m .blocks) = h _ u m (e .0) in
+  λ e. let a : 3 ≤ length (rest (openedBy said) (place + replySize said) u m .blocks) = h _ _ u m (e .0) in
       let b : length (replyBlock said place (linkTo bs (place + replySize said))) ≡ replySize said = length-block said place (linkTo bs (place + replySize said)) in
       let c : 3 ≤ replySize said = size-least said in
-      let d : length (replyBlock said place (linkTo bs (place + replySize said))) + length (rest (place + replySize said) u m .blocks) ≡ 3 =
-      sym (length-append (replyBlock said place (linkTo bs (place + replySize said))) (rest (place + replySize said) u m .blocks)) ∙ e .1 in
+      let d : length (replyBlock said place (linkTo bs (place + replySize said))) + length (rest (openedBy said) (place + replySize said) u m .blocks) ≡ 3 =
+      sym (length-append (replyBlock said place (linkTo bs (place + replySize said))) (rest (openedBy said) (place + replySize said) u m .blocks)) ∙ e .1 in
       absurd (let z : ⊥ = omega arith in z),
   λ k. absurd (done-conflict u m said k),
 )
@@ -157,6 +166,7 @@ area-announced (core-read h) nx f e = let z : _≡_ {A = ℕ} 0 1 = cc in absurd
 area-announced (core-write h) nx f e = let z : _≡_ {A = ℕ} 0 1 = cc in absurd (omega arith)
 area-announced (lock-byte-range h) nx f e = let z : _≡_ {A = ℕ} 0 1 = cc in absurd (omega arith)
 area-announced (unlock-byte-range h) nx f e = let z : _≡_ {A = ℕ} 0 1 = cc in absurd (omega arith)
+area-announced (open-15 h) nx f e = let z : _≡_ {A = ℕ} 0 1 = cc in absurd (omega arith)
 
 pub area-first : {s : List ℕ} {at command : ℕ} {all : List Block} → Chained s command at all → (b : Block) (bs : List Block) → all ≡ b ∷ bs → (f : LockingFields) → b .body ≡ LockingBody f
     → length (areaOf s b) ≡ (f .unlocks + f .locks) * rangeSize (eqb (f .kind / 16 % 2) 1)
@@ -170,17 +180,20 @@ module _ (connection : ℕ) (s : List ℕ) (b : Block) (bs : List Block) (e : bl
   abbrev pub first-given : Given
   first-given = perform (callerOf connection s) t memory (b .body) (areaOf s b) (dataOf s b)
 
+  -- and those behind it
+  abbrev first-ran : Ran
+  first-ran = afterGiven first-given bs FIRST t memory (λ j p u m. run (callerOf connection s) s j bs p u m)
+
   -- 1/33 in a reply of 35 bytes, header and one refused block, is given exactly if the first command is refused for conflict
   pub first-conflict : FirstConflict (take-message connection s t memory room) ↔ Conflicts first-given
-  unfolding run
   first-conflict =
-      let same : statusRead (take-message connection s t memory room .room) ≡ run (callerOf connection s) s (b ∷ bs) FIRST t memory .status =
-      status-call connection s t memory room fit ∙ ap (λ (r : Ran). r .status) (sentence-answered connection s t memory (b ∷ bs) e) in
-      let long : take-message connection s t memory room .length ≡ 32 + length (run (callerOf connection s) s (b ∷ bs) FIRST t memory .blocks) =
-      length-call connection s t memory room fit ∙ ap (λ (r : Ran). 32 + length (r .blocks)) (sentence-answered connection s t memory (b ∷ bs) e) in
-      let exact = given-conflict first-given bs FIRST t memory (λ p u m. run (callerOf connection s) s bs p u m) (run-least (callerOf connection s) s bs) in (
-        λ h. let n : 32 + length (run (callerOf connection s) s (b ∷ bs) FIRST t memory .blocks) ≡ 35 = sym long ∙ h .1 in
-            exact .0 (sym same ∙ h .0, let z : length (run (callerOf connection s) s (b ∷ bs) FIRST t memory .blocks) ≡ 3 = omega arith in z),
+      let a = sentence-answered connection s t memory (b ∷ bs) e ∙ run-first (callerOf connection s) s b bs FIRST t memory in
+      let same : statusRead (take-message connection s t memory room .room) ≡ first-ran .status = status-call connection s t memory room fit ∙ ap (λ (r : Ran). r .status) a in
+      let long : take-message connection s t memory room .length ≡ 32 + length (first-ran .blocks) =
+      length-call connection s t memory room fit ∙ ap (λ (r : Ran). 32 + length (r .blocks)) a in
+      let exact = given-conflict first-given bs FIRST t memory (λ j p u m. run (callerOf connection s) s j bs p u m) (λ j p. run-least (callerOf connection s) s bs j p) in (
+        λ h. let n : 32 + length (first-ran .blocks) ≡ 35 = sym long ∙ h .1 in
+            exact .0 (sym same ∙ h .0, let z : length (first-ran .blocks) ≡ 3 = omega arith in z),
         λ k. let q = exact .1 k in (same ∙ q .0, long ∙ ap (λ (n : ℕ). 32 + n) (q .1)),
       )
 
@@ -230,22 +243,22 @@ module _ (connection : ℕ) (s : List ℕ) (b : Block) (bs : List Block) (e : bl
 
 -- ---- a message of one command: every reply with 1/33 is 35 bytes long
 
-one-length : (g : Given) (place : ℕ) (t : Tables) (memory : List ℕ) (rest : ℕ → Tables → List ℕ → Ran) → ((p : ℕ) (u : Tables) (m : List ℕ) → rest p u m .status ≡ status 0 0)
+one-length : (g : Given) (place : ℕ) (t : Tables) (memory : List ℕ) (rest : ℕ → ℕ → Tables → List ℕ → Ran) → ((j p : ℕ) (u : Tables) (m : List ℕ) → rest j p u m .status ≡ status 0 0)
     → afterGiven g [] place t memory rest .status ≡ status 1 33 → length (afterGiven g [] place t memory rest .blocks) ≡ 3
 unfolding afterGiven after status refusedBlock
 one-length (refused why) place t memory rest h e = refl
-one-length (done u m said) place t memory rest h e = never _ _ (sym (h _ u m) ∙ e) (λ q. omega arith)
+one-length (done u m said) place t memory rest h e = never _ _ (sym (h _ _ u m) ∙ e) (λ q. omega arith)
 
 module _ (connection : ℕ) (s : List ℕ) (b : Block) (e : blocks s ≡ some (b ∷ [])) (t : Tables) (memory room : List ℕ) (fit : Fit s t memory room) where
   one-reply : statusRead (take-message connection s t memory room .room) ≡ status 1 33 → take-message connection s t memory room .length ≡ 35
   unfolding run
   one-reply h =
-      let a = sentence-answered connection s t memory (b ∷ []) e in
-      let same : run (callerOf connection s) s (b ∷ []) FIRST t memory .status ≡ status 1 33 =
+      let a = sentence-answered connection s t memory (b ∷ []) e ∙ run-first (callerOf connection s) s b [] FIRST t memory in
+      let same : first-ran connection s b [] e t memory room fit .status ≡ status 1 33 =
       sym (ap (λ (r : Ran). r .status) a) ∙ sym (status-call connection s t memory room fit) ∙ h in
       length-call connection s t memory room fit
       ∙ ap (λ (r : Ran). 32 + length (r .blocks)) a
-      ∙ ap (λ (n : ℕ). 32 + n) (one-length (first-given connection s b [] e t memory room fit) FIRST t memory (λ p u m. run (callerOf connection s) s [] p u m) (λ p u m. refl) same)
+      ∙ ap (λ (n : ℕ). 32 + n) (one-length (first-given connection s b [] e t memory room fit) FIRST t memory (λ j p u m. run (callerOf connection s) s j [] p u m) (λ j p u m. refl) same)
 
   -- so that what the status and the length say, the status says alone
   pub one-says : {P : Type 0} → FirstConflict (take-message connection s t memory room) ↔ P

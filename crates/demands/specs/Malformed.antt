@@ -20,12 +20,13 @@ use Rattle.locks.specs.declared.types.Request.{Request}
 use Rattle.locks.specs.declared.types.Holder.{Holder}
 use Rattle.soundness.specs.File.{fileOf}
 use Rattle.chain.specs.Layout.{headerCommand, FIRST, byteArea, byteCount, blockEnd, lockType}
-use Rattle.chain.specs.Grammar.{IsBlock, locking-10, locking-20, read-10, read-12, write-12, write-14, close, logoff, tree-disconnect, process-exit, core-read, core-write, lock-byte-range, unlock-byte-range, Sentence}
+use Rattle.chain.specs.Grammar.{IsBlock, locking-10, locking-20, read-10, read-12, write-12, write-14, close, logoff, tree-disconnect, process-exit, core-read, core-write, lock-byte-range, unlock-byte-range, open-15, Sentence}
 use Rattle.chain.specs.Chain.{blocks}
 use Rattle.chain.specs.declared.block.LockingFields.{LockingFields}
 use Rattle.chain.specs.declared.block.ReadFields.{ReadFields}
 use Rattle.chain.specs.declared.block.RangeFields.{RangeFields}
 use Rattle.chain.specs.declared.block.WriteFields.{WriteFields}
+use Rattle.chain.specs.declared.block.OpenFields.{OpenFields}
 use Rattle.chain.specs.declared.block.Block.{Block}
 use Rattle.chain.specs.declared.block.Next.{Next}
 use Rattle.invariants.specs.BlockParse.{bodyAt, blockAt, block-inside}
@@ -35,11 +36,12 @@ use Rattle.message.specs.Caller.{callerOf}
 use Rattle.message.specs.declared.caller.Caller.{Caller}
 use Rattle.message.specs.Refusal.{status, statusOf}
 use Rattle.message.specs.declared.refusal.Status.{Status}
-use Rattle.message.specs.Command.{Given, Said, refused, done, servedType, requestOf, lockingEnd, lockingAfter, doLocking, doRead, doWrite, endsPast, asCore, oneRange, doRange, doSetSize, doCoreWrite, perform}
+use Rattle.message.specs.Command.{Given, Said, refused, done, servedType, requestOf, lockingEnd, lockingAfter, doLocking, doRead, doWrite, endsPast, asCore, oneRange, doRange, doSetSize, doCoreWrite, doOpen, perform}
+use Rattle.message.specs.JustOpened.{NOBODY, bodyMeant}
 use Rattle.message.specs.Message.{areaOf, Ran, after, afterGiven, run, served, onlyStatus, runChain, answered}
 use Rattle.message.specs.declared.refusal.Refusal.{Refusal}
-use Rattle.message.specs.declared.refusal.Refusal.the-variants.{NoSession, NoTree, NoOpen, NoAccess, LockType, NoSuchLock, PassesEnd, Conflict, NoRecord, NoSpace}
-use Rattle.invariants.specs.GivenCases.{cond-case, request-case, session-case, tree-case, open-case, barred-case, writing-case}
+use Rattle.message.specs.declared.refusal.Refusal.the-variants.{NoSession, NoTree, NoOpen, NoAccess, LockType, NoSuchLock, PassesEnd, Conflict, NoRecord, NoSpace, OpenMode, BadAccess, NoSuchFile, BadShare, NoFids}
+use Rattle.invariants.specs.GivenCases.{cond-case, request-case, session-case, tree-case, open-case, barred-case, writing-case, opening-case}
 
 -- a command is done, or refused with another status than 2/1
 pub data Other : Given → Type 0 where
@@ -92,6 +94,26 @@ other-space : Other (refused NoSpace)
 unfolding statusOf status
 other-space = other-code NoSpace (λ e. omega arith)
 
+other-mode : Other (refused OpenMode)
+unfolding statusOf status
+other-mode = other-code OpenMode (λ e. omega arith)
+
+other-codes : Other (refused BadAccess)
+unfolding statusOf status
+other-codes = other-code BadAccess (λ e. omega arith)
+
+other-file : Other (refused NoSuchFile)
+unfolding statusOf status
+other-file = other-code NoSuchFile (λ e. omega arith)
+
+other-share : Other (refused BadShare)
+unfolding statusOf status
+other-share = other-code BadShare (λ e. omega arith)
+
+other-fids : Other (refused NoFids)
+unfolding statusOf status
+other-fids = other-code NoFids (λ e. omega arith)
+
 -- a core command is refused as its counterpart
 core-other : {g : Given} → Other g → Other (asCore g)
 unfolding asCore
@@ -139,6 +161,10 @@ module _ (c : Caller) (t : Tables) (memory : List ℕ) where
   unfolding doRange oneRange smallForm rangeSize
   do-range-other f unlocks locks e = core-other (do-locking-other (oneRange f unlocks locks) _ (sym e))
 
+  do-open-other : (f : OpenFields) (name : List ℕ) → Other (doOpen c t memory f name)
+  do-open-other f name =
+      opening-case Other c t memory f name other-session other-tree other-mode other-codes other-file other-access other-share other-fids (λ k _. no-refusal)
+
 -- "The byte area of a block is handed on as a part of the message": it has just the announced length
 pub length-area : {s : List ℕ} {at command : ℕ} → IsBlock s at command → (next : Next) → length (areaOf s (blockAt s command at next)) ≡ byteCount s at
 unfolding areaOf blockAt
@@ -148,51 +174,52 @@ length-area {s} {at} h next =
 
 -- a block of a reading is never malformed by itself
 block-other : {s : List ℕ} {at command : ℕ} (c : Caller) (t : Tables) (memory : List ℕ) → IsBlock s at command → (area bytes : List ℕ) → length area ≡ byteCount s at
-    → Other (perform c t memory (bodyAt s command at) area bytes)
-unfolding perform bodyAt rangeSize
-block-other {s} {at} c t memory (locking-10 p h) area bytes e =
+    → (just : ℕ) → Other (perform c t memory (bodyMeant just (bodyAt s command at)) area bytes)
+unfolding perform bodyAt bodyMeant rangeSize
+block-other {s} {at} c t memory (locking-10 p h) area bytes e just =
     do-locking-other c t memory _ area (rw (ne-eqb (lockType s at / 16 % 2) 1 (omega arith)) (e ∙ h .announced))
-block-other {s} {at} c t memory (locking-20 p h) area bytes e =
+block-other {s} {at} c t memory (locking-20 p h) area bytes e just =
     do-locking-other c t memory _ area (rw (eq-eqb (lockType s at / 16 % 2) 1 p) (e ∙ h .announced))
-block-other c t memory (read-10 h) area bytes e = do-read-other c t memory _
-block-other c t memory (read-12 h) area bytes e = do-read-other c t memory _
-block-other c t memory (write-12 h) area bytes e = do-write-other c t memory _ bytes
-block-other c t memory (write-14 h) area bytes e = do-write-other c t memory _ bytes
-block-other c t memory (close h) area bytes e = open-case Other c t _ _ other-session other-tree other-open (λ k _. no-refusal)
-block-other c t memory (logoff h) area bytes e = session-case Other c t _ other-session (λ _. no-refusal)
-block-other c t memory (tree-disconnect h) area bytes e = tree-case Other c t _ other-session other-tree no-refusal
-block-other c t memory (process-exit h) area bytes e = session-case Other c t _ other-session (λ _. no-refusal)
-block-other c t memory (core-read h) area bytes e = core-other (do-read-other c t memory _)
-block-other c t memory (core-write h) area bytes e = do-core-write-other c t memory _ _
-block-other c t memory (lock-byte-range h) area bytes e = do-range-other c t memory _ 0 1 refl
-block-other c t memory (unlock-byte-range h) area bytes e = do-range-other c t memory _ 1 0 refl
+block-other c t memory (read-10 h) area bytes e just = do-read-other c t memory _
+block-other c t memory (read-12 h) area bytes e just = do-read-other c t memory _
+block-other c t memory (write-12 h) area bytes e just = do-write-other c t memory _ bytes
+block-other c t memory (write-14 h) area bytes e just = do-write-other c t memory _ bytes
+block-other c t memory (close h) area bytes e just = open-case Other c t _ _ other-session other-tree other-open (λ k _. no-refusal)
+block-other c t memory (logoff h) area bytes e just = session-case Other c t _ other-session (λ _. no-refusal)
+block-other c t memory (tree-disconnect h) area bytes e just = tree-case Other c t _ other-session other-tree no-refusal
+block-other c t memory (process-exit h) area bytes e just = session-case Other c t _ other-session (λ _. no-refusal)
+block-other c t memory (core-read h) area bytes e just = core-other (do-read-other c t memory _)
+block-other c t memory (core-write h) area bytes e just = do-core-write-other c t memory _ _
+block-other c t memory (lock-byte-range h) area bytes e just = do-range-other c t memory _ 0 1 refl
+block-other c t memory (unlock-byte-range h) area bytes e just = do-range-other c t memory _ 1 0 refl
+block-other c t memory (open-15 h) area bytes e just = do-open-other c t memory _ _
 
 -- a status other than 2/1, before a chain whose status is another too
-after-other : {g : Given} → Other g → (bs : List Block) (place : ℕ) (t : Tables) (memory : List ℕ) (rest : ℕ → Tables → List ℕ → Ran)
-    → ((p : ℕ) (t′ : Tables) (m : List ℕ) → rest p t′ m .status ≡ status 2 1 → ⊥) → afterGiven g bs place t memory rest .status ≡ status 2 1 → ⊥
+after-other : {g : Given} → Other g → (bs : List Block) (place : ℕ) (t : Tables) (memory : List ℕ) (rest : ℕ → ℕ → Tables → List ℕ → Ran)
+    → ((j p : ℕ) (t′ : Tables) (m : List ℕ) → rest j p t′ m .status ≡ status 2 1 → ⊥) → afterGiven g bs place t memory rest .status ≡ status 2 1 → ⊥
 unfolding afterGiven after
 after-other (other-refusal n) bs place t memory rest f = n
-after-other no-refusal bs place t memory rest f = f _ _ _
+after-other no-refusal bs place t memory rest f = f _ _ _ _
 
 done-other : status 0 0 ≡ status 2 1 → ⊥
 unfolding status
 done-other e = let n : _≡_ {A = ℕ} 0 1 = ap (λ (x : Status). x .code) e in omega arith
 
 -- the blocks of a reading never end with 2/1
-pub run-other : {s : List ℕ} {command at : ℕ} {bs : List Block} (c : Caller) → Chained s command at bs → (place : ℕ) (t : Tables) (memory : List ℕ)
-    → run c s bs place t memory .status ≡ status 2 1 → ⊥
+pub run-other : {s : List ℕ} {command at : ℕ} {bs : List Block} (c : Caller) → Chained s command at bs → (just place : ℕ) (t : Tables) (memory : List ℕ)
+    → run c s just bs place t memory .status ≡ status 2 1 → ⊥
 unfolding run blockAt
-run-other {s} c (chained-end {command} {at} h l) place t memory =
-    after-other (block-other c t memory h _ _ (length-area h _)) _ place t memory _ (λ _ _ _. done-other)
-run-other {s} c (chained-more {command} {at} h l r) place t memory =
-    after-other (block-other c t memory h _ _ (length-area h _)) _ place t memory _ (λ p u m. run-other c r p u m)
+run-other {s} c (chained-end {command} {at} h l) just place t memory =
+    after-other (block-other c t memory h _ _ (length-area h _) just) _ place t memory _ (λ _ _ _ _. done-other)
+run-other {s} c (chained-more {command} {at} h l r) just place t memory =
+    after-other (block-other c t memory h _ _ (length-area h _) just) _ place t memory _ (λ j p u m. run-other c r j p u m)
 
 module _ (c : Caller) (s : List ℕ) (t : Tables) (memory : List ℕ) where
   -- of what the reader answers, only that there is no reading ends with 2/1
   chain-malformed : (o : Option (List Block)) → blocks s ≡ o → runChain c s o t memory .status ≡ status 2 1 → o ≡ none
   unfolding runChain blocks
   chain-malformed none e f = refl
-  chain-malformed (some bs) e f = absurd (run-other c (read-chained s (headerCommand s) FIRST bs e) FIRST t memory f)
+  chain-malformed (some bs) e f = absurd (run-other c (read-chained s (headerCommand s) FIRST bs e) NOBODY FIRST t memory f)
 
   chain-unread : blocks s ≡ none → runChain c s (blocks s) t memory .status ≡ status 2 1
   unfolding runChain onlyStatus statusOf

@@ -20,12 +20,13 @@ use Rattle.locks.specs.declared.types.Outcome.the-variants.{Malformed}
 use Rattle.soundness.specs.File.{fileOf}
 use Rattle.invariants.specs.SoundParts.{sound-says}
 use Rattle.chain.specs.Layout.{headerCommand, FIRST, byteArea, byteCount, dataLength, dataOffset}
-use Rattle.chain.specs.Grammar.{IsBlock, locking-10, locking-20, read-10, read-12, write-12, write-14, close, logoff, tree-disconnect, process-exit, core-read, core-write, lock-byte-range, unlock-byte-range}
+use Rattle.chain.specs.Grammar.{IsBlock, locking-10, locking-20, read-10, read-12, write-12, write-14, close, logoff, tree-disconnect, process-exit, core-read, core-write, lock-byte-range, unlock-byte-range, open-15}
 use Rattle.chain.specs.Chain.{blocks}
 use Rattle.chain.specs.declared.block.LockingFields.{LockingFields}
 use Rattle.chain.specs.declared.block.ReadFields.{ReadFields}
 use Rattle.chain.specs.declared.block.RangeFields.{RangeFields}
 use Rattle.chain.specs.declared.block.WriteFields.{WriteFields}
+use Rattle.chain.specs.declared.block.OpenFields.{OpenFields}
 use Rattle.chain.specs.declared.block.Block.{Block}
 use Rattle.invariants.specs.BlockParse.{bodyAt, blockAt}
 use Rattle.invariants.specs.Chained.{Chained, chained-end, chained-more, read-chained}
@@ -33,11 +34,12 @@ use Rattle.message.specs.Caller.{callerOf}
 use Rattle.message.specs.declared.caller.Caller.{Caller}
 use Rattle.message.specs.Refusal.{statusOf}
 use Rattle.message.specs.Contents.{sizeOf, grown, written}
-use Rattle.message.specs.Command.{Said, Given, refused, done, servedType, requestOf, lockingEnd, lockingAfter, doLocking, doRead, doWrite, endsPast, asCore, oneRange, doRange, doSetSize, doCoreWrite, perform}
+use Rattle.message.specs.Command.{Said, Given, refused, done, servedType, requestOf, lockingEnd, lockingAfter, doLocking, doRead, doWrite, endsPast, asCore, oneRange, doRange, doSetSize, doCoreWrite, doOpen, perform}
+use Rattle.message.specs.JustOpened.{NOBODY, bodyMeant}
 use Rattle.message.specs.Message.{areaOf, dataOf, Ran, after, afterGiven, run, served, onlyStatus, runChain, answered}
 use Rattle.message.specs.declared.refusal.Refusal.{Refusal}
 use Rattle.message.specs.declared.refusal.Refusal.the-variants.{NotServed, NoAccess, LockType, NoSpace}
-use Rattle.invariants.specs.GivenCases.{cond-case, request-case, session-case, tree-case, open-case, barred-case, writing-case}
+use Rattle.invariants.specs.GivenCases.{cond-case, request-case, session-case, tree-case, open-case, barred-case, writing-case, opening-case}
 use Rattle.invariants.specs.Sound.{Good, Keeps, keeps-good, perform-keeps, size-most, open-file}
 
 -- a command refused, or done with that many bytes of file memory left
@@ -133,6 +135,11 @@ module _ (c : Caller) (t : Tables) (memory : List ℕ) (full : length memory ≡
   unfolding doRange
   range-leaves f unlocks locks = core-leaves (locking-leaves (oneRange f unlocks locks) _)
 
+  open-leaves : (f : OpenFields) (name : List ℕ) → Leaves (doOpen c t memory f name)
+  open-leaves f name =
+      opening-case Leaves c t memory f name leaves-refused leaves-refused leaves-refused leaves-refused leaves-refused leaves-refused leaves-refused leaves-refused
+      (λ k _. leaves-done full)
+
 -- a write's data is no longer than announced
 length-data : (s : List ℕ) (b : Block) → length (dataOf s b) ≤ dataLength s (b .at)
 unfolding dataOf
@@ -144,44 +151,45 @@ length-area s b = rw (length-take (byteCount s (b .at)) (drop (byteArea s (b .at
 
 -- a block of a reading
 block-leaves : {s : List ℕ} {at command : ℕ} (c : Caller) (t : Tables) (memory : List ℕ) → length memory ≡ 65536 → IsBlock s at command → Good t → (area bytes : List ℕ)
-    → length area ≤ byteCount s at → length bytes ≤ dataLength s at → Leaves (perform c t memory (bodyAt s command at) area bytes)
-unfolding perform bodyAt
-block-leaves c t memory full (locking-10 p h) g area bytes long few = locking-leaves c t memory full _ area
-block-leaves c t memory full (locking-20 p h) g area bytes long few = locking-leaves c t memory full _ area
-block-leaves c t memory full (read-10 h) g area bytes long few = read-leaves c t memory full _
-block-leaves c t memory full (read-12 h) g area bytes long few = read-leaves c t memory full _
-block-leaves c t memory full (write-12 h) g area bytes long few = write-leaves c t memory full _ bytes g few
-block-leaves c t memory full (write-14 h) g area bytes long few = write-leaves c t memory full _ bytes g few
-block-leaves c t memory full (close h) g area bytes long few = open-case Leaves c t _ _ leaves-refused leaves-refused leaves-refused (λ k _. leaves-done full)
-block-leaves c t memory full (logoff h) g area bytes long few = session-case Leaves c t _ leaves-refused (λ _. leaves-done full)
-block-leaves c t memory full (tree-disconnect h) g area bytes long few = tree-case Leaves c t _ leaves-refused leaves-refused (leaves-done full)
-block-leaves c t memory full (process-exit h) g area bytes long few = session-case Leaves c t _ leaves-refused (λ _. leaves-done full)
-block-leaves c t memory full (core-read h) g area bytes long few = core-leaves (read-leaves c t memory full _)
-block-leaves c t memory full (core-write h) g area bytes long few = core-write-leaves c t memory full _ _ g (rw (length-drop 3 area) (omega arith))
-block-leaves c t memory full (lock-byte-range h) g area bytes long few = range-leaves c t memory full _ 0 1
-block-leaves c t memory full (unlock-byte-range h) g area bytes long few = range-leaves c t memory full _ 1 0
+    → length area ≤ byteCount s at → length bytes ≤ dataLength s at → (just : ℕ) → Leaves (perform c t memory (bodyMeant just (bodyAt s command at)) area bytes)
+unfolding perform bodyAt bodyMeant
+block-leaves c t memory full (locking-10 p h) g area bytes long few just = locking-leaves c t memory full _ area
+block-leaves c t memory full (locking-20 p h) g area bytes long few just = locking-leaves c t memory full _ area
+block-leaves c t memory full (read-10 h) g area bytes long few just = read-leaves c t memory full _
+block-leaves c t memory full (read-12 h) g area bytes long few just = read-leaves c t memory full _
+block-leaves c t memory full (write-12 h) g area bytes long few just = write-leaves c t memory full _ bytes g few
+block-leaves c t memory full (write-14 h) g area bytes long few just = write-leaves c t memory full _ bytes g few
+block-leaves c t memory full (close h) g area bytes long few just = open-case Leaves c t _ _ leaves-refused leaves-refused leaves-refused (λ k _. leaves-done full)
+block-leaves c t memory full (logoff h) g area bytes long few just = session-case Leaves c t _ leaves-refused (λ _. leaves-done full)
+block-leaves c t memory full (tree-disconnect h) g area bytes long few just = tree-case Leaves c t _ leaves-refused leaves-refused (leaves-done full)
+block-leaves c t memory full (process-exit h) g area bytes long few just = session-case Leaves c t _ leaves-refused (λ _. leaves-done full)
+block-leaves c t memory full (core-read h) g area bytes long few just = core-leaves (read-leaves c t memory full _)
+block-leaves c t memory full (core-write h) g area bytes long few just = core-write-leaves c t memory full _ _ g (rw (length-drop 3 area) (omega arith))
+block-leaves c t memory full (lock-byte-range h) g area bytes long few just = range-leaves c t memory full _ 0 1
+block-leaves c t memory full (unlock-byte-range h) g area bytes long few just = range-leaves c t memory full _ 1 0
+block-leaves c t memory full (open-15 h) g area bytes long few just = open-leaves c t memory full _ _
 
-after-leaves : (d : Given) → Leaves d → Keeps d → (bs : List Block) (place : ℕ) (t : Tables) (memory : List ℕ) (rest : ℕ → Tables → List ℕ → Ran) → length memory ≡ 65536
-    → ((p : ℕ) (u : Tables) (m : List ℕ) → Good u → length m ≡ 65536 → length (rest p u m .memory) ≡ 65536) → length (afterGiven d bs place t memory rest .memory) ≡ 65536
+after-leaves : (d : Given) → Leaves d → Keeps d → (bs : List Block) (place : ℕ) (t : Tables) (memory : List ℕ) (rest : ℕ → ℕ → Tables → List ℕ → Ran) → length memory ≡ 65536
+    → ((j p : ℕ) (u : Tables) (m : List ℕ) → Good u → length m ≡ 65536 → length (rest j p u m .memory) ≡ 65536) → length (afterGiven d bs place t memory rest .memory) ≡ 65536
 unfolding afterGiven after
 after-leaves (refused why) l k bs place t memory rest full f = full
-after-leaves (done u m said) l k bs place t memory rest full f = f _ u m (keeps-good k) (leaves-size l)
+after-leaves (done u m said) l k bs place t memory rest full f = f _ _ u m (keeps-good k) (leaves-size l)
 
-run-leaves : {s : List ℕ} {command at : ℕ} {bs : List Block} (c : Caller) → Chained s command at bs → (place : ℕ) (t : Tables) (memory : List ℕ) → Good t → length memory ≡ 65536
-    → length (run c s bs place t memory .memory) ≡ 65536
+run-leaves : {s : List ℕ} {command at : ℕ} {bs : List Block} (c : Caller) → Chained s command at bs → (just place : ℕ) (t : Tables) (memory : List ℕ) → Good t → length memory ≡ 65536
+    → length (run c s just bs place t memory .memory) ≡ 65536
 unfolding run blockAt
-run-leaves {s} c (chained-end {command} {at} h l) place t memory g full =
-    after-leaves _ (block-leaves c t memory full h g _ _ (length-area s (blockAt s command at _)) (length-data s (blockAt s command at _))) (perform-keeps t g c memory (bodyAt s command at) _ _) [] place t memory
-    (λ p u m. run c s [] p u m) full (λ p u m _ e. e)
-run-leaves {s} c (chained-more {command} {at} {rest = rest} h l r) place t memory g full =
-    after-leaves _ (block-leaves c t memory full h g _ _ (length-area s (blockAt s command at _)) (length-data s (blockAt s command at _))) (perform-keeps t g c memory (bodyAt s command at) _ _) rest place t memory
-    (λ p u m. run c s rest p u m) full (λ p u m k e. run-leaves c r p u m k e)
+run-leaves {s} c (chained-end {command} {at} h l) just place t memory g full =
+    after-leaves _ (block-leaves c t memory full h g _ _ (length-area s (blockAt s command at _)) (length-data s (blockAt s command at _)) just) (perform-keeps t g c memory (bodyMeant just (bodyAt s command at)) _ _) [] place t memory
+    (λ j p u m. run c s j [] p u m) full (λ j p u m _ e. e)
+run-leaves {s} c (chained-more {command} {at} {rest = rest} h l r) just place t memory g full =
+    after-leaves _ (block-leaves c t memory full h g _ _ (length-area s (blockAt s command at _)) (length-data s (blockAt s command at _)) just) (perform-keeps t g c memory (bodyMeant just (bodyAt s command at)) _ _) rest place t memory
+    (λ j p u m. run c s j rest p u m) full (λ j p u m k e. run-leaves c r j p u m k e)
 
 chain-leaves : (c : Caller) (s : List ℕ) (o : Option (List Block)) → blocks s ≡ o → (t : Tables) (memory : List ℕ) → Good t → length memory ≡ 65536
     → length (runChain c s o t memory .memory) ≡ 65536
 unfolding runChain onlyStatus blocks
 chain-leaves c s none e t memory g full = full
-chain-leaves c s (some bs) e t memory g full = run-leaves c (read-chained s (headerCommand s) FIRST bs e) FIRST t memory g full
+chain-leaves c s (some bs) e t memory g full = run-leaves c (read-chained s (headerCommand s) FIRST bs e) NOBODY FIRST t memory g full
 
 -- "file memory of 65,536 bytes": a message leaves one of that length
 pub answered-memory : (connection : ℕ) (s : List ℕ) (t : Tables) (memory : List ℕ) → Good t → length memory ≡ 65536

@@ -1,5 +1,5 @@
 -- "2/22 header command not served" (document 01, "Refusals on the wire"), exactly: of the messages fit to be answered those, and only those, whose header's
--- command is none of the eleven. Assumes nothing.
+-- command is none of the twelve. Assumes nothing.
 use mathlib.Core.Path.{_≡_, refl, sym, ap, _∙_}
 use mathlib.Core.Logic.{_↔_, inl, inr}
 use Prim.Native.Nat.{ℕ, _+_, _*_}
@@ -19,29 +19,31 @@ use Rattle.locks.specs.Request.{rangesOf, Result, refused as refusedBy, settle,
 use Rattle.locks.specs.declared.types.Request.{Request}
 use Rattle.locks.specs.declared.types.Outcome.the-variants.{Malformed}
 use Rattle.soundness.specs.File.{fileOf}
-use Rattle.chain.specs.Layout.{CLOSE, PROCESS_EXIT, LOCKING, READ, WRITE, TREE_DISCONNECT, LOGOFF, CORE-READ, CORE-WRITE, LOCK_BYTE_RANGE, UNLOCK_BYTE_RANGE, headerCommand, FIRST}
+use Rattle.chain.specs.Layout.{CLOSE, PROCESS_EXIT, LOCKING, READ, WRITE, TREE_DISCONNECT, LOGOFF, CORE-READ, CORE-WRITE, LOCK_BYTE_RANGE, UNLOCK_BYTE_RANGE, OPEN, headerCommand, FIRST}
 use Rattle.chain.specs.Chain.{blocks}
 use Rattle.chain.specs.declared.block.LockingFields.{LockingFields}
 use Rattle.chain.specs.declared.block.ReadFields.{ReadFields}
 use Rattle.chain.specs.declared.block.RangeFields.{RangeFields}
 use Rattle.chain.specs.declared.block.WriteFields.{WriteFields}
+use Rattle.chain.specs.declared.block.OpenFields.{OpenFields}
 use Rattle.chain.specs.declared.block.Body.{Body}
-use Rattle.chain.specs.declared.block.Body.the-variants.{Locking as LockingBody, Read as ReadBody, Write as WriteBody, Close, Logoff, TreeDisconnect, ProcessExit, CoreRead as CoreReadBody, CoreWrite as CoreWriteBody, LockByteRange, UnlockByteRange}
+use Rattle.chain.specs.declared.block.Body.the-variants.{Locking as LockingBody, Read as ReadBody, Write as WriteBody, Close, Logoff, TreeDisconnect, ProcessExit, CoreRead as CoreReadBody, CoreWrite as CoreWriteBody, LockByteRange, UnlockByteRange, Open as OpenBody}
 use Rattle.chain.specs.declared.block.Block.{Block}
 use Rattle.message.specs.Caller.{callerOf}
 use Rattle.message.specs.declared.caller.Caller.{Caller}
 use Rattle.message.specs.Refusal.{status, statusOf}
 use Rattle.message.specs.declared.refusal.Status.{Status}
 use Rattle.message.specs.declared.refusal.Refusal.the-variants.{NoAccess, LockType, NoSpace}
-use Rattle.message.specs.Command.{Given, refused, done, servedType, requestOf, lockingEnd, lockingAfter, doLocking, doRead, endsPast, doWrite, asCore, oneRange, doRange, doSetSize, doCoreWrite, perform}
+use Rattle.message.specs.Command.{Given, refused, done, servedType, requestOf, lockingEnd, lockingAfter, doLocking, doRead, endsPast, doWrite, asCore, oneRange, doRange, doSetSize, doCoreWrite, doOpen, perform}
+use Rattle.message.specs.JustOpened.{NOBODY, bodyMeant}
 use Rattle.message.specs.Message.{areaOf, dataOf, Ran, after, afterGiven, run, served, onlyStatus, runChain, answered, take-message}
-use Rattle.invariants.specs.GivenCases.{cond-case, request-case, session-case, tree-case, open-case, barred-case, writing-case}
+use Rattle.invariants.specs.GivenCases.{cond-case, request-case, session-case, tree-case, open-case, barred-case, writing-case, opening-case}
 use Rattle.demands.specs.Malformed.{not-served}
 use Rattle.invariants.specs.Fit.{Fit}
 use Rattle.demands.specs.Calls.{statusRead, status-call}
 
 -- "Known: a request served": "CLOSE 0x04, PROCESS_EXIT 0x11, LOCKING_ANDX 0x24, READ_ANDX 0x2E, WRITE_ANDX 0x2F, TREE_DISCONNECT 0x71, LOGOFF_ANDX 0x74", and document
--- 02, CR 3: "READ 0x0A, WRITE 0x0B, LOCK_BYTE_RANGE 0x0C and UNLOCK_BYTE_RANGE 0x0D"
+-- 02, CR 3: "READ 0x0A, WRITE 0x0B, LOCK_BYTE_RANGE 0x0C and UNLOCK_BYTE_RANGE 0x0D"; CR 6: "OPEN_ANDX 0x2D"
 pub data Known : ℕ → Type 0 where
   known-close : Known 0x04
   known-exit : Known 0x11
@@ -54,6 +56,7 @@ pub data Known : ℕ → Type 0 where
   known-core-write : Known 0x0B
   known-lock : Known 0x0C
   known-unlock : Known 0x0D
+  known-open : Known 0x2D
 
 known-served : {command : ℕ} → Known command → served command ≡ true
 unfolding served
@@ -68,6 +71,7 @@ known-served known-core-read = refl
 known-served known-core-write = refl
 known-served known-lock = refl
 known-served known-unlock = refl
+known-served known-open = refl
 
 is-known : (command k : ℕ) → Known k → eqb command k ≡ true → Known command
 is-known command k h e = rw (eqb-true command k e) h
@@ -93,9 +97,12 @@ served-known command e =
                     | inl a ↦ is-known command CORE-READ known-core-read a
                     | inr e ↦ elim (either-holds (eqb command CORE-WRITE) _ e) [
                       | inl a ↦ is-known command CORE-WRITE known-core-write a
-                      | inr e ↦ elim (either-holds (eqb command LOCK_BYTE_RANGE) (eqb command UNLOCK_BYTE_RANGE) e) [
+                      | inr e ↦ elim (either-holds (eqb command LOCK_BYTE_RANGE) _ e) [
                         | inl a ↦ is-known command LOCK_BYTE_RANGE known-lock a
-                        | inr a ↦ is-known command UNLOCK_BYTE_RANGE known-unlock a
+                        | inr e ↦ elim (either-holds (eqb command UNLOCK_BYTE_RANGE) (eqb command OPEN) e) [
+                          | inl a ↦ is-known command UNLOCK_BYTE_RANGE known-unlock a
+                          | inr a ↦ is-known command OPEN known-open a
+                        ]
                       ]
                     ]
                   ]
@@ -107,7 +114,7 @@ served-known command e =
       ]
     ]
 
--- the eleven are those served
+-- the twelve are those served
 pub known-exact : (command : ℕ) → (served command ≡ true) ↔ Known command
 known-exact command = (served-known command, known-served)
 
@@ -168,6 +175,12 @@ module _ (c : Caller) (t : Tables) (memory : List ℕ) where
   unfolding doRange
   range-begun f unlocks locks = core-begun _ (locking-begun (oneRange f unlocks locks) _)
 
+  open-begun : (f : OpenFields) (name : List ℕ) → Begun (doOpen c t memory f name)
+  unfolding codeOf statusOf status
+  open-begun f name =
+      opening-case Begun c t memory f name (λ e. omega arith) (λ e. omega arith) (λ e. omega arith) (λ e. omega arith) (λ e. omega arith) (λ e. omega arith) (λ e. omega arith)
+      (λ e. omega arith) (λ k _ e. omega arith)
+
   -- no command ends with 2/22
   perform-begun : (b : Body) (area bytes : List ℕ) → Begun (perform c t memory b area bytes)
   unfolding perform codeOf statusOf status
@@ -182,24 +195,25 @@ module _ (c : Caller) (t : Tables) (memory : List ℕ) where
   perform-begun (CoreWriteBody f) area bytes = core-write-begun f _
   perform-begun (LockByteRange f) area bytes = range-begun f 0 1
   perform-begun (UnlockByteRange f) area bytes = range-begun f 1 0
+  perform-begun (OpenBody f) area bytes = open-begun f _
 
-after-begun : (g : Given) → Begun g → (bs : List Block) (place : ℕ) (t : Tables) (memory : List ℕ) (rest : ℕ → Tables → List ℕ → Ran)
-    → ((p : ℕ) (u : Tables) (m : List ℕ) → rest p u m .status .code ≡ 22 → ⊥) → afterGiven g bs place t memory rest .status .code ≡ 22 → ⊥
+after-begun : (g : Given) → Begun g → (bs : List Block) (place : ℕ) (t : Tables) (memory : List ℕ) (rest : ℕ → ℕ → Tables → List ℕ → Ran)
+    → ((j p : ℕ) (u : Tables) (m : List ℕ) → rest j p u m .status .code ≡ 22 → ⊥) → afterGiven g bs place t memory rest .status .code ≡ 22 → ⊥
 unfolding afterGiven after codeOf
 after-begun (refused why) h bs place t memory rest f = h
-after-begun (done u m said) h bs place t memory rest f = f _ u m
+after-begun (done u m said) h bs place t memory rest f = f _ _ u m
 
-run-begun : (c : Caller) (s : List ℕ) (bs : List Block) (place : ℕ) (t : Tables) (memory : List ℕ) → run c s bs place t memory .status .code ≡ 22 → ⊥
+run-begun : (c : Caller) (s : List ℕ) (just : ℕ) (bs : List Block) (place : ℕ) (t : Tables) (memory : List ℕ) → run c s just bs place t memory .status .code ≡ 22 → ⊥
 unfolding run status
-run-begun c s [] place t memory = λ e. omega arith
-run-begun c s (b ∷ bs) place t memory =
-    after-begun (perform c t memory (b .body) (areaOf s b) (dataOf s b)) (perform-begun c t memory (b .body) (areaOf s b) (dataOf s b)) bs place t memory _
-    (λ p u m. run-begun c s bs p u m)
+run-begun c s just [] place t memory = λ e. omega arith
+run-begun c s just (b ∷ bs) place t memory =
+    after-begun (perform c t memory (bodyMeant just (b .body)) (areaOf s b) (dataOf s b)) (perform-begun c t memory (bodyMeant just (b .body)) (areaOf s b) (dataOf s b)) bs place t memory _
+    (λ j p u m. run-begun c s j bs p u m)
 
 chain-begun : (c : Caller) (s : List ℕ) (o : Option (List Block)) (t : Tables) (memory : List ℕ) → runChain c s o t memory .status .code ≡ 22 → ⊥
 unfolding runChain onlyStatus statusOf status
 chain-begun c s none t memory = λ e. omega arith
-chain-begun c s (some bs) t memory = run-begun c s bs FIRST t memory
+chain-begun c s (some bs) t memory = run-begun c s NOBODY bs FIRST t memory
 
 -- a message with a served command is not answered 2/22
 served-begun : (connection : ℕ) (s : List ℕ) (t : Tables) (memory : List ℕ) → served (headerCommand s) ≡ true → answered connection s t memory .status ≡ status 2 22 → ⊥
@@ -207,7 +221,7 @@ unfolding answered status
 served-begun connection s t memory e =
     rw e (λ h. chain-begun (callerOf connection s) s (blocks s) t memory (ap (λ (x : Status). x .code) h))
 
--- "2/22 header command not served": a message fit to be answered is so answered exactly if the header's command is none of the eleven
+-- "2/22 header command not served": a message fit to be answered is so answered exactly if the header's command is none of the twelve
 pub not-served-exact : (connection : ℕ) (s : List ℕ) (t : Tables) (memory room : List ℕ) → Fit s t memory room
     → (statusRead (take-message connection s t memory room .room) ≡ status 2 22) ↔ (Known (headerCommand s) → ⊥)
 unfolding onlyStatus

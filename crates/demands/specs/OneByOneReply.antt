@@ -24,8 +24,10 @@ use Rattle.invariants.specs.Chained.{Chained, chained-end, chained-more, read-c
 use Rattle.message.specs.Reply.{two, replyHeader}
 use Rattle.message.specs.Message.{Ran, answered, replyOf}
 use Rattle.invariants.specs.ReplySize.{length-header}
-use Rattle.demands.specs.Alone.{alone, alone-header, length-alone-more}
-use Rattle.demands.specs.OneByOne.{Sent, succeeded, replyThen, sendOn, sendAll, joined, compared, one-by-one}
+use Rattle.message.specs.JustOpened.{NOBODY}
+use Rattle.demands.specs.Alone.{length-alone-more}
+use Rattle.demands.specs.Returned.{returnedFid}
+use Rattle.demands.specs.OneByOne.{Sent, succeeded, replyThen, sendOn, own, own-header, length-own, sendAll, joined, compared, one-by-one}
 
 -- the last of the replies
 unfoldable pub lastReply : List (List ℕ) → List ℕ
@@ -37,25 +39,28 @@ lastReply (r ∷ (q ∷ rs)) = lastReply (q ∷ rs)
 unfoldable pub comparedReply : List ℕ → Sent → List ℕ
 comparedReply s sent = set (take 32 (lastReply (sent .replies))) 4 (headerCommand s) ++ joined FIRST (sent .replies)
 
-module _ (s : List ℕ) (b : Block) (long : 32 ≤ length s) where
+module _ (s : List ℕ) (just : ℕ) (b : Block) (long : 32 ≤ length s) where
+  own-more : 32 ≤ length (own s just b)
+  own-more = omega (arith, length-own s just b, length-alone-more s b long)
+
   -- the header's last eight bytes are the chain's
-  last-bytes : take 8 (drop 24 (alone s b)) ≡ take 8 (drop 24 s)
+  last-bytes : take 8 (drop 24 (own s just b)) ≡ take 8 (drop 24 s)
   last-bytes =
-      let n : 32 ≤ length (alone s b) = length-alone-more s b long in
-      part-same s (alone s b) 24 24 8 (omega arith) (omega arith) (λ k h. alone-header s b long (24 + k) (omega arith) (λ e. omega arith))
+      let n : 32 ≤ length (own s just b) = own-more in
+      part-same s (own s just b) 24 24 8 (omega arith) (omega arith) (λ k h. own-header s just b long (24 + k) (omega arith) (λ e. omega arith))
 
   -- so the reply's header is the chain's but for the command
-  header-again : (why : Status) → set (replyHeader (alone s b) why) 4 (headerCommand s) ≡ replyHeader s why
+  header-again : (why : Status) → set (replyHeader (own s just b) why) 4 (headerCommand s) ≡ replyHeader s why
   unfolding replyHeader two
   header-again why =
-      let n : (k : ℕ) → 4 < k → k < 32 → byteAt (alone s b) k ≡ byteAt s k = λ k l h. alone-header s b long k h (λ e. omega arith) in
+      let n : (k : ℕ) → 4 < k → k < 32 → byteAt (own s just b) k ≡ byteAt s k = λ k l h. own-header s just b long k h (λ e. omega arith) in
       rw (n 9 (omega arith) (omega arith), n 10 (omega arith) (omega arith), n 12 (omega arith) (omega arith), n 13 (omega arith) (omega arith), last-bytes)
 
-  header-of : (r : Ran) → set (take 32 (replyOf (alone s b) r)) 4 (headerCommand s) ≡ replyHeader s (r .status)
+  header-of : (r : Ran) → set (take 32 (replyOf (own s just b) r)) 4 (headerCommand s) ≡ replyHeader s (r .status)
   unfolding replyOf
   header-of r =
       ap (λ (l : List ℕ). set l 4 (headerCommand s))
-      (take-at (replyHeader (alone s b) (r .status)) (r .blocks) 32 (length-header (alone s b) (r .status) (length-alone-more s b long)))
+      (take-at (replyHeader (own s just b) (r .status)) (r .blocks) 32 (length-header (own s just b) (r .status) own-more))
       ∙ header-again (r .status)
 
 -- status 0
@@ -85,33 +90,34 @@ send-last : (t : Bool) (s reply : List ℕ) (sent : Sent) (why : Status) (h : He
 send-last true s reply sent why h u m f g = f refl
 send-last false s reply sent why h u m f g = g refl
 
-last-header : (connection : ℕ) (s : List ℕ) → 32 ≤ length s → (b : Block) (bs : List Block) (t : Tables) (memory : List ℕ)
-    → LastHeader s (sendAll connection s (b ∷ bs) t memory)
+last-header : (connection : ℕ) (s : List ℕ) → 32 ≤ length s → (just : ℕ) (b : Block) (bs : List Block) (t : Tables) (memory : List ℕ)
+    → LastHeader s (sendAll connection s just (b ∷ bs) t memory)
 unfolding sendAll sendOn lastReply replyThen
-last-header connection s long b [] t memory =
-    send-last (succeeded (answered connection (alone s b) t memory .status)) s (replyOf (alone s b) (answered connection (alone s b) t memory)) _ _ _ _ _
-    (λ e. header-of s b long (answered connection (alone s b) t memory) ∙ ap (replyHeader s) (status-done (answered connection (alone s b) t memory .status) e))
-    (λ e. header-of s b long (answered connection (alone s b) t memory))
-last-header connection s long b (d ∷ bs) t memory =
-    let r : Ran = answered connection (alone s b) t memory in
-    send-last (succeeded (answered connection (alone s b) t memory .status)) s (replyOf (alone s b) (answered connection (alone s b) t memory)) _ _ _ _ _
+last-header connection s long just b [] t memory =
+    send-last (succeeded (answered connection (own s just b) t memory .status)) s (replyOf (own s just b) (answered connection (own s just b) t memory)) _ _ _ _ _
+    (λ e. header-of s just b long (answered connection (own s just b) t memory) ∙ ap (replyHeader s) (status-done (answered connection (own s just b) t memory .status) e))
+    (λ e. header-of s just b long (answered connection (own s just b) t memory))
+last-header connection s long just b (d ∷ bs) t memory =
+    let r : Ran = answered connection (own s just b) t memory in
+    let j : ℕ = returnedFid (replyOf (own s just b) r) in
+    send-last (succeeded (answered connection (own s just b) t memory .status)) s (replyOf (own s just b) (answered connection (own s just b) t memory)) _ _ _ _ _
     (λ e. ap (λ (l : List ℕ). set (take 32 l) 4 (headerCommand s))
-    (last-more (succeeded (answered connection (alone s d) (r .tables) (r .memory) .status)) (replyOf (alone s b) r) (replyOf (alone s d) (answered connection (alone s d) (r .tables) (r .memory))) _ _ _ _ _)
-    ∙ last-header connection s long d bs (r .tables) (r .memory))
-    (λ e. header-of s b long (answered connection (alone s b) t memory))
+    (last-more (succeeded (answered connection (own s j d) (r .tables) (r .memory) .status)) (replyOf (own s just b) r) (replyOf (own s j d) (answered connection (own s j d) (r .tables) (r .memory))) _ _ _ _ _)
+    ∙ last-header connection s long j d bs (r .tables) (r .memory))
+    (λ e. header-of s just b long (answered connection (own s just b) t memory))
 
 -- a reading's blocks: there is one, behind a header
-chained-header : {s : List ℕ} {command at : ℕ} {bs : List Block} (connection : ℕ) → Chained s command at bs → 32 ≤ at → (t : Tables) (memory : List ℕ)
-    → LastHeader s (sendAll connection s bs t memory)
-chained-header {s} connection (chained-end {command} {at} h l) from t memory =
-    let i : blockEnd s at ≤ length s = block-inside h in last-header connection s (omega arith) _ _ t memory
-chained-header {s} connection (chained-more {command} {at} h l r) from t memory =
-    let i : blockEnd s at ≤ length s = block-inside h in last-header connection s (omega arith) _ _ t memory
+chained-header : {s : List ℕ} {command at : ℕ} {bs : List Block} (connection : ℕ) → Chained s command at bs → 32 ≤ at → (just : ℕ) (t : Tables) (memory : List ℕ)
+    → LastHeader s (sendAll connection s just bs t memory)
+chained-header {s} connection (chained-end {command} {at} h l) from just t memory =
+    let i : blockEnd s at ≤ length s = block-inside h in last-header connection s (omega arith) just _ _ t memory
+chained-header {s} connection (chained-more {command} {at} h l r) from just t memory =
+    let i : blockEnd s at ≤ length s = block-inside h in last-header connection s (omega arith) just _ _ t memory
 
 -- "Its reply is the last reply's header with the chain's Command, then a block for each message sent, a refused one's too"
 pub one-by-one-reply : (connection : ℕ) (s : List ℕ) (bs : List Block) → blocks s ≡ some bs → length s ≤ 8192 → (t : Tables) (memory : List ℕ)
-    → replyOf s (answered connection s t memory) ≡ comparedReply s (sendAll connection s bs t memory)
+    → replyOf s (answered connection s t memory) ≡ comparedReply s (sendAll connection s NOBODY bs t memory)
 unfolding replyOf comparedReply compared blocks
 one-by-one-reply connection s bs e small t memory =
     let c : Chained s (headerCommand s) FIRST bs = read-chained s (headerCommand s) FIRST bs e in
-    rw (one-by-one connection s bs e small t memory, chained-header connection c (omega arith) t memory)
+    rw (one-by-one connection s bs e small t memory, chained-header connection c (omega arith) NOBODY t memory)

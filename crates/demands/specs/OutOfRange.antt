@@ -1,26 +1,37 @@
 -- Numbers that the host hands over in 32 bits, past what document 01 lists ("What a call returns", 7 and 6; "Tables and room":
--- "numbers .. lie in 1 to 16, 1 to 32 and 1 to 64"): a right of 256 is 7 and not 0, a UID of 65,537 is 6 and not 1. On words that are
--- ready. Assumes nothing.
-use mathlib.Core.Path.{_≡_, _∙_}
-use mathlib.Core.Logic.{_⊎_, inl, ⊎-elim}
-use Prim.Native.Nat.{ℕ, _≤_, _<_}
+-- "numbers .. lie in 1 to 16, 1 to 32 and 1 to 64"): a right of 256 is 7 and not 0, a UID of 65,537 is 6 and not 1; and a catalogue handed over in words
+-- (document 02, CR 6): a length of 257 is 7 and not 1. On words that are ready. Assumes nothing.
+use mathlib.Core.Path.{_≡_, refl, ap, _∙_}
+use mathlib.Core.Logic.{_⊎_, inl, inr, ⊎-elim, _↔_}
+use Prim.Native.Nat.{ℕ, zero, suc, _+_, _*_, _≤_, _<_}
 use native.Mathlib.Omega.{arith}
-use mathlib.Core.Bool.{true}
+use native.Mathlib.Decide.{ℕ-discrete}
+use mathlib.Core.Bool.{Bool, true, false}
 use mathlib.Core.List.{List}
-use lib.ListN.{length}
-use borrow.Author.Tests.{eq-eqb}
-use Rattle.lists.specs.Truth.{both-hold}
-use Rattle.lists.specs.Members.{in-map}
+use lib.ListN.{length, drop}
+use lib.Seq.{getD-take, getD-drop}
+use lib.Dec.{leb, eqb}
+use borrow.Author.Tests.{eq-eqb, eqb-true, leb-true, leb-false}
+use Rattle.lists.specs.Walk.{all}
+use Rattle.lists.specs.Truth.{decided, both-hold, fails, not-decided-twice, test-cases}
+use Rattle.lists.specs.Members.{in-map, all-each}
+use Rattle.lists.specs.PairLaws.{place-in}
 use Rattle.records.specs.declared.Tables.{Tables}
 use Rattle.numbers.specs.Column.{uidOf, tidOf}
 use Rattle.soundness.specs.Sound.{sound}
+use Rattle.catalogue.specs.Name.{catalogueOk}
+use Rattle.host.specs.HostCall.{refused}
 use Rattle.host.specs.declared.answer.Returned.{Returned}
 use Rattle.invariants.specs.Numbered.{numbered-within}
 use Rattle.invariants.specs.SoundParts.{sound-says}
+use Rattle.claims.specs.CataloguePlain.{BrokenRule, catalogue-says, rule-broken}
 use Rattle.claims.specs.SoundPlain.{sound-plain}
-use Rattle.claims.specs.HostReasons.{HasSession, HasTree, tree-range, tree-nobody, open-range, open-nowhere, load-range, addTree-given, addOpen-given, loadFile-given}
-use Rattle.tables.specs.Words.{inUseFit, tablesOf}
-use Rattle.boundary.specs.Boundary.{ready, numberOf, treeAdded, openAdded, fileLoaded, loadNumberOf}
+use Rattle.claims.specs.HostReasons.{HasSession, HasTree, tree-range, tree-nobody, open-range, open-nowhere, load-range, set-broken, set-done, addTree-given, addOpen-given, loadFile-given, setCatalogue-given}
+use Rattle.tables.specs.Words.{word, recordAt, nameArray, nameLimits, within, recordsFit, inUse, tableFits, inUseFit, tablesOf}
+use Rattle.tables.specs.RecordLaws.{within-holds, within-told, within-each, each-within}
+use Rattle.tables.specs.FitLaws.{all-upTo, upTo-all}
+use Rattle.boundary.specs.Boundary.{ready, numberOf, treeAdded, openAdded, fileLoaded, loadNumberOf, catalogueSet}
+use Rattle.boundary.specs.BoundaryLaws.{set-core, set-no-bytes}
 
 -- ---- sound tables have no number past the limits
 
@@ -77,3 +88,118 @@ module _ (w : List ℕ) (h : ready w ≡ true) where
   load-file-range file contents memory e a =
       rw (eq-eqb (length memory) 65536 e)
       (core-number _ (loadFile-given (tablesOf w) file contents memory (load-range e (ready-says .1) (inl a))))
+
+-- ---- `gateway_set_catalogue`
+
+-- the words given are no catalogue: a word of a name in use (its length, one of its 12 places for bytes, its file) is no byte
+pub record NoByte (given : List ℕ) : Type 0 where
+  pub place : ℕ
+  pub in-use : place < word given 0
+  pub in-room : place < 16
+  pub field : ℕ
+  pub of-name : field < 14
+  pub too-large : 255 < word given (1 + 14 * place + field)
+
+-- all pass below a number, or one fails
+all-or-one : (p : ℕ → Bool) (n : ℕ) → ((i : ℕ) → i < n → p i ≡ true) ⊎ ((i : ℕ) × (i < n) × (p i ≡ false))
+all-or-one p zero = inl (λ i h. absurd (let z : ⊥ = omega arith in z))
+all-or-one p (suc n) =
+    elim (all-or-one p n) [
+      | inr one ↦ let h : one .0 < n = one .1 in inr (one .0, (let k : one .0 < suc n = omega arith in k), one .2)
+      | inl below ↦
+          elim (decided (p n)) [
+            | inr e ↦ inr (n, (let k : n < suc n = omega arith in k), e)
+            | inl e ↦
+                inl λ i h.
+                elim (ℕ-discrete i n) [
+                  | yes same ↦ ap p same ∙ e
+                  | no other ↦ let k : i < n = omega arith in below i k
+                ]
+          ]
+    ]
+
+module _ (given : List ℕ) where
+  name-word : (i j : ℕ) → j < 14 → word (recordAt 14 given i) j ≡ word given (1 + 14 * i + j)
+  name-word i j h = getD-take 14 (drop (1 + 14 * i) given) j 0 h ∙ getD-drop (1 + 14 * i) given j 0
+
+  name-limit : (j : ℕ) → j < 14 → word nameLimits j ≡ 255
+  unfolding all
+  name-limit j h = eqb-true (word nameLimits j) 255 (all-each (λ x. eqb x 255) (place-in 0 nameLimits j h) refl)
+
+  -- a word that is no byte does not fit
+  pub no-byte-unfit : NoByte given → tableFits nameLimits 16 given ≡ false
+  unfolding recordsFit
+  no-byte-unfit b =
+      fails (tableFits nameLimits 16 given) λ e.
+      let h = b .in-use in
+      let k = b .in-room in
+      let i : b .place < inUse given 16 = omega arith in
+      let one = upTo-all (within nameLimits) (recordAt 14 given) (inUse given 16) (b .place) e i in
+      let low = each-within nameLimits (recordAt 14 given (b .place)) (within-told nameLimits (recordAt 14 given (b .place)) one) (b .field) (b .of-name) in
+      let its = name-word (b .place) (b .field) (b .of-name) in
+      let limit = name-limit (b .field) (b .of-name) in
+      let high = b .too-large in
+      let z : ⊥ = omega arith in
+      z
+
+  -- and where they do not fit, there is one
+  pub unfit-no-byte : tableFits nameLimits 16 given ≡ false → NoByte given
+  unfolding recordsFit
+  unfit-no-byte e =
+      elim (all-or-one (λ i. within nameLimits (recordAt 14 given i)) (inUse given 16)) [
+        | inl each ↦ absurd (not-decided-twice (tableFits nameLimits 16 given) (all-upTo (within nameLimits) (recordAt 14 given) (inUse given 16) each) e)
+        | inr one ↦
+            let i = one .0 in
+            let h : i < inUse given 16 = one .1 in
+            elim (all-or-one (λ j. leb (word given (1 + 14 * i + j)) 255) 14) [
+              | inl each ↦
+                  absurd
+                  (not-decided-twice (within nameLimits (recordAt 14 given i))
+                  (within-holds nameLimits (recordAt 14 given i)
+                  (within-each nameLimits (recordAt 14 given i) λ j few.
+                  let low = leb-true (word given (1 + 14 * i + j)) 255 (each j few) in
+                  let its = name-word i j few in
+                  let limit = name-limit j few in
+                  let fit : word (recordAt 14 given i) j ≤ word nameLimits j = omega arith in
+                  fit))
+                  (one .2))
+              | inr high ↦
+                  record {
+                    place = i;
+                    in-use = omega arith;
+                    in-room = omega arith;
+                    field = high .0;
+                    of-name = high .1;
+                    too-large = leb-false (word given (1 + 14 * i + high .0)) 255 (high .2);
+                  }
+            ]
+      ]
+
+  module _ (w : List ℕ) (h : ready w ≡ true) where
+    -- "for the catalogue 7: over 16 names, a name of another length, with a zero byte or doubled, a file above 15", and for words that are no bytes
+    catalogue-range : NoByte given ⊎ BrokenRule (nameArray given) (word given 0) → numberOf w (catalogueSet w given) ≡ 7
+    unfolding refused
+    catalogue-range why =
+        core-number w h _
+        (test-cases (tableFits nameLimits 16 given)
+        (λ fit.
+        ⊎-elim (λ b. absurd (not-decided-twice (tableFits nameLimits 16 given) fit (no-byte-unfit b)))
+        (λ b. rw (set-core w given fit) (setCatalogue-given (tablesOf w) (nameArray given) (word given 0) (set-broken (ready-says w h .1) b)))
+        why)
+        (λ fit. rw (set-no-bytes w given (ready-says w h .1) fit)))
+
+    -- 7 for no other reason
+    range-catalogue : numberOf w (catalogueSet w given) ≡ 7 → NoByte given ⊎ BrokenRule (nameArray given) (word given 0)
+    range-catalogue e =
+        test-cases (tableFits nameLimits 16 given)
+        (λ fit.
+        test-cases (catalogueOk (nameArray given) (word given 0))
+        (λ rules.
+        let none : numberOf w (catalogueSet w given) ≡ 0 =
+        core-number w h (catalogueSet w given) (ap (λ (a : Returned). a .number) (set-core w given fit) ∙ setCatalogue-given (tablesOf w) (nameArray given) (word given 0) (set-done (ready-says w h .1) (catalogue-says (nameArray given) (word given 0) rules))) in
+        absurd (let z : ⊥ = omega arith in z))
+        (λ rules. inr (rule-broken (nameArray given) (word given 0) rules)))
+        (λ fit. inl (unfit-no-byte fit))
+
+    pub catalogue-seven : (numberOf w (catalogueSet w given) ≡ 7) ↔ (NoByte given ⊎ BrokenRule (nameArray given) (word given 0))
+    catalogue-seven = (range-catalogue, catalogue-range)

@@ -40,7 +40,8 @@ use Rattle.claims.specs.RemovalPlain.{Exited}
 use Rattle.demands.specs.Calls.{statusRead}
 use Rattle.demands.specs.Admitted.{Admitted}
 use Rattle.demands.specs.OneByOne.{alone-caller}
-use Rattle.demands.specs.SpansOneByOne.{aloneSpan, alone-span}
+use Rattle.demands.specs.Carrying.{carrying-caller}
+use Rattle.demands.specs.SpansOneByOne.{aloneSpan, alone-span, ownSpan}
 use Rattle.demands.specs.LoneLock.{Owner, coreRange}
 use Rattle.demands.specs.LoneCall.{FirstConflict}
 use Rattle.demands.specs.LockWords.{Named}
@@ -253,11 +254,16 @@ place-inside (andx-end h a e) = let i = block-inside h in omega arith
 place-inside (andx-next h m e r) = let i = block-inside h in omega arith
 
 -- "the chain's header with the block's command": its sender is the chain's
-pub alone-sender : (connection : ℕ) (s : List ℕ) {spans : List Span} → Reading s spans → (x : Span) → callerOf connection (aloneSpan s x) ≡ callerOf connection s
+alone-sender : (connection : ℕ) (s : List ℕ) {spans : List Span} → Reading s spans → (x : Span) → callerOf connection (aloneSpan s x) ≡ callerOf connection s
 unfolding spanOf
 alone-sender connection s r x =
     let b : Block = record { command = x .command; at = x .place; length = x .size; body = Logoff; next = End } in
     ap (callerOf connection) (sym (alone-span s b)) ∙ alone-caller connection s b (place-inside r)
+
+-- with whatever FID it carries
+pub own-sender : (connection : ℕ) (s : List ℕ) {spans : List Span} → Reading s spans → (just : ℕ) (x : Span) → callerOf connection (ownSpan s just x) ≡ callerOf connection s
+unfolding ownSpan
+own-sender connection s r just x = carrying-caller just (aloneSpan s x) connection ∙ alone-sender connection s r x
 
 -- ---- PROCESS_EXIT
 

@@ -9,10 +9,11 @@ use lib.Dec.{eqb, ltb}
 use native.Mathlib.Decide.{ℕ-discrete}
 use borrow.Author.Tests.{eqb-true, not-false}
 use Rattle.lists.specs.Truth.{neither-holds}
+use Rattle.records.specs.declared.Name.{Name}
 use Rattle.records.specs.declared.Tables.{Tables}
 use Rattle.soundness.specs.Sound.{sound}
-use Rattle.host.specs.HostCall.{noTables, addSession, addTree, addOpen, loadFile, loadMemory, dropConnection}
-use Rattle.invariants.specs.HostSound.{start-sound, addSession-sound, addTree-sound, addOpen-sound, loadFile-sound, dropConnection-sound, addSession-shaped, addTree-shaped, addOpen-shaped, loadFile-shaped, dropConnection-shaped}
+use Rattle.host.specs.HostCall.{noTables, addSession, addTree, addOpen, loadFile, loadMemory, dropConnection, setCatalogue}
+use Rattle.invariants.specs.HostSound.{start-sound, addSession-sound, addTree-sound, addOpen-sound, loadFile-sound, dropConnection-sound, setCatalogue-sound, addSession-shaped, addTree-shaped, addOpen-shaped, loadFile-shaped, dropConnection-shaped, setCatalogue-shaped}
 use Rattle.claims.specs.HostAnswer.{loadMemory-refused}
 use Rattle.claims.specs.LoadBytes.{loadMemory-done}
 use Rattle.chain.specs.Header.{dropped}
@@ -25,7 +26,7 @@ use Rattle.invariants.specs.Fit.{take-message-good}
 -- the tables to start from
 pub start-good : Good noTables
 unfolding noTables
-start-good = record { sound = start-sound; shaped = record { sessions16 = refl; trees32 = refl; opens64 = refl; locks128 = refl; files16 = refl } }
+start-good = record { sound = start-sound; shaped = record { sessions16 = refl; trees32 = refl; opens64 = refl; locks128 = refl; files16 = refl; names16 = refl } }
 
 -- ---- each host call, done or refused: sound tables stay sound, arrays keep their room
 
@@ -45,6 +46,9 @@ module _ (t : Tables) (g : Good t) where
 
   pub dropConnection-good : (connection : ℕ) → Good (dropConnection t connection .tables)
   dropConnection-good c = record { sound = dropConnection-sound t (g .sound) c; shaped = dropConnection-shaped t (g .shaped) c }
+
+  pub setCatalogue-good : (names : List Name) (count : ℕ) → length names ≡ 16 → Good (setCatalogue t names count .tables)
+  setCatalogue-good names count room = record { sound = setCatalogue-sound t (g .sound) names count; shaped = setCatalogue-shaped t (g .shaped) names count room }
 
 -- ---- the file memory's length
 
@@ -73,13 +77,14 @@ take-message-memory connection s t memory room g =
 -- ---- one call
 
 -- a call on these tables, the host lending that file memory, and the tables and the file memory that it leaves, done or refused: "add a session, tree or open;
--- load a file; drop a connection; take a message with its connection number"
+-- load a file; drop a connection; take a message with its connection number"; document 02, CR 6: "a catalogue, set whole by the host", of 16 records
 pub data HostCall (t : Tables) (memory : List ℕ) : Tables → List ℕ → Type 0 where
   add-session : (connection : ℕ) → HostCall t memory (addSession t connection .tables) memory
   add-tree : (uid right : ℕ) → HostCall t memory (addTree t uid right .tables) memory
   add-open : (uid tid process file access : ℕ) → HostCall t memory (addOpen t uid tid process file access .tables) memory
   load : (file : ℕ) (bytes : List ℕ) → HostCall t memory (loadFile t file bytes memory .tables) (loadMemory t file bytes memory)
   drop : (connection : ℕ) → HostCall t memory (dropConnection t connection .tables) memory
+  set-catalogue : (names : List Name) (count : ℕ) → length names ≡ 16 → HostCall t memory (setCatalogue t names count .tables) memory
   message : (connection : ℕ) (s room : List ℕ)
       → HostCall t memory (take-message connection s t memory room .tables) (take-message connection s t memory room .memory)
 
@@ -90,6 +95,7 @@ call-good {t} (add-tree uid right) g = addTree-good t g uid right
 call-good {t} (add-open uid tid process file access) g = addOpen-good t g uid tid process file access
 call-good {t} {memory = memory} (load file bytes) g = loadFile-good t g file bytes memory
 call-good {t} (drop c) g = dropConnection-good t g c
+call-good {t} (set-catalogue names count room) g = setCatalogue-good t g names count room
 call-good {t} {memory = memory} (message c s room) g = take-message-good c s t memory room g
 
 -- and the file memory lent as long as it was
@@ -99,6 +105,7 @@ call-memory (add-tree uid right) g = refl
 call-memory (add-open uid tid process file access) g = refl
 call-memory {t} {memory = memory} (load file bytes) g = loadMemory-length t file bytes memory
 call-memory (drop c) g = refl
+call-memory (set-catalogue names count room) g = refl
 call-memory {t} {memory = memory} (message c s room) g = take-message-memory c s t memory room g
 
 -- ---- all histories

@@ -8,16 +8,19 @@ use mathlib.Core.List.{List}
 use lib.ListN.{length}
 use lib.Dec.{eqb, ltb}
 use borrow.Author.Tests.{not-true}
-use Rattle.lists.specs.Truth.{not-decided-twice, both-hold}
+use Rattle.lists.specs.Truth.{not-decided-twice, both-hold, test-cases}
+use Rattle.records.specs.declared.Name.{Name}
 use Rattle.records.specs.declared.Tables.{Tables}
 use Rattle.soundness.specs.Sound.{sound}
 use Rattle.host.specs.declared.answer.Returned.{Returned}
+use Rattle.host.specs.HostCall.{refused}
 use Rattle.chain.specs.Header.{dropped}
 use Rattle.message.specs.Message.{Taken, notTaken, replied, answered, take-message}
-use Rattle.claims.specs.HostReasons.{SessionReason, session-unsound, session-full, session-done, TreeReason, tree-unsound, tree-range, tree-nobody, tree-full, tree-done, OpenReason, open-unsound, open-range, open-nowhere, open-exceeds, open-full, open-done, LoadReason, load-memory, load-unsound, load-range, load-opened, load-done, DropReason, drop-unsound, drop-done, addSession-reason, addTree-reason, addOpen-reason, loadFile-reason, dropConnection-reason}
+use Rattle.claims.specs.HostReasons.{SessionReason, session-unsound, session-full, session-done, TreeReason, tree-unsound, tree-range, tree-nobody, tree-full, tree-done, OpenReason, open-unsound, open-range, open-nowhere, open-exceeds, open-full, open-done, LoadReason, load-memory, load-unsound, load-range, load-opened, load-done, DropReason, drop-unsound, drop-done, SetReason, set-unsound, set-broken, set-done, addSession-reason, addTree-reason, addOpen-reason, loadFile-reason, dropConnection-reason, setCatalogue-reason}
 use Rattle.invariants.specs.GivenCases.{cond-case}
-use Rattle.tables.specs.Words.{inUseFit, tablesOf}
-use Rattle.boundary.specs.Boundary.{ready, numberOf, sessionAdded, treeAdded, openAdded, connectionDropped, fileLoaded, loadNumberOf, messageTaken, wrongRoom}
+use Rattle.tables.specs.Words.{word, nameArray, nameLimits, tableFits, inUseFit, tablesOf}
+use Rattle.boundary.specs.Boundary.{ready, numberOf, sessionAdded, treeAdded, openAdded, connectionDropped, fileLoaded, loadNumberOf, catalogueSet, messageTaken, wrongRoom}
+use Rattle.boundary.specs.BoundaryLaws.{set-core, set-no-bytes}
 
 -- a call answers another number than 4
 abbrev Takes : ℕ → Type 0
@@ -60,6 +63,11 @@ module _ (t : Tables) (s : sound t ≡ true) where
   drop-takes (drop-unsound f) = contrary f
   drop-takes (drop-done a) = λ e. omega arith
 
+  set-takes : {names : List Name} {count n : ℕ} → SetReason t names count n → Takes n
+  set-takes (set-unsound f) = contrary f
+  set-takes (set-broken a b) = λ e. omega arith
+  set-takes (set-done a b) = λ e. omega arith
+
   message-takes : (connection : ℕ) (m memory room : List ℕ) → Takes (take-message connection m t memory room .number)
   unfolding take-message notTaken replied
   message-takes connection m memory room =
@@ -94,6 +102,14 @@ module _ (w : List ℕ) (h : ready w ≡ true) where
   pub drop-ready : (connection : ℕ) → numberOf w (connectionDropped w connection) ≡ 4 → ⊥
   unfolding connectionDropped
   drop-ready connection = number-takes _ (drop-takes (tablesOf w) (ready-says .1) (dropConnection-reason (tablesOf w) connection))
+
+  pub catalogue-ready : (given : List ℕ) → numberOf w (catalogueSet w given) ≡ 4 → ⊥
+  unfolding refused
+  catalogue-ready given =
+      number-takes _
+      (test-cases (tableFits nameLimits 16 given)
+      (λ fit. rw (set-core w given fit) (set-takes (tablesOf w) (ready-says .1) (setCatalogue-reason (tablesOf w) (nameArray given) (word given 0))))
+      (λ fit. rw (set-no-bytes w given (ready-says .1) fit) (λ e. omega arith)))
 
   pub load-ready : (file : ℕ) (contents memory : List ℕ) → loadNumberOf w file contents memory ≡ 4 → ⊥
   unfolding loadNumberOf fileLoaded

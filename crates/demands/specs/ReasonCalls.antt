@@ -1,5 +1,5 @@
 -- The status in the reply to a message of one command and the one reason for it (document 01, "Refusals on the wire"), said of the call. Assumes nothing.
-use mathlib.Core.Path.{_≡_, refl, sym, _∙_}
+use mathlib.Core.Path.{_≡_, refl, sym, ap, _∙_}
 use mathlib.Core.Logic.{_↔_}
 use Prim.Native.Nat.{ℕ, _/_, _%_}
 use native.Mathlib.Omega.{arith}
@@ -11,7 +11,7 @@ use Rattle.records.specs.declared.Tables.{Tables}
 use Rattle.locks.specs.Wire.{rangeSize}
 use Rattle.claims.specs.Cases.{statusIn}
 use Rattle.chain.specs.Layout.{headerCommand, FIRST, byteCount, fidAfterAndx, lockType, unlockCount, lockCount}
-use Rattle.chain.specs.Grammar.{IsBlock, locking-10, locking-20, read-10, read-12, write-12, write-14, close, logoff, tree-disconnect, process-exit, core-read, core-write, lock-byte-range, unlock-byte-range}
+use Rattle.chain.specs.Grammar.{IsBlock, locking-10, locking-20, read-10, read-12, write-12, write-14, close, logoff, tree-disconnect, process-exit, core-read, core-write, lock-byte-range, unlock-byte-range, open-15}
 use Rattle.chain.specs.Chain.{blocks}
 use Rattle.chain.specs.declared.block.LockingFields.{LockingFields}
 use Rattle.chain.specs.declared.block.Body.the-variants.{Locking as LockingBody}
@@ -22,7 +22,9 @@ use Rattle.message.specs.Caller.{callerOf}
 use Rattle.message.specs.Refusal.{status}
 use Rattle.message.specs.declared.refusal.Status.{Status}
 use Rattle.message.specs.Command.{Given, refused, done, perform}
+use Rattle.message.specs.JustOpened.{NOBODY}
 use Rattle.message.specs.Message.{areaOf, dataOf, Ran, after, afterGiven, run, runChain, answered, take-message}
+use Rattle.invariants.specs.JustOpenedLaws.{run-first}
 use Rattle.demands.specs.Malformed.{length-area}
 use Rattle.demands.specs.OneByOne.{chained-served}
 use Rattle.invariants.specs.Fit.{Fit}
@@ -57,13 +59,14 @@ block-announced (core-read h) area e f same = never cc
 block-announced (core-write h) area e f same = never cc
 block-announced (lock-byte-range h) area e f same = never cc
 block-announced (unlock-byte-range h) area e f same = never cc
+block-announced (open-15 h) area e f same = never cc
 
 -- the status of a message of one command
-given-status : (g : Given) (place : ℕ) (t : Tables) (memory : List ℕ) (rest : ℕ → Tables → List ℕ → Ran) → ((p : ℕ) (u : Tables) (m : List ℕ) → rest p u m .status ≡ status 0 0)
+given-status : (g : Given) (place : ℕ) (t : Tables) (memory : List ℕ) (rest : ℕ → ℕ → Tables → List ℕ → Ran) → ((j p : ℕ) (u : Tables) (m : List ℕ) → rest j p u m .status ≡ status 0 0)
     → afterGiven g [] place t memory rest .status ≡ statusIn g
 unfolding afterGiven after statusIn
 given-status (refused why) place t memory rest h = refl
-given-status (done u m said) place t memory rest h = h _ u m
+given-status (done u m said) place t memory rest h = h _ _ u m
 
 -- its one block is one of the grammar
 pub one-announced : {s : List ℕ} {command at : ℕ} {b : Block} → Chained s command at (b ∷ []) → Announced (b .body) (areaOf s b)
@@ -76,8 +79,8 @@ module _ (connection : ℕ) (s : List ℕ) (b : Block) (e : blocks s ≡ some (b
   unfolding answered runChain blocks run
   call-exact n =
       let chain = read-chained s (headerCommand s) FIRST (b ∷ []) e in
-      let g : answered connection s t memory .status ≡ run (callerOf connection s) s (b ∷ []) FIRST t memory .status = rw (chained-served chain, e) in
-      let same = status-call connection s t memory room fit ∙ g
-      ∙ given-status (perform (callerOf connection s) t memory (b .body) (areaOf s b) (dataOf s b)) FIRST t memory (λ p u m. run (callerOf connection s) s [] p u m) (λ p u m. refl) in
+      let g : answered connection s t memory .status ≡ run (callerOf connection s) s NOBODY (b ∷ []) FIRST t memory .status = rw (chained-served chain, e) in
+      let same = status-call connection s t memory room fit ∙ g ∙ ap (λ (r : Ran). r .status) (run-first (callerOf connection s) s b [] FIRST t memory)
+      ∙ given-status (perform (callerOf connection s) t memory (b .body) (areaOf s b) (dataOf s b)) FIRST t memory (λ j p u m. run (callerOf connection s) s j [] p u m) (λ j p u m. refl) in
       let exact = perform-exact (callerOf connection s) t memory (fit .tables-sound) (b .body) (areaOf s b) (dataOf s b) (one-announced chain) n in
       (λ h. exact .0 (sym same ∙ h), λ r. same ∙ exact .1 r)

@@ -1,19 +1,19 @@
 -- What stands in the reply room after a reply of one block (document 01, "Reply blocks"): a READ's data and the words for them, a WRITE's count; and the blocks of the
--- core commands (document 02, CR 3, as in source documents 000 and 004). Assumes nothing.
+-- core commands (document 02, CR 3, as in source documents 000 and 004) and of OPEN_ANDX (CR 6, as in source document 001). Assumes nothing.
 use mathlib.Core.Path.{_≡_, sym, ap, _∙_}
 use Prim.Native.Nat.{ℕ, _+_, _/_, _%_, _≤_, _<_}
 use native.Mathlib.Omega.{arith}
-use mathlib.Core.List.{List, _++_, append-assoc}
+use mathlib.Core.List.{List, [], _∷_, _++_, append-assoc}
 use lib.ListN.{length, take, drop, getD, replicate}
 use lib.Seq.{take-append-seam, drop-append-add, getD-append-add}
 use Rattle.lists.specs.Put.{put}
-use Rattle.wire.specs.LittleEndian.{byteAt, le16At}
+use Rattle.wire.specs.LittleEndian.{byteAt, le16At, le32At}
 use Rattle.chain.specs.Layout.{FIRST}
 use Rattle.message.specs.Refusal.{status}
 use Rattle.message.specs.declared.refusal.Status.{Status}
 use Rattle.message.specs.declared.link.Link.the-variants.{None as noLink}
-use Rattle.message.specs.Command.{Said, read, wrote, plain, coreRead, coreWrote}
-use Rattle.message.specs.Reply.{two, linkWords, replyHeader, replyBlock, refusedBlock}
+use Rattle.message.specs.Command.{Said, read, wrote, plain, coreRead, coreWrote, opened}
+use Rattle.message.specs.Reply.{two, four, linkWords, replyHeader, replyBlock, refusedBlock}
 use Rattle.invariants.specs.ReplySize.{length-header}
 
 -- ---- the core commands' blocks, which stand at 32
@@ -38,6 +38,20 @@ pub record CoreWriteBlock (count : ℕ) (room : List ℕ) : Type 0 where
 pub record PlainBlock (room : List ℕ) : Type 0 where
   pub no-words : byteAt room 32 ≡ 0
   pub no-bytes : le16At room 33 ≡ 0
+
+-- ---- OPEN_ANDX's, which stands at 32: 15 words: AndX, of which nothing follows; FID; attributes and time; size; access; resource type and pipe status; OpenResults; reserved.
+-- No bytes
+pub record OpenBlock (fid size access results : ℕ) (room : List ℕ) : Type 0 where
+  pub words : byteAt room 32 ≡ 15
+  pub none-follows : take 4 (drop 33 room) ≡ 0xFF ∷ 0 ∷ 0 ∷ 0 ∷ []
+  pub fid-said : le16At room 37 ≡ fid
+  pub times-zero : take 6 (drop 39 room) ≡ replicate 6 0
+  pub size-said : le32At room 45 ≡ size
+  pub access-said : le16At room 49 ≡ access
+  pub type-zero : take 4 (drop 51 room) ≡ replicate 4 0
+  pub results-said : le16At room 55 ≡ results
+  pub rest-zero : take 6 (drop 57 room) ≡ replicate 6 0
+  pub no-bytes : le16At room 63 ≡ 0
 
 -- "Blocks stand end to end from 32": a reply of that Status and block, laid over the front of the room, and a byte of the block
 module _ (s : List ℕ) (long : 32 ≤ length s) (room : List ℕ) (n : Status) (block : List ℕ) where
@@ -161,3 +175,35 @@ module _ (s : List ℕ) (long : 32 ≤ length s) (room : List ℕ) where
       let k : byteAt (answer s long room plain) 33 ≡ 0 = at 1 in
       let k′ : byteAt (answer s long room plain) 34 ≡ 0 = at 2 in
       record { no-words = at 0; no-bytes = omega arith }
+
+  -- OPEN_ANDX
+  pub open-block : (fid size access results : ℕ) → fid < 65536 → size < 65536 → access < 65536 → results < 65536
+      → OpenBlock fid size access results (answer s long room (opened fid size access results))
+  unfolding le16At le32At replyBlock linkWords two four
+  open-block fid size access results few small low one =
+      let said = opened fid size access results in
+      let at = answer-byte s long room said in
+      let n : byteAt (answer s long room said) 37 ≡ fid % 256 = at 5 in
+      let n′ : byteAt (answer s long room said) 38 ≡ fid / 256 % 256 = at 6 in
+      let k : byteAt (answer s long room said) 45 ≡ size % 256 = at 13 in
+      let k′ : byteAt (answer s long room said) 46 ≡ size / 256 % 256 = at 14 in
+      let l : byteAt (answer s long room said) 47 ≡ size / 65536 % 256 = at 15 in
+      let l′ : byteAt (answer s long room said) 48 ≡ size / 65536 / 256 % 256 = at 16 in
+      let a : byteAt (answer s long room said) 49 ≡ access % 256 = at 17 in
+      let a′ : byteAt (answer s long room said) 50 ≡ access / 256 % 256 = at 18 in
+      let r : byteAt (answer s long room said) 55 ≡ results % 256 = at 23 in
+      let r′ : byteAt (answer s long room said) 56 ≡ results / 256 % 256 = at 24 in
+      let z : byteAt (answer s long room said) 63 ≡ 0 = at 31 in
+      let z′ : byteAt (answer s long room said) 64 ≡ 0 = at 32 in
+      record {
+        words = at 0;
+        none-follows = ap (take 4) (answer-behind s long room said 1);
+        fid-said = omega arith;
+        times-zero = ap (take 6) (answer-behind s long room said 7);
+        size-said = omega arith;
+        access-said = omega arith;
+        type-zero = ap (take 4) (answer-behind s long room said 19);
+        results-said = omega arith;
+        rest-zero = ap (take 6) (answer-behind s long room said 25);
+        no-bytes = omega arith;
+      }

@@ -16,6 +16,7 @@ use Rattle.records.specs.declared.Open.{Open}
 use Rattle.records.specs.declared.Tables.{Tables}
 use Rattle.records.specs.Held.{withFiles}
 use Rattle.claims.specs.SoundPlain.{sound-plain}
+use Rattle.claims.specs.RemovalPlain.{CatalogueStands}
 use Rattle.invariants.specs.SoundParts.{sound-says}
 use Rattle.invariants.specs.Sound.{Good, size-most}
 use Rattle.invariants.specs.Fit.{Fit}
@@ -34,8 +35,8 @@ use Rattle.message.specs.Command.{Said, done, doSetSize, doCoreWrite}
 use Rattle.message.specs.Message.{Taken, take-message}
 use Rattle.demands.specs.Calls.{statusRead}
 use Rattle.demands.specs.Admitted.{Admitted}
-use Rattle.demands.specs.FileBytes.{Grew, contents-byte, contents-length, contents-same, file-inside, grown-bytes, sized-size, sized-others, sized-same}
-use Rattle.demands.specs.FileCommands.{set-size-left}
+use Rattle.demands.specs.FileBytes.{Grew, contents-byte, contents-length, contents-same, file-inside, grown-bytes, sized-size, sized-others, sized-records, sized-same}
+use Rattle.demands.specs.FileCommands.{catalogue-kept, set-size-left}
 use Rattle.demands.specs.ReplyBytes.{CoreWriteBlock}
 use Rattle.demands.specs.CallEffects.{core-write-done, core-write-open, core-write-reply}
 use Rattle.demands.specs.WireFields.{coreWriteFields, one-first, first-body}
@@ -44,10 +45,11 @@ use Rattle.demands.specs.WireFields.{coreWriteFields, one-first, first-b
 
 -- the tables and the file memory after a file's size was set
 pub record SizeSet (t after : Tables) (file size : ℕ) (memory left : List ℕ) : Type 0 where
-  -- its size is that; no other size, no other table and no other record is changed
+  -- its size is that; no other size, no other table, the catalogue among them, and no other record is changed
   pub new-size : sizeOf after file ≡ size
   pub other-sizes : (i : ℕ) → (i ≡ file → ⊥) → sizeOf after i ≡ sizeOf t i
   pub whole : after ≡ withFiles t (set (t .files) file (record { size = size }))
+  pub catalogue : CatalogueStands t after
   -- "with zeros where it grows": its bytes are the old ones below the size, and then zeros
   pub new-contents : contents after left file ≡ take size (contents t memory file ++ replicate (size - sizeOf t file) 0)
   -- of the file memory the bytes from the old size up to the new one are 0, and every other one is as it was
@@ -129,6 +131,7 @@ module _ (t : Tables) (memory : List ℕ) (file size : ℕ) (g : Good t) (full :
         new-size = sized;
         other-sizes = sized-others t file size;
         whole = refl;
+        catalogue = catalogue-kept t (withSize t file size) (sized-records t file size);
         new-contents = set-contents;
         bytes-left = grew;
         other-contents = others-stand;

@@ -9,7 +9,7 @@ use mathlib.Core.Bool.{Bool, true, false, cond, not, _||_}
 use mathlib.Core.List.{List, [], _++_}
 use mathlib.Core.Option.{Option, none, some}
 use lib.ListN.{length, drop, getD}
-use lib.Dec.{ltb, eqb}
+use lib.Dec.{leb, ltb, eqb}
 use borrow.Author.Tests.{ltb-true, ltb-false, eq-eqb}
 use Rattle.lists.specs.Truth.{decided}
 use Rattle.lists.specs.Walk.{any, found}
@@ -17,14 +17,15 @@ use Rattle.lists.specs.declared.Found.{Found}
 use Rattle.lists.specs.declared.Found.the-variants.{At, Nothing}
 use Rattle.records.specs.declared.Open.{Open}
 use Rattle.records.specs.declared.Tables.{Tables}
-use Rattle.records.specs.Empty.{noOpen}
-use Rattle.records.specs.Held.{sessionsOf, treesOf, opensOf}
+use Rattle.records.specs.Empty.{noOpen, noName}
+use Rattle.records.specs.Held.{sessionsOf, treesOf, opensOf, namesOf, withOpens}
 use Rattle.locks.specs.declared.types.Ask.{Ask}
 use Rattle.locks.specs.declared.types.Locking.{Locking}
 use Rattle.locks.specs.declared.types.Outcome.{Outcome}
 use Rattle.locks.specs.declared.types.Outcome.the-variants.{Done, Malformed as BadRanges, NoSuchLock as NoLock, PassesEnd as PastEnd, Conflict as InWay, NoRecord as NoRoom}
+use Rattle.catalogue.specs.Name.{isNamed}
 use Rattle.soundness.specs.Lookup.{isTree}
-use Rattle.soundness.specs.Sound.{sound}
+use Rattle.soundness.specs.Sound.{sound, holdsOpen}
 use Rattle.removal.specs.Removal.{remove}
 use Rattle.removal.specs.declared.Gone.{Gone}
 use Rattle.claims.specs.RemovalPlain.{files-stand}
@@ -40,20 +41,24 @@ use Rattle.chain.specs.declared.block.LockingFields.{LockingFields}
 use Rattle.chain.specs.declared.block.ReadFields.{ReadFields}
 use Rattle.chain.specs.declared.block.WriteFields.{WriteFields}
 use Rattle.chain.specs.declared.block.RangeFields.{RangeFields}
+use Rattle.chain.specs.declared.block.OpenFields.{OpenFields}
 use Rattle.chain.specs.declared.block.Body.{Body}
-use Rattle.chain.specs.declared.block.Body.the-variants.{Locking as LockingBody, Read as ReadBody, Write as WriteBody, Close, Logoff, TreeDisconnect, ProcessExit, CoreRead as CoreReadBody, CoreWrite as CoreWriteBody, LockByteRange, UnlockByteRange}
+use Rattle.chain.specs.declared.block.Body.the-variants.{Locking as LockingBody, Read as ReadBody, Write as WriteBody, Close, Logoff, TreeDisconnect, ProcessExit, CoreRead as CoreReadBody, CoreWrite as CoreWriteBody, LockByteRange, UnlockByteRange, Open as OpenBody}
 use Rattle.chain.specs.declared.block.Block.{Block}
 use Rattle.chain.specs.declared.block.Next.{Next}
 use Rattle.message.specs.Caller.{callerOf}
 use Rattle.message.specs.declared.caller.Caller.{Caller}
 use Rattle.message.specs.Refusal.{statusOf}
 use Rattle.message.specs.declared.refusal.Refusal.{Refusal}
-use Rattle.message.specs.declared.refusal.Refusal.the-variants.{NotServed, NotSentence, NoSession, NoTree, NoAccess, LockType, NoSpace}
+use Rattle.message.specs.declared.refusal.Refusal.the-variants.{NotServed, NotSentence, NoSession, NoTree, NoAccess, LockType, NoSpace, OpenMode, BadAccess, BadShare, NoFids}
 use Rattle.message.specs.declared.refusal.Status.{Status}
 use Rattle.message.specs.Contents.{sizeOf, contents, readBytes, grown, written, withSize, resized}
-use Rattle.message.specs.Command.{Said, Given, refused, done, isSession, withSession, withTree, isOpen, openAt, withOpen, servedType, withLockList, lockingEnd, lockingAfter, doLocking, unlessBarred, barring, doRead, writing, endsPast, doWrite, asCore, doRange, doSetSize, doCoreWrite, perform}
+use Rattle.message.specs.Command.{Said, Given, refused, done, isSession, withSession, withTree, isOpen, openAt, withOpen, servedType, withLockList, lockingEnd, lockingAfter, doLocking, unlessBarred, barring, doRead, writing, endsPast, doWrite, asCore, doRange, doSetSize, doCoreWrite, codesServed, openBy, openFile, openNamed, doOpen, perform}
+use Rattle.message.specs.Sharing.{keptOut}
+use Rattle.message.specs.JustOpened.{NOBODY, openedBy, bodyMeant}
 use Rattle.message.specs.Reply.{replyBlock, replySize}
 use Rattle.message.specs.Message.{areaOf, dataOf, Ran, after, linkTo, afterGiven, run, served, onlyStatus, runChain, answered, replyOf, Taken, notTaken, replied, take-message}
+use Rattle.demands.specs.LockWords.{never}
 use Rattle.demands.specs.MemorySize.{write-ends}
 use Rattle.demands.specs.FileBytes.{contents-byte, contents-same, Wrote, written-bytes, grown-bytes, Grew, written-nothing, resized-nothing, sized-size, sized-others, resized-size, resized-others}
 use Rattle.demands.specs.FileCommands.{data-counted, core-counted}
@@ -237,6 +242,22 @@ block-filled : {s : List ℕ} {at command : ℕ} → IsBlock s at command → (n
     → Filled (bodyAt s command at) (areaOf s (blockAt s command at next)) (dataOf s (blockAt s command at next))
 block-filled h next = record { write-filled = data-counted h next; core-filled = core-counted h next }
 
+-- whatever FID is meant
+meant-filled : (just : ℕ) (b : Body) (area bytes : List ℕ) → Filled b area bytes → Filled (bodyMeant just b) area bytes
+unfolding bodyMeant
+meant-filled just (LockingBody f) area bytes h = h
+meant-filled just (ReadBody f) area bytes h = record { write-filled = λ g e. never cc; core-filled = λ g e. never cc }
+meant-filled just (WriteBody f) area bytes h = h
+meant-filled just (Close fid) area bytes h = h
+meant-filled just Logoff area bytes h = h
+meant-filled just TreeDisconnect area bytes h = h
+meant-filled just ProcessExit area bytes h = h
+meant-filled just (CoreReadBody f) area bytes h = h
+meant-filled just (CoreWriteBody f) area bytes h = h
+meant-filled just (LockByteRange f) area bytes h = h
+meant-filled just (UnlockByteRange f) area bytes h = h
+meant-filled just (OpenBody f) area bytes h = h
+
 module _ (c : Caller) (t : Tables) (g : Good t) (memory other : List ℕ) (s : Shown t memory other) where
   locking-alike : (f : LockingFields) (area : List ℕ) → GivenAlike (doLocking c t memory f area) (doLocking c t other f area)
   unfolding doLocking lockingAfter
@@ -298,6 +319,25 @@ module _ (c : Caller) (t : Tables) (g : Good t) (memory other : List ℕ) (s : S
   unfolding doRange
   range-alike f unlocks locks = core-alike (locking-alike _ _)
 
+  -- an OPEN_ANDX looks at no file byte
+  named-alike : (f : OpenFields) (k : Found) → GivenAlike (openNamed c t memory f k) (openNamed c t other f k)
+  unfolding openNamed openFile withOpens
+  named-alike f (At k) =
+      both-cond GivenAlike (any (holdsOpen (openBy c t f (getD (namesOf t) k noName .file))) (treesOf t)) _ (refused NoAccess) _ (refused NoAccess)
+      (λ _. both-cond GivenAlike (any (keptOut (getD (namesOf t) k noName .file) (f .access) (f .sharing)) (opensOf t)) (refused BadShare) _ (refused BadShare) _ (λ _. both-refused)
+      (λ _. both-cond GivenAlike (leb 64 (t .nopens)) (refused NoFids) _ (refused NoFids) _ (λ _. both-refused) (λ _. both-done (files-shown refl s))))
+      (λ _. both-refused)
+  named-alike f Nothing = both-refused
+
+  opening-alike : (f : OpenFields) (name : List ℕ) → GivenAlike (doOpen c t memory f name) (doOpen c t other f name)
+  unfolding doOpen
+  opening-alike f name =
+      tree-alike c t _ _
+      (both-cond GivenAlike (eqb (f .mode) 1) _ (refused OpenMode) _ (refused OpenMode)
+      (λ _. both-cond GivenAlike (codesServed (f .access) (f .sharing)) _ (refused BadAccess) _ (refused BadAccess)
+      (λ _. named-alike f (found (isNamed name) (namesOf t))) (λ _. both-refused))
+      (λ _. both-refused))
+
   -- a removal leaves the sizes
   gone-alike : (gone : Gone) (said : Said) → GivenAlike (done (remove gone t) memory said) (done (remove gone t) other said)
   gone-alike gone said = both-done (files-shown (files-stand gone t) s)
@@ -316,6 +356,7 @@ module _ (c : Caller) (t : Tables) (g : Good t) (memory other : List ℕ) (s : S
   perform-alike (CoreWriteBody f) area bytes n = core-write-alike f (drop 3 area) (n .core-filled f refl)
   perform-alike (LockByteRange f) area bytes n = range-alike f 0 1
   perform-alike (UnlockByteRange f) area bytes n = range-alike f 1 0
+  perform-alike (OpenBody f) area bytes n = opening-alike f _
 
 -- ---- a chain
 
@@ -327,13 +368,13 @@ pub record RanAlike (r r′ : Ran) : Type 0 where
   pub same-blocks : r .blocks ≡ r′ .blocks
   pub shown : Shown (r .tables) (r .memory) (r′ .memory)
 
-after-alike : {d d′ : Given} → GivenAlike d d′ → Keeps d → (bs : List Block) (place : ℕ) (t : Tables) (memory other : List ℕ) (rest : ℕ → Tables → List ℕ → Ran) → Shown t memory other
-    → ((p : ℕ) (u : Tables) (m m′ : List ℕ) → Good u → Shown u m m′ → RanAlike (rest p u m) (rest p u m′))
+after-alike : {d d′ : Given} → GivenAlike d d′ → Keeps d → (bs : List Block) (place : ℕ) (t : Tables) (memory other : List ℕ) (rest : ℕ → ℕ → Tables → List ℕ → Ran) → Shown t memory other
+    → ((j p : ℕ) (u : Tables) (m m′ : List ℕ) → Good u → Shown u m m′ → RanAlike (rest j p u m) (rest j p u m′))
     → RanAlike (afterGiven d bs place t memory rest) (afterGiven d′ bs place t other rest)
 unfolding afterGiven after
 after-alike both-refused k bs place t memory other rest s f = record { same-status = refl; same-holder = refl; same-tables = refl; same-blocks = refl; shown = s }
 after-alike (both-done {t = u} {memory = m} {other = m′} {said} h) k bs place t memory other rest s f =
-    let r = f (place + replySize said) u m m′ (keeps-good k) h in
+    let r = f (openedBy said) (place + replySize said) u m m′ (keeps-good k) h in
     record {
       same-status = r .same-status;
       same-holder = r .same-holder;
@@ -343,15 +384,17 @@ after-alike (both-done {t = u} {memory = m} {other = m′} {said} h) k bs place 
     }
 
 -- "command by command"
-pub run-alike : {s : List ℕ} {command at : ℕ} {bs : List Block} (c : Caller) → Chained s command at bs → (place : ℕ) (t : Tables) (memory other : List ℕ) → Good t → Shown t memory other
-    → RanAlike (run c s bs place t memory) (run c s bs place t other)
+pub run-alike : {s : List ℕ} {command at : ℕ} {bs : List Block} (c : Caller) → Chained s command at bs → (just place : ℕ) (t : Tables) (memory other : List ℕ) → Good t → Shown t memory other
+    → RanAlike (run c s just bs place t memory) (run c s just bs place t other)
 unfolding run blockAt
-run-alike {s} c (chained-end {command} {at} h l) place t memory other g shown =
-    after-alike (perform-alike c t g memory other shown (bodyAt s command at) _ _ (block-filled h _)) (perform-keeps t g c memory (bodyAt s command at) _ _) [] place t memory other
-    (λ p u m. run c s [] p u m) shown (λ p u m m′ _ q. record { same-status = refl; same-holder = refl; same-tables = refl; same-blocks = refl; shown = q })
-run-alike {s} c (chained-more {command} {at} {rest = rest} h l r) place t memory other g shown =
-    after-alike (perform-alike c t g memory other shown (bodyAt s command at) _ _ (block-filled h _)) (perform-keeps t g c memory (bodyAt s command at) _ _) rest place t memory other
-    (λ p u m. run c s rest p u m) shown (λ p u m m′ k q. run-alike c r p u m m′ k q)
+run-alike {s} c (chained-end {command} {at} h l) just place t memory other g shown =
+    after-alike (perform-alike c t g memory other shown (bodyMeant just (bodyAt s command at)) _ _ (meant-filled just _ _ _ (block-filled h _)))
+    (perform-keeps t g c memory (bodyMeant just (bodyAt s command at)) _ _) [] place t memory other
+    (λ j p u m. run c s j [] p u m) shown (λ j p u m m′ _ q. record { same-status = refl; same-holder = refl; same-tables = refl; same-blocks = refl; shown = q })
+run-alike {s} c (chained-more {command} {at} {rest = rest} h l r) just place t memory other g shown =
+    after-alike (perform-alike c t g memory other shown (bodyMeant just (bodyAt s command at)) _ _ (meant-filled just _ _ _ (block-filled h _)))
+    (perform-keeps t g c memory (bodyMeant just (bodyAt s command at)) _ _) rest place t memory other
+    (λ j p u m. run c s j rest p u m) shown (λ j p u m m′ k q. run-alike c r j p u m m′ k q)
 
 -- ---- a message
 
@@ -363,7 +406,7 @@ module _ (connection : ℕ) (s : List ℕ) (t : Tables) (memory other : List ℕ
   chain-alike : (o : Option (List Block)) → blocks s ≡ o → RanAlike (runChain (callerOf connection s) s o t memory) (runChain (callerOf connection s) s o t other)
   unfolding runChain blocks
   chain-alike none e = only-alike (statusOf NotSentence)
-  chain-alike (some bs) e = run-alike (callerOf connection s) (read-chained s (headerCommand s) FIRST bs e) FIRST t memory other g shown
+  chain-alike (some bs) e = run-alike (callerOf connection s) (read-chained s (headerCommand s) FIRST bs e) NOBODY FIRST t memory other g shown
 
   pub answered-alike : RanAlike (answered connection s t memory) (answered connection s t other)
   unfolding answered

@@ -26,69 +26,77 @@ use Rattle.readings.specs.ReaderComplete.{reader-complete}
 use Rattle.message.specs.Caller.{callerOf}
 use Rattle.message.specs.Refusal.{status}
 use Rattle.message.specs.declared.refusal.Status.{Status}
-use Rattle.message.specs.Message.{Ran, answered, take-message}
-use Rattle.demands.specs.Alone.{alone}
-use Rattle.demands.specs.OneByOne.{succeeded, sendAll, compared, one-by-one}
+use Rattle.message.specs.Message.{Ran, answered, replyOf, take-message}
+use Rattle.message.specs.JustOpened.{NOBODY}
+use Rattle.demands.specs.Returned.{returnedFid}
+use Rattle.demands.specs.OneByOne.{succeeded, own, sendAll, compared, one-by-one}
 use Rattle.demands.specs.Taken.{not-long, AllFit, none-left, next-fits, all-fit}
 use Rattle.demands.specs.CallsOneByOne.{carriedOut}
 use Rattle.demands.specs.Calls.{statusRead, status-call}
 use Rattle.demands.specs.LoneCall.{lockingArea}
 use Rattle.demands.specs.CommandReasons.{Reason}
 use Rattle.demands.specs.FirstReadings.{reading-exact}
-use Rattle.demands.specs.SpansOneByOne.{aloneSpan, alone-span, callSpans}
-use Rattle.demands.specs.SpansRefused.{sent, calls, AllCarried, none-sent, carried-then, RefusedAt, atFirst, AllLone, lone-none, lone-then, all-lone, carried-succeeds, carried-calls, carried-is, tables-is, memory-is, not-zero, send-on, send-off}
+use Rattle.demands.specs.SpansOneByOne.{ownSpan, own-span, callSpans}
+use Rattle.demands.specs.SpansRefused.{sent, calls, returned, lastReturned, AllCarried, none-sent, carried-then, RefusedAt, atFirst, AllLone, lone-none, lone-then, all-lone, carried-succeeds, carried-calls, carried-is, tables-is, memory-is, returned-is, not-zero, later-just, send-on, send-off}
 
 -- a block's message on these tables and this file memory: good tables, fit to be answered, and read as that block at 32
-pub record SentFit (s small : List ℕ) (b : Span) (t : Tables) (memory : List ℕ) : Type 0 where
+pub record SentFit (s small : List ℕ) (just : ℕ) (b : Span) (t : Tables) (memory : List ℕ) : Type 0 where
   pub good : Good t
-  pub fit : Fit (aloneSpan s b) t memory small
-  pub reads : Reading (aloneSpan s b) (atFirst b ∷ [])
+  pub fit : Fit (ownSpan s just b) t memory small
+  pub reads : Reading (ownSpan s just b) (atFirst b ∷ [])
 
 module _ (connection : ℕ) (s small : List ℕ) where
-  -- each of these, on what the last one left
-  pub data AllSentFit : List Span → Tables → List ℕ → Type 0 where
-    no-more : {t : Tables} {memory : List ℕ} → AllSentFit [] t memory
-    fit-then : {b : Span} {bs : List Span} {t : Tables} {memory : List ℕ} → SentFit s small b t memory
-        → AllSentFit bs (sent connection s small b t memory .tables) (sent connection s small b t memory .memory) → AllSentFit (b ∷ bs) t memory
+  -- each of these, on what the last one left, with the FID that its reply returned
+  pub data AllSentFit : ℕ → List Span → Tables → List ℕ → Type 0 where
+    no-more : {just : ℕ} {t : Tables} {memory : List ℕ} → AllSentFit just [] t memory
+    fit-then : {just : ℕ} {b : Span} {bs : List Span} {t : Tables} {memory : List ℕ} → SentFit s small just b t memory
+        → AllSentFit (returned connection s small just b t memory) bs (sent connection s small just b t memory .tables) (sent connection s small just b t memory .memory)
+        → AllSentFit just (b ∷ bs) t memory
 
   -- one of the reader's blocks, and those behind it
-  one-fit : (b d : Block) (t : Tables) (memory : List ℕ) → Good t → Fit (alone s b) t memory small → blocks (alone s b) ≡ some (d ∷ []) → spanOf d ≡ atFirst (spanOf b)
-      → SentFit s small (spanOf b) t memory
-  one-fit b d t memory g fits one there =
+  one-fit : (just : ℕ) (b d : Block) (t : Tables) (memory : List ℕ) → Good t → Fit (own s just b) t memory small → blocks (own s just b) ≡ some (d ∷ []) → spanOf d ≡ atFirst (spanOf b)
+      → SentFit s small just (spanOf b) t memory
+  one-fit just b d t memory g fits one there =
       record {
         good = g;
-        fit = subst (λ (l : List ℕ). Fit l t memory small) (alone-span s b) fits;
-        reads = subst (λ (l : List ℕ). Reading l (atFirst (spanOf b) ∷ [])) (alone-span s b)
-            (subst (λ (x : Span). Reading (alone s b) (x ∷ [])) there (reader-sound (alone s b) (d ∷ []) one));
+        fit = subst (λ (l : List ℕ). Fit l t memory small) (own-span s just b) fits;
+        reads = subst (λ (l : List ℕ). Reading l (atFirst (spanOf b) ∷ [])) (own-span s just b)
+            (subst (λ (x : Span). Reading (own s just b) (x ∷ [])) there (reader-sound (own s just b) (d ∷ []) one));
       }
 
-  left-fit : (b : Block) (bs : List Span) (t : Tables) (memory : List ℕ) → Fit (alone s b) t memory small
-      → AllSentFit bs (answered connection (alone s b) t memory .tables) (answered connection (alone s b) t memory .memory)
-      → AllSentFit bs (sent connection s small (spanOf b) t memory .tables) (sent connection s small (spanOf b) t memory .memory)
-  left-fit b bs t memory fits more = rw (tables-is connection s small b t memory fits, memory-is connection s small b t memory fits) more
+  left-fit : (just : ℕ) (b : Block) (bs : List Span) (t : Tables) (memory : List ℕ) → Fit (own s just b) t memory small
+      → AllSentFit (returnedFid (replyOf (own s just b) (answered connection (own s just b) t memory))) bs (answered connection (own s just b) t memory .tables)
+      (answered connection (own s just b) t memory .memory)
+      → AllSentFit (returned connection s small just (spanOf b) t memory) bs (sent connection s small just (spanOf b) t memory .tables) (sent connection s small just (spanOf b) t memory .memory)
+  left-fit just b bs t memory fits more =
+      rw (returned-is connection s small just b t memory fits, tables-is connection s small just b t memory fits, memory-is connection s small just b t memory fits) more
 
-  blocks-fit : {bs : List Block} {t : Tables} {memory : List ℕ} → 12292 ≤ length small → AllFit connection s bs t memory → AllLone s bs → Good t → AllSentFit (map spanOf bs) t memory
+  blocks-fit : {just : ℕ} {bs : List Block} {t : Tables} {memory : List ℕ} → 12292 ≤ length small → AllFit connection s just bs t memory → AllLone s bs → Good t
+      → AllSentFit just (map spanOf bs) t memory
   blocks-fit enough none-left lone-none g = no-more
-  blocks-fit {t = t} {memory = memory} enough (next-fits {b} {bs} fit more) (lone-then {d = d} one there rest) g =
-      fit-then (one-fit b d t memory g (fit small enough) one there)
-      (left-fit b (map spanOf bs) t memory (fit small enough) (blocks-fit enough more rest (answered-good connection (alone s b) t memory g)))
+  blocks-fit {t = t} {memory = memory} enough (next-fits {just} {b} {bs} low fit more) (lone-then one rest) g =
+      let d = one just low in
+      fit-then (one-fit just b (d .0) t memory g (fit small enough) (d .1) (d .2))
+      (left-fit just b (map spanOf bs) t memory (fit small enough) (blocks-fit enough more rest (answered-good connection (own s just b) t memory g)))
 
   -- behind those that were carried out the next is such a one
-  pub next-fit : {t : Tables} {memory : List ℕ} (front : List Span) (b : Span) (later : List Span) → AllSentFit (front ++ (b ∷ later)) t memory
-      → AllCarried connection s small front t memory → SentFit s small b (calls connection s small front t memory .tables) (calls connection s small front t memory .memory)
-  unfolding callSpans
+  pub next-fit : {just : ℕ} {t : Tables} {memory : List ℕ} (front : List Span) (b : Span) (later : List Span) → AllSentFit just (front ++ (b ∷ later)) t memory
+      → AllCarried connection s small just front t memory
+      → SentFit s small (lastReturned connection s small just front t memory) b (calls connection s small just front t memory .tables) (calls connection s small just front t memory .memory)
+  unfolding callSpans lastReturned
   next-fit [] b later (fit-then f more) none-sent = f
-  next-fit {t} {memory} (d ∷ front) b later (fit-then f more) (carried-then e rest) = behind-one d front b t memory e (next-fit front b later more rest)
+  next-fit {just} {t} {memory} (d ∷ front) b later (fit-then f more) (carried-then e rest) = behind-one just d front b t memory e (next-fit front b later more rest)
     where
-      behind-one : (d : Span) (front : List Span) (b : Span) (t : Tables) (memory : List ℕ) → carriedOut (sent connection s small d t memory) ≡ true
-          → SentFit s small b (calls connection s small front (sent connection s small d t memory .tables) (sent connection s small d t memory .memory) .tables)
-          (calls connection s small front (sent connection s small d t memory .tables) (sent connection s small d t memory .memory) .memory)
-          → SentFit s small b (calls connection s small (d ∷ front) t memory .tables) (calls connection s small (d ∷ front) t memory .memory)
-      behind-one d front b t memory e f = let k = carried-calls connection s small d front t memory e in rw (k .0, k .1) f
+      behind-one : (just : ℕ) (d : Span) (front : List Span) (b : Span) (t : Tables) (memory : List ℕ) → carriedOut (sent connection s small just d t memory) ≡ true
+          → SentFit s small (lastReturned connection s small (returned connection s small just d t memory) front (sent connection s small just d t memory .tables) (sent connection s small just d t memory .memory)) b
+          (calls connection s small (returned connection s small just d t memory) front (sent connection s small just d t memory .tables) (sent connection s small just d t memory .memory) .tables)
+          (calls connection s small (returned connection s small just d t memory) front (sent connection s small just d t memory .tables) (sent connection s small just d t memory .memory) .memory)
+          → SentFit s small (lastReturned connection s small just (d ∷ front) t memory) b (calls connection s small just (d ∷ front) t memory .tables) (calls connection s small just (d ∷ front) t memory .memory)
+      behind-one just d front b t memory e f = let k = carried-calls connection s small just d front t memory e in rw (k .0, k .1) f
 
 -- "Each is taken by demand 2's definition, same connection, reply room 12,292": of any reading of a message fit to be answered
 pub spans-fit : (connection : ℕ) (s : List ℕ) {spans : List Span} → Reading s spans → (t : Tables) (memory room small : List ℕ) → Good t → Fit s t memory room
-    → length small ≡ 12292 → AllSentFit connection s small spans t memory
+    → length small ≡ 12292 → AllSentFit connection s small NOBODY spans t memory
 unfolding blocks
 spans-fit connection s r t memory room small g fit n =
     let a = reader-complete r in
@@ -118,33 +126,35 @@ carried-exact connection message t memory room fit =
     )
 
 module _ (connection : ℕ) (s small : List ℕ) where
-  carried-by : (b : Block) (bs : List Block) (t : Tables) (memory : List ℕ) → Fit (alone s b) t memory small → sendAll connection s (b ∷ bs) t memory .status ≡ status 0 0
-      → (sendAll connection s bs (answered connection (alone s b) t memory .tables) (answered connection (alone s b) t memory .memory) .status ≡ status 0 0
-      → AllCarried connection s small (map spanOf bs) (answered connection (alone s b) t memory .tables) (answered connection (alone s b) t memory .memory))
-      → AllCarried connection s small (spanOf b ∷ map spanOf bs) t memory
-  carried-by b bs t memory fits z later =
-      elim (decided (succeeded (answered connection (alone s b) t memory .status))) [
+  carried-by : (just : ℕ) (b : Block) (bs : List Block) (t : Tables) (memory : List ℕ) → Fit (own s just b) t memory small → sendAll connection s just (b ∷ bs) t memory .status ≡ status 0 0
+      → (sendAll connection s (later-just connection s small just b bs t memory) bs (answered connection (own s just b) t memory .tables) (answered connection (own s just b) t memory .memory) .status ≡ status 0 0
+      → AllCarried connection s small (later-just connection s small just b bs t memory) (map spanOf bs) (answered connection (own s just b) t memory .tables)
+      (answered connection (own s just b) t memory .memory))
+      → AllCarried connection s small just (spanOf b ∷ map spanOf bs) t memory
+  carried-by just b bs t memory fits z later =
+      elim (decided (succeeded (answered connection (own s just b) t memory .status))) [
         | inl e ↦
-            let k = send-on connection s small b bs t memory e in
-            let rest : AllCarried connection s small (map spanOf bs) (sent connection s small (spanOf b) t memory .tables) (sent connection s small (spanOf b) t memory .memory) =
-            rw (tables-is connection s small b t memory fits, memory-is connection s small b t memory fits) (later (sym (k .0) ∙ z)) in
-            carried-then (carried-is connection s small b t memory fits ∙ e) rest
-        | inr e ↦ absurd (not-zero connection s small b t memory fits e (sym (send-off connection s small b bs t memory e .0) ∙ z))
+            let k = send-on connection s small just b bs t memory e in
+            let rest : AllCarried connection s small (returned connection s small just (spanOf b) t memory) (map spanOf bs) (sent connection s small just (spanOf b) t memory .tables)
+            (sent connection s small just (spanOf b) t memory .memory) =
+            rw (returned-is connection s small just b t memory fits, tables-is connection s small just b t memory fits, memory-is connection s small just b t memory fits) (later (sym (k .0) ∙ z)) in
+            carried-then (carried-is connection s small just b t memory fits ∙ e) rest
+        | inr e ↦ absurd (not-zero connection s small just b t memory fits e (sym (send-off connection s small just b bs t memory e .0) ∙ z))
       ]
 
-  carried-all : {bs : List Block} {t : Tables} {memory : List ℕ} → 12292 ≤ length small → AllFit connection s bs t memory → sendAll connection s bs t memory .status ≡ status 0 0
-      → AllCarried connection s small (map spanOf bs) t memory
+  carried-all : {just : ℕ} {bs : List Block} {t : Tables} {memory : List ℕ} → 12292 ≤ length small → AllFit connection s just bs t memory
+      → sendAll connection s just bs t memory .status ≡ status 0 0 → AllCarried connection s small just (map spanOf bs) t memory
   carried-all enough none-left z = none-sent
-  carried-all {t = t} {memory = memory} enough (next-fits {b} {bs} fit more) z = carried-by b bs t memory (fit small enough) z (λ y. carried-all enough more y)
+  carried-all {t = t} {memory = memory} enough (next-fits {just} {b} {bs} low fit more) z = carried-by just b bs t memory (fit small enough) z (λ y. carried-all enough more y)
 
 -- of any reading of a message fit to be answered whose reply's Status is 0/0 every block's message is carried out, on what the last one left
 pub spans-carried : (connection : ℕ) (s : List ℕ) {spans : List Span} → Reading s spans → (t : Tables) (memory room small : List ℕ) → Good t → Fit s t memory room
-    → length small ≡ 12292 → statusRead (take-message connection s t memory room .room) ≡ status 0 0 → AllCarried connection s small spans t memory
+    → length small ≡ 12292 → statusRead (take-message connection s t memory room .room) ≡ status 0 0 → AllCarried connection s small NOBODY spans t memory
 unfolding compared
 spans-carried connection s r t memory room small g fit n z =
     let a = reader-complete r in
     let enough : 12292 ≤ length small = omega arith in
-    let same : statusRead (take-message connection s t memory room .room) ≡ sendAll connection s (a .0) t memory .status =
+    let same : statusRead (take-message connection s t memory room .room) ≡ sendAll connection s NOBODY (a .0) t memory .status =
     status-call connection s t memory room fit ∙ ap (λ (x : Ran). x .status) (one-by-one connection s (a .0) (a .1) (not-long s (fit .not-dropped)) t memory) in
     rw (a .2) at (carried-all connection s small enough (all-fit connection s (a .0) (a .1) (fit .not-dropped) t memory g (fit .memory-whole)) (sym same ∙ z))
 
@@ -154,14 +164,14 @@ spans-carried connection s r t memory room small g fit n z =
 -- what those before it left
 pub refused-reason : (connection : ℕ) (s : List ℕ) {spans : List Span} → Reading s spans → (t : Tables) (memory room small : List ℕ) → Good t → Fit s t memory room
     → length small ≡ 12292
-    → (q : RefusedAt connection s small spans t memory (statusRead (take-message connection s t memory room .room)) (take-message connection s t memory room .holder)
+    → (q : RefusedAt connection s small NOBODY spans t memory (statusRead (take-message connection s t memory room .room)) (take-message connection s t memory room .holder)
     (take-message connection s t memory room .tables) (take-message connection s t memory room .memory))
-    → Reason (callerOf connection (aloneSpan s (q .command))) (take-message connection s t memory room .tables) (lockingArea (aloneSpan s (q .command)))
-    (bodyAt (aloneSpan s (q .command)) (headerCommand (aloneSpan s (q .command))) FIRST) (statusRead (take-message connection s t memory room .room))
+    → Reason (callerOf connection (ownSpan s (lastReturned connection s small NOBODY (q .front) t memory) (q .command))) (take-message connection s t memory room .tables) (lockingArea (ownSpan s (lastReturned connection s small NOBODY (q .front) t memory) (q .command)))
+    (bodyAt (ownSpan s (lastReturned connection s small NOBODY (q .front) t memory) (q .command)) (headerCommand (ownSpan s (lastReturned connection s small NOBODY (q .front) t memory) (q .command))) FIRST) (statusRead (take-message connection s t memory room .room))
 refused-reason connection s {spans} r t memory room small g fit n q =
-    let all = subst (λ (l : List Span). AllSentFit connection s small l t memory) (q .split) (spans-fit connection s r t memory room small g fit n) in
+    let all = subst (λ (l : List Span). AllSentFit connection s small NOBODY l t memory) (q .split) (spans-fit connection s r t memory room small g fit n) in
     let f = next-fit connection s small (q .front) (q .command) (q .later) all (q .front-carried) in
-    let why = reading-exact connection (aloneSpan s (q .command)) (f .reads) (calls connection s small (q .front) t memory .tables) (calls connection s small (q .front) t memory .memory) small (f .fit)
+    let why = reading-exact connection (ownSpan s (lastReturned connection s small NOBODY (q .front) t memory) (q .command)) (f .reads) (calls connection s small NOBODY (q .front) t memory .tables) (calls connection s small NOBODY (q .front) t memory .memory) small (f .fit)
     (statusRead (take-message connection s t memory room .room)) .0 (q .status-so) in
-    subst (λ (x : Tables). Reason (callerOf connection (aloneSpan s (q .command))) x (lockingArea (aloneSpan s (q .command)))
-    (bodyAt (aloneSpan s (q .command)) (headerCommand (aloneSpan s (q .command))) FIRST) (statusRead (take-message connection s t memory room .room))) (sym (q .tables-left)) why
+    subst (λ (x : Tables). Reason (callerOf connection (ownSpan s (lastReturned connection s small NOBODY (q .front) t memory) (q .command))) x (lockingArea (ownSpan s (lastReturned connection s small NOBODY (q .front) t memory) (q .command)))
+    (bodyAt (ownSpan s (lastReturned connection s small NOBODY (q .front) t memory) (q .command)) (headerCommand (ownSpan s (lastReturned connection s small NOBODY (q .front) t memory) (q .command))) FIRST) (statusRead (take-message connection s t memory room .room))) (sym (q .tables-left)) why

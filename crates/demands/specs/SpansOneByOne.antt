@@ -15,6 +15,10 @@ use Rattle.invariants.specs.Fit.{Fit}
 use Rattle.message.specs.declared.refusal.HeldBy.the-variants.{Nobody}
 use Rattle.message.specs.Message.{Taken, take-message}
 use Rattle.demands.specs.Alone.{endSet, dataSet, aloneBlock, alone}
+use Rattle.message.specs.JustOpened.{NOBODY}
+use Rattle.demands.specs.Returned.{returnedFid}
+use Rattle.demands.specs.Carrying.{carrying}
+use Rattle.demands.specs.OneByOne.{own}
 use Rattle.demands.specs.CallsOneByOne.{Calls, replyIn, lastCall, callThen, carriedOut, callOn, callAll, comparedCall}
 use Rattle.demands.specs.Calls.{reading-one-by-one}
 
@@ -25,42 +29,51 @@ aloneSpan s b =
     set (take 32 s) 4 (b .command)
     ++ dataSet (b .command) (dataOffset s (b .place) - (b .place - 32)) (endSet (b .command) (take (b .size) (drop (b .place) s)))
 
--- it is the message of the reader's block
+-- "for 0xFFFF, and only then, demand 3's separate READ carries the FID returned": with `just` in place of 0xFFFF
+unfoldable pub ownSpan : List ℕ → ℕ → Span → List ℕ
+ownSpan s just b = carrying just (aloneSpan s b)
+
+-- they are the messages of the reader's block
 pub alone-span : (s : List ℕ) (b : Block) → alone s b ≡ aloneSpan s (spanOf b)
 unfolding alone aloneBlock aloneSpan spanOf
 alone-span s b = refl
 
--- "It stops after the first one refused (Status not 0) or the last block."
-unfoldable pub callSpanOn : Taken → List Span → (Tables → List ℕ → Calls) → Calls
-callSpanOn r [] rest = lastCall r
-callSpanOn r (b ∷ bs) rest = cond (carriedOut r) (callThen (replyIn r) (rest (r .tables) (r .memory))) (lastCall r)
+pub own-span : (s : List ℕ) (just : ℕ) (b : Block) → own s just b ≡ ownSpan s just (spanOf b)
+unfolding own ownSpan
+own-span s just b = ap (carrying just) (alone-span s b)
 
--- the messages of these blocks, one by one: "The first gets the sound tables and files that the chain got, each next those the last one left"
-unfoldable pub callSpans : ℕ → List ℕ → List ℕ → List Span → Tables → List ℕ → Calls
-callSpans connection s room [] t memory = record { number = 0; holder = Nobody; tables = t; memory = memory; replies = [] }
-callSpans connection s room (b ∷ bs) t memory =
-    callSpanOn (take-message connection (aloneSpan s b) t memory room) bs (λ u m. callSpans connection s room bs u m)
+-- "It stops after the first one refused (Status not 0) or the last block."
+unfoldable pub callSpanOn : Taken → List Span → (ℕ → Tables → List ℕ → Calls) → Calls
+callSpanOn r [] rest = lastCall r
+callSpanOn r (b ∷ bs) rest = cond (carriedOut r) (callThen (replyIn r) (rest (returnedFid (replyIn r)) (r .tables) (r .memory))) (lastCall r)
+
+-- the messages of these blocks, one by one: "The first gets the sound tables and files that the chain got, each next those the last one left", and the FID that its
+-- reply returned
+unfoldable pub callSpans : ℕ → List ℕ → List ℕ → ℕ → List Span → Tables → List ℕ → Calls
+callSpans connection s room just [] t memory = record { number = 0; holder = Nobody; tables = t; memory = memory; replies = [] }
+callSpans connection s room just (b ∷ bs) t memory =
+    callSpanOn (take-message connection (ownSpan s just b) t memory room) bs (λ j u m. callSpans connection s room j bs u m)
 
 -- they are those of the reader's blocks
-same-on : (r : Taken) (bs : List Block) (f g : Tables → List ℕ → Calls) → f (r .tables) (r .memory) ≡ g (r .tables) (r .memory)
+same-on : (r : Taken) (bs : List Block) (f g : ℕ → Tables → List ℕ → Calls) → f (returnedFid (replyIn r)) (r .tables) (r .memory) ≡ g (returnedFid (replyIn r)) (r .tables) (r .memory)
     → callOn r bs f ≡ callSpanOn r (map spanOf bs) g
 unfolding callOn callSpanOn
 same-on r [] f g e = refl
 same-on r (b ∷ bs) f g e = rw e
 
-pub calls-spans : (connection : ℕ) (s room : List ℕ) (bs : List Block) (t : Tables) (memory : List ℕ)
-    → callAll connection s room bs t memory ≡ callSpans connection s room (map spanOf bs) t memory
+pub calls-spans : (connection : ℕ) (s room : List ℕ) (just : ℕ) (bs : List Block) (t : Tables) (memory : List ℕ)
+    → callAll connection s room just bs t memory ≡ callSpans connection s room just (map spanOf bs) t memory
 unfolding callAll callSpans
-calls-spans connection s room [] t memory = refl
-calls-spans connection s room (b ∷ bs) t memory =
-    same-on (take-message connection (alone s b) t memory room) bs (λ u m. callAll connection s room bs u m) (λ u m. callSpans connection s room (map spanOf bs) u m)
-    (calls-spans connection s room bs _ _)
-    ∙ ap (λ (l : List ℕ). callSpanOn (take-message connection l t memory room) (map spanOf bs) (λ u m. callSpans connection s room (map spanOf bs) u m)) (alone-span s b)
+calls-spans connection s room just [] t memory = refl
+calls-spans connection s room just (b ∷ bs) t memory =
+    same-on (take-message connection (own s just b) t memory room) bs (λ j u m. callAll connection s room j bs u m) (λ j u m. callSpans connection s room j (map spanOf bs) u m)
+    (calls-spans connection s room _ bs _ _)
+    ∙ ap (λ (l : List ℕ). callSpanOn (take-message connection l t memory room) (map spanOf bs) (λ j u m. callSpans connection s room j (map spanOf bs) u m)) (own-span s just b)
 
 -- "This is a single claim about the whole list of blocks": of any reading of a message fit to be answered, the call gives what the calls of its blocks'
 -- messages give
 pub spans-one-by-one : (connection : ℕ) (s : List ℕ) {spans : List Span} → Reading s spans → (t : Tables) (memory room small : List ℕ) → Good t → Fit s t memory room
-    → length small ≡ 12292 → take-message connection s t memory room ≡ comparedCall s room (callSpans connection s small spans t memory)
+    → length small ≡ 12292 → take-message connection s t memory room ≡ comparedCall s room (callSpans connection s small NOBODY spans t memory)
 spans-one-by-one connection s r t memory room small g fit n =
     let a = reading-one-by-one connection s r t memory room small g fit n in
-    a .2 ∙ ap (comparedCall s room) (calls-spans connection s small (a .0) t memory ∙ ap (λ (l : List Span). callSpans connection s small l t memory) (a .1))
+    a .2 ∙ ap (comparedCall s room) (calls-spans connection s small NOBODY (a .0) t memory ∙ ap (λ (l : List Span). callSpans connection s small NOBODY l t memory) (a .1))

@@ -2,7 +2,7 @@
 -- and no file byte, its own unlocks included. Commands before it in the chain stand; those after it aren't begun." Assumes nothing.
 use mathlib.Core.Path.{_≡_, refl, sym, ap, _∙_}
 use mathlib.Core.Logic.{inl, inr}
-use Prim.Native.Nat.{ℕ, _≤_}
+use Prim.Native.Nat.{ℕ, _-_, _≤_, _<_}
 use native.Mathlib.Omega.{arith}
 use mathlib.Core.Bool.{true, false}
 use mathlib.Core.List.{List, [], _∷_, _++_, map}
@@ -21,56 +21,68 @@ use Rattle.invariants.specs.ReaderSound.{spanOf}
 use Rattle.invariants.specs.Chained.{Chained, chained-end, chained-more, read-chained}
 use Rattle.invariants.specs.Sound.{Good}
 use Rattle.invariants.specs.Fit.{Fit, fit-answered}
-use Rattle.readings.specs.Moved.{Moved}
-use Rattle.readings.specs.Alone.{movedAlone, alone-blocks}
+use Rattle.readings.specs.Moved.{Moved, moved-block, moved-size}
 use Rattle.readings.specs.ReaderComplete.{reader-complete}
 use Rattle.message.specs.Refusal.{status}
 use Rattle.message.specs.declared.refusal.Status.{Status}
 use Rattle.message.specs.declared.refusal.HeldBy.{HeldBy}
-use Rattle.message.specs.Message.{Ran, answered, Taken, replied, take-message}
+use Rattle.message.specs.Message.{Ran, answered, replyOf, Taken, replied, take-message}
+use Rattle.message.specs.JustOpened.{NOBODY}
+use Rattle.demands.specs.Returned.{returnedFid}
+use Rattle.demands.specs.Carrying.{carried-block}
 use Rattle.demands.specs.Alone.{alone, alone-command, alone-moved, alone-ends}
-use Rattle.demands.specs.OneByOne.{Sent, succeeded, replyThen, sendOn, sendAll, compared, one-by-one}
+use Rattle.demands.specs.OneByOne.{Sent, succeeded, replyThen, sendOn, own, sendAll, compared, one-by-one}
 use Rattle.demands.specs.Taken.{not-long, AllFit, none-left, next-fits, all-fit}
 use Rattle.demands.specs.CallsOneByOne.{Calls, lastCall, callThen, carriedOut, replyIn, statusZero, status-read, reply-read, answered-small}
 use Rattle.demands.specs.Calls.{statusRead, status-call}
 use Rattle.demands.specs.RefusedCall.{Untouched, alone-refused}
-use Rattle.demands.specs.SpansOneByOne.{aloneSpan, alone-span, callSpanOn, callSpans}
+use Rattle.demands.specs.SpansOneByOne.{ownSpan, own-span, callSpanOn, callSpans}
 
 -- ---- the plain words
 
 module _ (connection : ℕ) (s small : List ℕ) where
-  -- what the message of a block gives, and what the messages of some give one by one
-  abbrev pub sent : Span → Tables → List ℕ → Taken
-  sent b t memory = take-message connection (aloneSpan s b) t memory small
+  -- what the message of a block gives, where `just` is the FID that the reply before it returned, and what the messages of some give one by one
+  abbrev pub sent : ℕ → Span → Tables → List ℕ → Taken
+  sent just b t memory = take-message connection (ownSpan s just b) t memory small
 
-  abbrev pub calls : List Span → Tables → List ℕ → Calls
-  calls bs t memory = callSpans connection s small bs t memory
+  abbrev pub calls : ℕ → List Span → Tables → List ℕ → Calls
+  calls just bs t memory = callSpans connection s small just bs t memory
+
+  -- the FID that it returns for the next one
+  abbrev pub returned : ℕ → Span → Tables → List ℕ → ℕ
+  returned just b t memory = returnedFid (replyIn (sent just b t memory))
+
+  -- and the last of some
+  unfoldable pub lastReturned : ℕ → List Span → Tables → List ℕ → ℕ
+  lastReturned just [] t memory = just
+  lastReturned just (b ∷ bs) t memory = lastReturned (returned just b t memory) bs (sent just b t memory .tables) (sent just b t memory .memory)
 
   -- each is carried out (number 0 and Status 0) on what the last one left
-  pub data AllCarried : List Span → Tables → List ℕ → Type 0 where
-    none-sent : {t : Tables} {memory : List ℕ} → AllCarried [] t memory
-    carried-then : {b : Span} {bs : List Span} {t : Tables} {memory : List ℕ} → carriedOut (sent b t memory) ≡ true
-        → AllCarried bs (sent b t memory .tables) (sent b t memory .memory) → AllCarried (b ∷ bs) t memory
+  pub data AllCarried : ℕ → List Span → Tables → List ℕ → Type 0 where
+    none-sent : {just : ℕ} {t : Tables} {memory : List ℕ} → AllCarried just [] t memory
+    carried-then : {just : ℕ} {b : Span} {bs : List Span} {t : Tables} {memory : List ℕ} → carriedOut (sent just b t memory) ≡ true
+        → AllCarried (returned just b t memory) bs (sent just b t memory .tables) (sent just b t memory .memory) → AllCarried just (b ∷ bs) t memory
 
   -- how a chain of these blocks was refused with status n, with which holder, and which tables and file memory it left
-  pub record RefusedAt (spans : List Span) (t : Tables) (memory : List ℕ) (n : Status) (holder : HeldBy) (tables : Tables) (left : List ℕ) : Type 0 where
+  pub record RefusedAt (just : ℕ) (spans : List Span) (t : Tables) (memory : List ℕ) (n : Status) (holder : HeldBy) (tables : Tables) (left : List ℕ) : Type 0 where
     -- the blocks: those before the one refused, this one, those after it
     pub front : List Span
     pub command : Span
     pub later : List Span
     pub split : spans ≡ front ++ (command ∷ later)
     -- "Commands before it in the chain stand": each was carried out, and what they left is left
-    pub front-carried : AllCarried front t memory
-    pub tables-left : tables ≡ calls front t memory .tables
-    pub memory-left : left ≡ calls front t memory .memory
+    pub front-carried : AllCarried just front t memory
+    pub tables-left : tables ≡ calls just front t memory .tables
+    pub memory-left : left ≡ calls just front t memory .memory
     -- its message, sent on these, is answered with the chain's Status, and has the chain's holder
-    pub number-so : sent command (calls front t memory .tables) (calls front t memory .memory) .number ≡ 0
-    pub status-so : statusRead (sent command (calls front t memory .tables) (calls front t memory .memory) .room) ≡ n
-    pub holder-so : sent command (calls front t memory .tables) (calls front t memory .memory) .holder ≡ holder
+    pub number-so : sent (lastReturned just front t memory) command (calls just front t memory .tables) (calls just front t memory .memory) .number ≡ 0
+    pub status-so : statusRead (sent (lastReturned just front t memory) command (calls just front t memory .tables) (calls just front t memory .memory) .room) ≡ n
+    pub holder-so : sent (lastReturned just front t memory) command (calls just front t memory .tables) (calls just front t memory .memory) .holder ≡ holder
     -- "A command refused changes no table and no file byte"
-    pub untouched : Untouched (calls front t memory .tables) (calls front t memory .memory) (sent command (calls front t memory .tables) (calls front t memory .memory))
+    pub untouched : Untouched (calls just front t memory .tables) (calls just front t memory .memory)
+        (sent (lastReturned just front t memory) command (calls just front t memory .tables) (calls just front t memory .memory))
     -- "those after it aren't begun": the messages sent are those up to it
-    pub not-begun : calls spans t memory ≡ calls (front ++ (command ∷ [])) t memory
+    pub not-begun : calls just spans t memory ≡ calls just (front ++ (command ∷ [])) t memory
 
 -- ---- every block's message is read as one block
 
@@ -78,28 +90,27 @@ module _ (connection : ℕ) (s small : List ℕ) where
 unfoldable pub atFirst : Span → Span
 atFirst b = record { command = b .command; place = FIRST; size = b .size }
 
+-- of every block, whatever 0xFFFF means in it
 pub data AllLone (s : List ℕ) : List Block → Type 0 where
   lone-none : AllLone s []
-  lone-then : {b d : Block} {bs : List Block} → blocks (alone s b) ≡ some (d ∷ []) → spanOf d ≡ atFirst (spanOf b) → AllLone s bs → AllLone s (b ∷ bs)
+  lone-then : {b : Block} {bs : List Block} → ((just : ℕ) → just < 65536 → (d : Block) × (blocks (own s just b) ≡ some (d ∷ [])) × (spanOf d ≡ atFirst (spanOf b))) → AllLone s bs → AllLone s (b ∷ bs)
 
-lone-block : {s : List ℕ} {command at : ℕ} (nx : Next) → IsBlock s at command → 32 ≤ at → length s ≤ 8192
-    → blocks (alone s (blockAt s command at nx)) ≡ some (movedAlone s command at FIRST ∷ [])
-unfolding blockAt
-lone-block {s} {command} {at} nx h from small =
+lone-block : {s : List ℕ} {command at : ℕ} (just : ℕ) (nx : Next) → IsBlock s at command → 32 ≤ at → length s ≤ 8192 → just < 65536
+    → (d : Block) × (blocks (own s just (blockAt s command at nx)) ≡ some (d ∷ [])) × (spanOf d ≡ atFirst (spanOf (blockAt s command at nx)))
+unfolding blockAt own spanOf atFirst
+lone-block {s} {command} {at} just nx h from small fits =
     let i : blockEnd s at ≤ length s = block-inside h in
     let m : Moved s at (alone s (blockAt s command at nx)) FIRST command = alone-moved (blockAt s command at nx) h refl from small in
-    alone-blocks (alone s (blockAt s command at nx)) h m (alone-command s (blockAt s command at nx) (omega arith)) (alone-ends (blockAt s command at nx) h refl from)
-
-lone-span : (s : List ℕ) (command at : ℕ) (nx : Next) → spanOf (movedAlone s command at FIRST) ≡ atFirst (spanOf (blockAt s command at nx))
-unfolding blockAt movedAlone spanOf atFirst
-lone-span s command at nx = refl
+    let one = carried-block (alone s (blockAt s command at nx)) (moved-block h m) (alone-command s (blockAt s command at nx) (omega arith)) (alone-ends (blockAt s command at nx) h refl from) just fits in
+    let size : blockEnd (own s just (blockAt s command at nx)) FIRST - FIRST ≡ blockEnd s at - at = ap (λ (n : ℕ). n - FIRST) (one .1) ∙ moved-size m h in
+    (blockAt (own s just (blockAt s command at nx)) command FIRST End, one .0, ap (λ (n : ℕ). record { command = command; place = FIRST; size = n }) size)
 
 pub all-lone : {s : List ℕ} {command at : ℕ} {bs : List Block} → Chained s command at bs → 32 ≤ at → length s ≤ 8192 → AllLone s bs
-all-lone {s} (chained-end {command} {at} h l) from small = lone-then (lone-block End h from small) (lone-span s command at End) lone-none
+all-lone {s} (chained-end {command} {at} h l) from small = lone-then (λ just fits. lone-block just End h from small fits) lone-none
 all-lone {s} (chained-more {command} {at} {c} {a} h l r) from small =
     let g : blockEnd s at ≤ a = behind c a l refl in
     let i : 32 ≤ a = omega arith in
-    lone-then (lone-block (Follow c a) h from small) (lone-span s command at (Follow c a)) (all-lone r i small)
+    lone-then (λ just fits. lone-block just (Follow c a) h from small fits) (all-lone r i small)
 
 -- ---- a message that is carried out, and the calls
 
@@ -115,38 +126,39 @@ carried-succeeds connection message t memory room fit =
 
 module _ (connection : ℕ) (s small : List ℕ) where
   -- the messages of the blocks behind it get what it left
-  pub carried-calls : (b : Span) (bs : List Span) (t : Tables) (memory : List ℕ) → carriedOut (sent connection s small b t memory) ≡ true
-      → (calls connection s small (b ∷ bs) t memory .tables
-      ≡ calls connection s small bs (sent connection s small b t memory .tables) (sent connection s small b t memory .memory) .tables)
-      × (calls connection s small (b ∷ bs) t memory .memory
-      ≡ calls connection s small bs (sent connection s small b t memory .tables) (sent connection s small b t memory .memory) .memory)
+  pub carried-calls : (just : ℕ) (b : Span) (bs : List Span) (t : Tables) (memory : List ℕ) → carriedOut (sent connection s small just b t memory) ≡ true
+      → (calls connection s small just (b ∷ bs) t memory .tables
+      ≡ calls connection s small (returned connection s small just b t memory) bs (sent connection s small just b t memory .tables) (sent connection s small just b t memory .memory) .tables)
+      × (calls connection s small just (b ∷ bs) t memory .memory
+      ≡ calls connection s small (returned connection s small just b t memory) bs (sent connection s small just b t memory .tables) (sent connection s small just b t memory .memory) .memory)
   unfolding callSpans callSpanOn lastCall callThen
-  carried-calls b [] t memory e = (refl, refl)
-  carried-calls b (d ∷ bs) t memory e = rw e (refl, refl)
+  carried-calls just b [] t memory e = (refl, refl)
+  carried-calls just b (d ∷ bs) t memory e = rw e (refl, refl)
 
   -- with some behind it, the calls are its own and theirs
-  carried-more : (b : Span) (front : List Span) (d : Span) (later : List Span) (t : Tables) (memory : List ℕ) → carriedOut (sent connection s small b t memory) ≡ true
-      → calls connection s small (b ∷ (front ++ (d ∷ later))) t memory
-      ≡ callThen (replyIn (sent connection s small b t memory))
-      (calls connection s small (front ++ (d ∷ later)) (sent connection s small b t memory .tables) (sent connection s small b t memory .memory))
+  carried-more : (just : ℕ) (b : Span) (front : List Span) (d : Span) (later : List Span) (t : Tables) (memory : List ℕ) → carriedOut (sent connection s small just b t memory) ≡ true
+      → calls connection s small just (b ∷ (front ++ (d ∷ later))) t memory
+      ≡ callThen (replyIn (sent connection s small just b t memory))
+      (calls connection s small (returned connection s small just b t memory) (front ++ (d ∷ later)) (sent connection s small just b t memory .tables) (sent connection s small just b t memory .memory))
   unfolding callSpans callSpanOn
-  carried-more b [] d later t memory e = rw e
-  carried-more b (x ∷ front) d later t memory e = rw e
+  carried-more just b [] d later t memory e = rw e
+  carried-more just b (x ∷ front) d later t memory e = rw e
 
   -- one that is not carried out is the last
-  refused-last : (b : Span) (bs : List Span) (t : Tables) (memory : List ℕ) → carriedOut (sent connection s small b t memory) ≡ false
-      → calls connection s small (b ∷ bs) t memory ≡ calls connection s small (b ∷ []) t memory
+  refused-last : (just : ℕ) (b : Span) (bs : List Span) (t : Tables) (memory : List ℕ) → carriedOut (sent connection s small just b t memory) ≡ false
+      → calls connection s small just (b ∷ bs) t memory ≡ calls connection s small just (b ∷ []) t memory
   unfolding callSpans callSpanOn
-  refused-last b [] t memory e = refl
-  refused-last b (d ∷ bs) t memory e = rw e
+  refused-last just b [] t memory e = refl
+  refused-last just b (d ∷ bs) t memory e = rw e
 
   -- a refusal behind a message that is carried out
-  refused-later : (b : Span) (bs : List Span) (t : Tables) (memory : List ℕ) (n : Status) (holder : HeldBy) (tables : Tables) (left : List ℕ)
-      → carriedOut (sent connection s small b t memory) ≡ true
-      → RefusedAt connection s small bs (sent connection s small b t memory .tables) (sent connection s small b t memory .memory) n holder tables left
-      → RefusedAt connection s small (b ∷ bs) t memory n holder tables left
-  refused-later b bs t memory n holder tables left e q =
-      let k = carried-calls b (q .front) t memory e in
+  refused-later : (just : ℕ) (b : Span) (bs : List Span) (t : Tables) (memory : List ℕ) (n : Status) (holder : HeldBy) (tables : Tables) (left : List ℕ)
+      → carriedOut (sent connection s small just b t memory) ≡ true
+      → RefusedAt connection s small (returned connection s small just b t memory) bs (sent connection s small just b t memory .tables) (sent connection s small just b t memory .memory) n holder tables left
+      → RefusedAt connection s small just (b ∷ bs) t memory n holder tables left
+  unfolding lastReturned
+  refused-later just b bs t memory n holder tables left e q =
+      let k = carried-calls just b (q .front) t memory e in
       record {
         front = b ∷ q .front;
         command = q .command;
@@ -160,30 +172,30 @@ module _ (connection : ℕ) (s small : List ℕ) where
         holder-so = rw (k .0, k .1) (q .holder-so);
         untouched = rw (k .0, k .1) (q .untouched);
         not-begun =
-            ap (λ (l : List Span). calls connection s small (b ∷ l) t memory) (q .split)
-            ∙ carried-more b (q .front) (q .command) (q .later) t memory e
-            ∙ ap (callThen (replyIn (sent connection s small b t memory)))
-            (ap (λ (l : List Span). calls connection s small l (sent connection s small b t memory .tables) (sent connection s small b t memory .memory)) (sym (q .split)) ∙ q .not-begun)
-            ∙ sym (carried-more b (q .front) (q .command) [] t memory e);
+            ap (λ (l : List Span). calls connection s small just (b ∷ l) t memory) (q .split)
+            ∙ carried-more just b (q .front) (q .command) (q .later) t memory e
+            ∙ ap (callThen (replyIn (sent connection s small just b t memory)))
+            (ap (λ (l : List Span). calls connection s small (returned connection s small just b t memory) l (sent connection s small just b t memory .tables) (sent connection s small just b t memory .memory)) (sym (q .split)) ∙ q .not-begun)
+            ∙ sym (carried-more just b (q .front) (q .command) [] t memory e);
       }
 
   -- ---- the message of one of the reader's blocks, fit to be answered
 
-  module _ (b : Block) (t : Tables) (memory : List ℕ) (fits : Fit (alone s b) t memory small) where
+  module _ (just : ℕ) (b : Block) (t : Tables) (memory : List ℕ) (fits : Fit (own s just b) t memory small) where
     abbrev pub ran : Ran
-    ran = answered connection (alone s b) t memory
+    ran = answered connection (own s just b) t memory
 
     abbrev pub taken : Taken
-    taken = sent connection s small (spanOf b) t memory
+    taken = sent connection s small just (spanOf b) t memory
 
-    taken-alone : taken ≡ take-message connection (alone s b) t memory small
-    taken-alone = ap (λ (l : List ℕ). take-message connection l t memory small) (sym (alone-span s b))
+    taken-alone : taken ≡ take-message connection (own s just b) t memory small
+    taken-alone = ap (λ (l : List ℕ). take-message connection l t memory small) (sym (own-span s just b))
 
-    taken-is : taken ≡ replied (alone s b) small ran
-    taken-is = taken-alone ∙ fit-answered connection (alone s b) t memory small fits
+    taken-is : taken ≡ replied (own s just b) small ran
+    taken-is = taken-alone ∙ fit-answered connection (own s just b) t memory small fits
 
     pub carried-is : carriedOut taken ≡ succeeded (ran .status)
-    carried-is = ap carriedOut taken-alone ∙ carried-succeeds connection (alone s b) t memory small fits
+    carried-is = ap carriedOut taken-alone ∙ carried-succeeds connection (own s just b) t memory small fits
 
     pub tables-is : taken .tables ≡ ran .tables
     unfolding replied
@@ -192,6 +204,9 @@ module _ (connection : ℕ) (s small : List ℕ) where
     pub memory-is : taken .memory ≡ ran .memory
     unfolding replied
     memory-is = ap (λ (x : Taken). x .memory) taken-is
+
+    pub returned-is : returned connection s small just (spanOf b) t memory ≡ returnedFid (replyOf (own s just b) ran)
+    returned-is = ap (λ (x : Taken). returnedFid (replyIn x)) taken-is ∙ ap returnedFid (reply-read (own s just b) small ran)
 
     number-is : taken .number ≡ 0
     unfolding replied
@@ -202,21 +217,21 @@ module _ (connection : ℕ) (s small : List ℕ) where
     holder-is = ap (λ (x : Taken). x .holder) taken-is
 
     status-is : statusRead (taken .room) ≡ ran .status
-    status-is = ap (λ (x : Taken). statusRead (x .room)) taken-alone ∙ status-call connection (alone s b) t memory small fits
+    status-is = ap (λ (x : Taken). statusRead (x .room)) taken-alone ∙ status-call connection (own s just b) t memory small fits
 
     pub not-zero : succeeded (ran .status) ≡ false → ran .status ≡ status 0 0 → ⊥
     unfolding succeeded status
     not-zero e z = not-decided-twice (succeeded (ran .status)) (ap succeeded z) e
 
     -- refused, it changes nothing
-    refused-same : (d : Block) → blocks (alone s b) ≡ some (d ∷ []) → succeeded (ran .status) ≡ false → Untouched t memory taken
+    refused-same : (d : Block) → blocks (own s just b) ≡ some (d ∷ []) → succeeded (ran .status) ≡ false → Untouched t memory taken
     refused-same d one e =
-        rw taken-alone (alone-refused connection (alone s b) t memory small fits d one (λ z. not-zero e (sym (status-call connection (alone s b) t memory small fits) ∙ z)))
+        rw taken-alone (alone-refused connection (own s just b) t memory small fits d one (λ z. not-zero e (sym (status-call connection (own s just b) t memory small fits) ∙ z)))
 
     -- and is the one refused
-    refused-here : (d : Block) → blocks (alone s b) ≡ some (d ∷ []) → succeeded (ran .status) ≡ false → (bs : List Span)
-        → RefusedAt connection s small (spanOf b ∷ bs) t memory (ran .status) (ran .holder) (ran .tables) (ran .memory)
-    unfolding callSpans
+    refused-here : (d : Block) → blocks (own s just b) ≡ some (d ∷ []) → succeeded (ran .status) ≡ false → (bs : List Span)
+        → RefusedAt connection s small just (spanOf b ∷ bs) t memory (ran .status) (ran .holder) (ran .tables) (ran .memory)
+    unfolding callSpans lastReturned
     refused-here d one e bs =
         let u = refused-same d one e in
         record {
@@ -231,27 +246,30 @@ module _ (connection : ℕ) (s small : List ℕ) where
           status-so = status-is;
           holder-so = holder-is;
           untouched = u;
-          not-begun = refused-last (spanOf b) bs t memory (carried-is ∙ e);
+          not-begun = refused-last just (spanOf b) bs t memory (carried-is ∙ e);
         }
 
   -- ---- all of them
 
-  send-none : (t : Tables) (memory : List ℕ) → sendAll connection s [] t memory .status ≡ status 0 0
+  send-none : (just : ℕ) (t : Tables) (memory : List ℕ) → sendAll connection s just [] t memory .status ≡ status 0 0
   unfolding sendAll
-  send-none t memory = refl
+  send-none just t memory = refl
 
-  module _ (b : Block) (bs : List Block) (t : Tables) (memory : List ℕ) where
+  module _ (just : ℕ) (b : Block) (bs : List Block) (t : Tables) (memory : List ℕ) where
     abbrev pub gave : Ran
-    gave = answered connection (alone s b) t memory
+    gave = answered connection (own s just b) t memory
 
     abbrev pub whole : Sent
-    whole = sendAll connection s (b ∷ bs) t memory
+    whole = sendAll connection s just (b ∷ bs) t memory
+
+    abbrev pub later-just : ℕ
+    later-just = returnedFid (replyOf (own s just b) gave)
 
     -- what the messages leave is what those behind one carried out leave, or what the one refused does
     pub send-on : succeeded (gave .status) ≡ true
-        → (whole .status ≡ sendAll connection s bs (gave .tables) (gave .memory) .status) × (whole .holder ≡ sendAll connection s bs (gave .tables) (gave .memory) .holder)
-        × (whole .tables ≡ sendAll connection s bs (gave .tables) (gave .memory) .tables)
-        × (whole .memory ≡ sendAll connection s bs (gave .tables) (gave .memory) .memory)
+        → (whole .status ≡ sendAll connection s later-just bs (gave .tables) (gave .memory) .status) × (whole .holder ≡ sendAll connection s later-just bs (gave .tables) (gave .memory) .holder)
+        × (whole .tables ≡ sendAll connection s later-just bs (gave .tables) (gave .memory) .tables)
+        × (whole .memory ≡ sendAll connection s later-just bs (gave .tables) (gave .memory) .memory)
     unfolding sendAll sendOn replyThen
     send-on e = rw e (refl, refl, refl, refl)
 
@@ -260,34 +278,35 @@ module _ (connection : ℕ) (s small : List ℕ) where
     send-off e = rw e (refl, refl, refl, refl)
 
     -- so one of them is the one refused
-    stopped-by : Fit (alone s b) t memory small → (d : Block) → blocks (alone s b) ≡ some (d ∷ []) → (whole .status ≡ status 0 0 → ⊥)
-        → ((sendAll connection s bs (gave .tables) (gave .memory) .status ≡ status 0 0 → ⊥)
-        → RefusedAt connection s small (map spanOf bs) (gave .tables) (gave .memory) (sendAll connection s bs (gave .tables) (gave .memory) .status)
-        (sendAll connection s bs (gave .tables) (gave .memory) .holder) (sendAll connection s bs (gave .tables) (gave .memory) .tables) (sendAll connection s bs (gave .tables) (gave .memory) .memory))
-        → RefusedAt connection s small (spanOf b ∷ map spanOf bs) t memory (whole .status) (whole .holder) (whole .tables) (whole .memory)
+    stopped-by : Fit (own s just b) t memory small → (d : Block) → blocks (own s just b) ≡ some (d ∷ []) → (whole .status ≡ status 0 0 → ⊥)
+        → ((sendAll connection s later-just bs (gave .tables) (gave .memory) .status ≡ status 0 0 → ⊥)
+        → RefusedAt connection s small later-just (map spanOf bs) (gave .tables) (gave .memory) (sendAll connection s later-just bs (gave .tables) (gave .memory) .status)
+        (sendAll connection s later-just bs (gave .tables) (gave .memory) .holder) (sendAll connection s later-just bs (gave .tables) (gave .memory) .tables) (sendAll connection s later-just bs (gave .tables) (gave .memory) .memory))
+        → RefusedAt connection s small just (spanOf b ∷ map spanOf bs) t memory (whole .status) (whole .holder) (whole .tables) (whole .memory)
     stopped-by fits d one n later =
         elim (decided (succeeded (gave .status))) [
           | inl e ↦
               let k = send-on e in
               rw (k .0, k .1, k .2, k .3)
-              (refused-later (spanOf b) (map spanOf bs) t memory _ _ _ _ (carried-is b t memory fits ∙ e)
-              (rw (tables-is b t memory fits, memory-is b t memory fits) (later (λ z. n (k .0 ∙ z)))))
-          | inr e ↦ let k = send-off e in rw (k .0, k .1, k .2, k .3) (refused-here b t memory fits d one e (map spanOf bs))
+              (refused-later just (spanOf b) (map spanOf bs) t memory _ _ _ _ (carried-is just b t memory fits ∙ e)
+              (rw (returned-is just b t memory fits, tables-is just b t memory fits, memory-is just b t memory fits) (later (λ z. n (k .0 ∙ z)))))
+          | inr e ↦ let k = send-off e in rw (k .0, k .1, k .2, k .3) (refused-here just b t memory fits d one e (map spanOf bs))
         ]
 
-  stopped : {bs : List Block} {t : Tables} {memory : List ℕ} → 12292 ≤ length small → AllFit connection s bs t memory → AllLone s bs
-      → (sendAll connection s bs t memory .status ≡ status 0 0 → ⊥)
-      → RefusedAt connection s small (map spanOf bs) t memory (sendAll connection s bs t memory .status) (sendAll connection s bs t memory .holder)
-      (sendAll connection s bs t memory .tables) (sendAll connection s bs t memory .memory)
-  stopped {t = t} {memory = memory} enough none-left lone-none n = absurd (n (send-none t memory))
-  stopped {t = t} {memory = memory} enough (next-fits {b} {bs} fit more) (lone-then {d = d} one there rest) n =
-      stopped-by b bs t memory (fit small enough) d one n (λ z. stopped enough more rest z)
+  stopped : {just : ℕ} {bs : List Block} {t : Tables} {memory : List ℕ} → 12292 ≤ length small → AllFit connection s just bs t memory → AllLone s bs
+      → (sendAll connection s just bs t memory .status ≡ status 0 0 → ⊥)
+      → RefusedAt connection s small just (map spanOf bs) t memory (sendAll connection s just bs t memory .status) (sendAll connection s just bs t memory .holder)
+      (sendAll connection s just bs t memory .tables) (sendAll connection s just bs t memory .memory)
+  stopped {just} {t = t} {memory = memory} enough none-left lone-none n = absurd (n (send-none just t memory))
+  stopped {t = t} {memory = memory} enough (next-fits {just} {b} {bs} low fit more) (lone-then one rest) n =
+      let d = one just low in
+      stopped-by just b bs t memory (fit small enough) (d .0) (d .1) n (λ z. stopped enough more rest z)
 
 -- "A command refused changes no table and no file byte, its own unlocks included. Commands before it in the chain stand; those after it aren't begun": of any
 -- reading of a message fit to be answered whose reply's Status is not 0/0
 pub spans-refused : (connection : ℕ) (s : List ℕ) {spans : List Span} → Reading s spans → (t : Tables) (memory room small : List ℕ) → Good t → Fit s t memory room
     → length small ≡ 12292 → (statusRead (take-message connection s t memory room .room) ≡ status 0 0 → ⊥)
-    → RefusedAt connection s small spans t memory (statusRead (take-message connection s t memory room .room)) (take-message connection s t memory room .holder)
+    → RefusedAt connection s small NOBODY spans t memory (statusRead (take-message connection s t memory room .room)) (take-message connection s t memory room .holder)
     (take-message connection s t memory room .tables) (take-message connection s t memory room .memory)
 unfolding replied compared blocks
 spans-refused connection s r t memory room small g fit n nonzero =
@@ -295,13 +314,13 @@ spans-refused connection s r t memory room small g fit n nonzero =
     let short : length s ≤ 8192 = not-long s (fit .not-dropped) in
     let same = one-by-one connection s (a .0) (a .1) short t memory in
     let one = fit-answered connection s t memory room fit in
-    let status-same : statusRead (take-message connection s t memory room .room) ≡ sendAll connection s (a .0) t memory .status =
+    let status-same : statusRead (take-message connection s t memory room .room) ≡ sendAll connection s NOBODY (a .0) t memory .status =
     status-call connection s t memory room fit ∙ ap (λ (x : Ran). x .status) same in
-    let holder-same : take-message connection s t memory room .holder ≡ sendAll connection s (a .0) t memory .holder =
+    let holder-same : take-message connection s t memory room .holder ≡ sendAll connection s NOBODY (a .0) t memory .holder =
     ap (λ (x : Taken). x .holder) one ∙ ap (λ (x : Ran). x .holder) same in
-    let tables-same : take-message connection s t memory room .tables ≡ sendAll connection s (a .0) t memory .tables =
+    let tables-same : take-message connection s t memory room .tables ≡ sendAll connection s NOBODY (a .0) t memory .tables =
     ap (λ (x : Taken). x .tables) one ∙ ap (λ (x : Ran). x .tables) same in
-    let memory-same : take-message connection s t memory room .memory ≡ sendAll connection s (a .0) t memory .memory =
+    let memory-same : take-message connection s t memory room .memory ≡ sendAll connection s NOBODY (a .0) t memory .memory =
     ap (λ (x : Taken). x .memory) one ∙ ap (λ (x : Ran). x .memory) same in
     let q = stopped connection s small (omega arith) (all-fit connection s (a .0) (a .1) (fit .not-dropped) t memory g (fit .memory-whole))
     (all-lone (read-chained s (headerCommand s) FIRST (a .0) (a .1)) (omega arith) short) (λ z. nonzero (status-same ∙ z)) in

@@ -22,11 +22,14 @@ use Rattle.chain.specs.declared.block.Next.the-variants.{End, Follow}
 use Rattle.invariants.specs.BlockParse.{blockAt, block-inside, blockSize, behind}
 use Rattle.readings.specs.FreeBytes.{AllStand, AllAlike, all-alike}
 use Rattle.invariants.specs.Chained.{Chained, chained-end, chained-more, read-chained}
-use Rattle.message.specs.Message.{served, onlyStatus, answered, replied, take-message}
+use Rattle.message.specs.Message.{served, onlyStatus, answered, replyOf, replied, take-message}
 use Rattle.invariants.specs.Fit.{Fit, fit-answered}
 use Rattle.demands.specs.Malformed.{malformed-nothing, not-served}
 use Rattle.demands.specs.FreeBytesMessage.{unread-answered, unread-reply}
-use Rattle.demands.specs.Alone.{alone, alone-header, length-alone}
+use Rattle.message.specs.JustOpened.{NOBODY}
+use Rattle.demands.specs.Alone.{length-alone}
+use Rattle.demands.specs.Returned.{returnedFid}
+use Rattle.demands.specs.OneByOne.{own, own-header, length-own, own-returned}
 use Rattle.invariants.specs.Sound.{Good, answered-good}
 use Rattle.demands.specs.MemorySize.{answered-memory}
 
@@ -79,17 +82,17 @@ module _ (s : List ℕ) (fit : dropped s ≡ false) where
       neither-holds (ltb 8192 (length s)) (not (startsSmb s) || isReply s) (a .1) .1
 
   -- a block's own message is not dropped
-  alone-kept : {command at : ℕ} (nx : Next) → IsBlock s at command → 32 ≤ at → dropped (alone s (blockAt s command at nx)) ≡ false
+  own-kept : {command at : ℕ} (just : ℕ) (nx : Next) → IsBlock s at command → 32 ≤ at → dropped (own s just (blockAt s command at nx)) ≡ false
   unfolding dropped startsSmb isReply blockAt
-  alone-kept {command} {at} nx h from =
+  own-kept {command} {at} just nx h from =
       let i : blockEnd s at ≤ length s = block-inside h in
       let m : length s ≤ 8192 = not-long in
       let long : 32 ≤ length s = omega arith in
-      let n : length (alone s (blockAt s command at nx)) ≡ 32 + blockSize s at = length-alone s (blockAt s command at nx) long (omega arith) in
-      let b : (k : ℕ) → k < 32 → (k ≡ 4 → ⊥) → byteAt (alone s (blockAt s command at nx)) k ≡ byteAt s k = alone-header s (blockAt s command at nx) long in
+      let n : length (own s just (blockAt s command at nx)) ≡ 32 + blockSize s at = length-own s just (blockAt s command at nx) ∙ length-alone s (blockAt s command at nx) long (omega arith) in
+      let b : (k : ℕ) → k < 32 → (k ≡ 4 → ⊥) → byteAt (own s just (blockAt s command at nx)) k ≡ byteAt s k = own-header s just (blockAt s command at nx) long in
       rw (
-        le-ltb (length (alone s (blockAt s command at nx))) 35 (omega arith),
-        le-ltb 8192 (length (alone s (blockAt s command at nx))) (omega arith),
+        le-ltb (length (own s just (blockAt s command at nx))) 35 (omega arith),
+        le-ltb 8192 (length (own s just (blockAt s command at nx))) (omega arith),
         b 0 (omega arith) (λ e. omega arith),
         b 1 (omega arith) (λ e. omega arith),
         b 2 (omega arith) (λ e. omega arith),
@@ -99,24 +102,26 @@ module _ (s : List ℕ) (fit : dropped s ≡ false) where
       header-fits
 
 -- each message in turn, with what the last one left, is fit to be answered in any room of 12,292
-pub data AllFit (connection : ℕ) (s : List ℕ) : List Block → Tables → List ℕ → Type 0 where
-  none-left : {t : Tables} {memory : List ℕ} → AllFit connection s [] t memory
-  next-fits : {b : Block} {bs : List Block} {t : Tables} {memory : List ℕ} → ((room : List ℕ) → 12292 ≤ length room → Fit (alone s b) t memory room)
-      → AllFit connection s bs (answered connection (alone s b) t memory .tables) (answered connection (alone s b) t memory .memory) → AllFit connection s (b ∷ bs) t memory
+pub data AllFit (connection : ℕ) (s : List ℕ) : ℕ → List Block → Tables → List ℕ → Type 0 where
+  none-left : {just : ℕ} {t : Tables} {memory : List ℕ} → AllFit connection s just [] t memory
+  next-fits : {just : ℕ} {b : Block} {bs : List Block} {t : Tables} {memory : List ℕ} → just < 65536 → ((room : List ℕ) → 12292 ≤ length room → Fit (own s just b) t memory room)
+      → AllFit connection s (returnedFid (replyOf (own s just b) (answered connection (own s just b) t memory))) bs (answered connection (own s just b) t memory .tables)
+      (answered connection (own s just b) t memory .memory)
+      → AllFit connection s just (b ∷ bs) t memory
 
-all-fit-from : {s : List ℕ} {command at : ℕ} {bs : List Block} (connection : ℕ) → Chained s command at bs → 32 ≤ at → dropped s ≡ false → (t : Tables) (memory : List ℕ) → Good t
-    → length memory ≡ 65536 → AllFit connection s bs t memory
-all-fit-from {s} connection (chained-end {command} {at} h l) from fit t memory g full =
-    next-fits (λ room e. record { room-enough = e; memory-whole = full; tables-sound = g .sound; not-dropped = alone-kept s fit End h from }) none-left
-all-fit-from {s} connection (chained-more {command} {at} {c} {a} h l r) from fit t memory g full =
+all-fit-from : {s : List ℕ} {command at : ℕ} {bs : List Block} (connection : ℕ) → Chained s command at bs → 32 ≤ at → dropped s ≡ false → (just : ℕ) (t : Tables) (memory : List ℕ) → Good t
+    → length memory ≡ 65536 → just < 65536 → AllFit connection s just bs t memory
+all-fit-from {s} connection (chained-end {command} {at} h l) from fit just t memory g full low =
+    next-fits low (λ room e. record { room-enough = e; memory-whole = full; tables-sound = g .sound; not-dropped = own-kept s fit just End h from }) none-left
+all-fit-from {s} connection (chained-more {command} {at} {c} {a} h l r) from fit just t memory g full low =
     let i : blockEnd s at ≤ a = behind c a l refl in
-    next-fits (λ room e. record { room-enough = e; memory-whole = full; tables-sound = g .sound; not-dropped = alone-kept s fit (Follow c a) h from })
-    (all-fit-from connection r (omega arith) fit _ _ (answered-good connection (alone s (blockAt s command at (Follow c a))) t memory g)
-    (answered-memory connection (alone s (blockAt s command at (Follow c a))) t memory g full))
+    next-fits low (λ room e. record { room-enough = e; memory-whole = full; tables-sound = g .sound; not-dropped = own-kept s fit just (Follow c a) h from })
+    (all-fit-from connection r (omega arith) fit _ _ _ (answered-good connection (own s just (blockAt s command at (Follow c a))) t memory g)
+    (answered-memory connection (own s just (blockAt s command at (Follow c a))) t memory g full) (own-returned connection just (Follow c a) t memory h from (not-long s fit) low))
 
 -- "Each is taken by demand 2's definition, same connection, reply room 12,292": of a sentence that is not dropped, on sound tables, every block's
 -- message is fit to be answered, so that the call gives it number 0 and what `answered` says (`fit-answered`)
 pub all-fit : (connection : ℕ) (s : List ℕ) (bs : List Block) → blocks s ≡ some bs → dropped s ≡ false → (t : Tables) (memory : List ℕ) → Good t → length memory ≡ 65536
-    → AllFit connection s bs t memory
+    → AllFit connection s NOBODY bs t memory
 unfolding blocks
-all-fit connection s bs e fit t memory g full = all-fit-from connection (read-chained s (headerCommand s) FIRST bs e) (omega arith) fit t memory g full
+all-fit connection s bs e fit t memory g full = all-fit-from connection (read-chained s (headerCommand s) FIRST bs e) (omega arith) fit NOBODY t memory g full (omega arith)

@@ -1,13 +1,13 @@
 -- The fields of the header and of a message's first block, which stands at 32, where the layout has them, and the step from a reading to the reader's block
 -- with these fields. Assumes nothing.
 use mathlib.Core.Path.{_≡_, refl, sym, ap, _∙_}
-use Prim.Native.Nat.{ℕ, _+_, _*_, _/_, _≤_, _<_}
+use Prim.Native.Nat.{ℕ, _+_, _-_, _*_, _/_, _≤_, _<_}
 use native.Mathlib.Omega.{arith}
 use mathlib.Core.Bool.{cond}
 use mathlib.Core.List.{List, [], _∷_, map}
 use mathlib.Core.Option.{some}
 use lib.ListN.{length, take, drop, length-take, length-drop}
-use lib.Seq.{length-take-le, getD-take, getD-drop, ext-getD}
+use lib.Seq.{length-take-le, take-take, getD-take, getD-drop, ext-getD}
 use lib.Dec.{eqb}
 use Rattle.wire.specs.LittleEndian.{byteAt, le16At}
 use Rattle.chain.specs.Layout.{headerCommand, FIRST, wordCount, byteArea, byteCount, fidAfterAndx, offsetLow, readMax, readOffsetHigh, dataLength, dataOffset, writeOffsetHigh, firstFid, coreCount, coreOffset, markedData}
@@ -16,11 +16,14 @@ use Rattle.chain.specs.Chain.{blocks}
 use Rattle.chain.specs.declared.block.ReadFields.{ReadFields}
 use Rattle.chain.specs.declared.block.WriteFields.{WriteFields}
 use Rattle.chain.specs.declared.block.Block.{Block}
-use Rattle.invariants.specs.BlockParse.{bodyAt}
+use Rattle.chain.specs.declared.block.Next.the-variants.{End}
+use Rattle.invariants.specs.BlockParse.{bodyAt, blockAt}
 use Rattle.invariants.specs.ReaderSound.{spanOf}
-use Rattle.invariants.specs.Chained.{read-chained}
+use Rattle.invariants.specs.Chained.{Chained, chained-end, chained-more, read-chained}
 use Rattle.readings.specs.ReaderComplete.{reader-complete}
+use Rattle.message.specs.Command.{nameAsked}
 use Rattle.message.specs.Message.{areaOf, dataOf}
+use Rattle.demands.specs.Malformed.{length-area}
 use Rattle.demands.specs.LoneCall.{first-block, lockingArea}
 
 -- document 02, CR 4: "a request's process is PIDHigh × 65,536 + PIDLow", which stand at 12 and 26
@@ -60,6 +63,10 @@ coreWriteFields s = record { fid = firstFid s FIRST; offset = coreOffset s FIRST
 abbrev pub coreData : List ℕ → List ℕ
 coreData s = take (coreCount s FIRST) (drop (markedData s FIRST) s)
 
+-- OPEN_ANDX (document 02, CR 6): "The byte area is a name .., then one zero byte": its bytes but the last. The other fields are `openFields` (chain/specs/Parse.antt).
+abbrev pub openName : List ℕ → List ℕ
+openName s = take (byteCount s FIRST - 1) (drop (byteArea s FIRST) s)
+
 -- ---- the reader's first block
 
 pub record FirstBlock (s : List ℕ) (later : List Block) : Type 0 where
@@ -91,6 +98,12 @@ one-first {s} {span} r =
     let whole : a .0 ≡ q .block ∷ [] = q .is-first ∙ ap (λ (l : List Block). q .block ∷ l) (none-behind (q .later) none-more) in
     record { block = q .block; is-read = a .1 ∙ ap some whole; stands = q .stands; holds = q .holds }
 
+-- a block's byte area is all there
+chained-area : {s : List ℕ} {command at : ℕ} {bs : List Block} → Chained s command at bs → length (take (byteCount s at) (drop (byteArea s at) s)) ≡ byteCount s at
+unfolding areaOf blockAt
+chained-area (chained-end h l) = length-area h End
+chained-area (chained-more h l r) = length-area h End
+
 module _ {s : List ℕ} {later : List Block} (q : FirstBlock s later) where
   -- its fields by the header's command
   pub first-body : (command : ℕ) → headerCommand s ≡ command → q .block .body ≡ bodyAt s command FIRST
@@ -104,6 +117,13 @@ module _ {s : List ℕ} {later : List Block} (q : FirstBlock s later) where
   pub first-data : dataOf s (q .block) ≡ writeData s
   unfolding dataOf
   first-data = ap (λ (n : ℕ). take (dataLength s n) (drop (dataOffset s n) s)) (q .stands)
+
+  -- the name that an OPEN_ANDX asks for
+  pub first-name : nameAsked (areaOf s (q .block)) ≡ openName s
+  unfolding nameAsked blocks
+  first-name =
+      let long : length (lockingArea s) ≡ byteCount s FIRST = chained-area (read-chained s (headerCommand s) FIRST (q .block ∷ later) (q .is-read)) in
+      rw (first-area, long) (take-take (byteCount s FIRST - 1) (byteCount s FIRST) (drop (byteArea s FIRST) s) (omega arith))
 
   -- and a core WRITE's, all of which is there
   pub first-core-data : length (drop 3 (areaOf s (q .block))) ≡ coreCount s FIRST → drop 3 (areaOf s (q .block)) ≡ coreData s

@@ -1,23 +1,24 @@
 -- Which word is which field: the words that the host lends are the struct of include/gateway.h, in its order (docs/HOST.md, "What is
 -- lent"; the numbers of the words are those that examples/fields.c reads off the header). Of words in use that fit. Assumes nothing.
-use mathlib.Core.Path.{_≡_, ap, _∙_}
-use Prim.Native.Nat.{ℕ, _+_, _*_, _<_}
+use mathlib.Core.Path.{_≡_, sym, ap, _∙_}
+use Prim.Native.Nat.{ℕ, suc, _+_, _*_, _≤_, _<_}
 use native.Mathlib.Omega.{arith}
 use mathlib.Core.Bool.{true, cond}
-use mathlib.Core.List.{List}
-use lib.ListN.{length, getD}
-use lib.Seq.{getD-take, getD-drop}
+use mathlib.Core.List.{List, [], _∷_, _++_}
+use lib.ListN.{length, getD, length-append, List·getD-append}
+use lib.Seq.{getD-take, getD-drop, getD-append-seam}
 use Rattle.lists.specs.Truth.{both-hold}
-use Rattle.records.specs.Empty.{noSession, noTree, noOpen, noLock, noFile}
+use Rattle.records.specs.Empty.{noSession, noTree, noOpen, noLock, noFile, noName}
 use Rattle.records.specs.declared.Session.{Session}
 use Rattle.records.specs.declared.Tree.{Tree}
 use Rattle.records.specs.declared.Open.{Open}
 use Rattle.records.specs.declared.Lock.{Lock}
 use Rattle.records.specs.declared.File.{File}
-use Rattle.tables.specs.Words.{word, part, recordAt, sessionLimits, treeLimits, openLimits, lockLimits, tableFits, inUseFit, tablesOf}
+use Rattle.records.specs.declared.Name.{Name}
+use Rattle.tables.specs.Words.{word, part, recordAt, sessionLimits, treeLimits, openLimits, lockLimits, nameLimits, nameArray, tableFits, inUseFit, tablesOf}
 use Rattle.tables.specs.PartLaws.{length-part}
 use Rattle.tables.specs.ArrayLaws.{file-at}
-use Rattle.tables.specs.FitLaws.{sessions-faithful, trees-faithful, opens-faithful, locks-faithful}
+use Rattle.tables.specs.FitLaws.{sessions-faithful, trees-faithful, opens-faithful, locks-faithful, names-faithful}
 
 -- ---- the words of a record, by number
 
@@ -31,19 +32,26 @@ pub record TreeNamed (w : List ℕ) (i : ℕ) (r : Tree) : Type 0 where
   pub right : r .right ≡ word w (36 + 3 * i)
 
 pub record OpenNamed (w : List ℕ) (i : ℕ) (o : Open) : Type 0 where
-  pub fid : o .fid ≡ word w (131 + 6 * i)
-  pub uid : o .uid ≡ word w (132 + 6 * i)
-  pub tid : o .tid ≡ word w (133 + 6 * i)
-  pub process : o .process ≡ word w (134 + 6 * i)
-  pub file : o .file ≡ word w (135 + 6 * i)
-  pub access : o .access ≡ word w (136 + 6 * i)
+  pub fid : o .fid ≡ word w (131 + 7 * i)
+  pub uid : o .uid ≡ word w (132 + 7 * i)
+  pub tid : o .tid ≡ word w (133 + 7 * i)
+  pub process : o .process ≡ word w (134 + 7 * i)
+  pub file : o .file ≡ word w (135 + 7 * i)
+  pub access : o .access ≡ word w (136 + 7 * i)
+  pub sharing : o .sharing ≡ word w (137 + 7 * i)
 
 pub record LockNamed (w : List ℕ) (i : ℕ) (l : Lock) : Type 0 where
-  pub fid : l .fid ≡ word w (516 + 5 * i)
-  pub process : l .process ≡ word w (517 + 5 * i)
-  pub offset : l .offset ≡ word w (518 + 5 * i)
-  pub length : l .length ≡ word w (519 + 5 * i)
-  pub shared : cond (l .shared) 1 0 ≡ word w (520 + 5 * i)
+  pub fid : l .fid ≡ word w (580 + 5 * i)
+  pub process : l .process ≡ word w (581 + 5 * i)
+  pub offset : l .offset ≡ word w (582 + 5 * i)
+  pub length : l .length ≡ word w (583 + 5 * i)
+  pub shared : cond (l .shared) 1 0 ≡ word w (584 + 5 * i)
+
+-- document 02, CR 6: a name of the catalogue
+pub record NameNamed (w : List ℕ) (i : ℕ) (n : Name) : Type 0 where
+  pub length : n .length ≡ word w (1237 + 14 * i)
+  pub text : (j : ℕ) → j < 12 → getD (n .text) j 0 ≡ word w (1238 + j + 14 * i)
+  pub file : n .file ≡ word w (1250 + 14 * i)
 
 -- the tables that the words hold: each count, each record in use and each size
 pub record Named (w : List ℕ) : Type 0 where
@@ -53,9 +61,11 @@ pub record Named (w : List ℕ) : Type 0 where
   pub trees : (i : ℕ) → i < word w 33 → i < 32 → TreeNamed w i (getD (tablesOf w .trees) i noTree)
   pub open-count : tablesOf w .nopens ≡ word w 130
   pub opens : (i : ℕ) → i < word w 130 → i < 64 → OpenNamed w i (getD (tablesOf w .opens) i noOpen)
-  pub lock-count : tablesOf w .nlocks ≡ word w 515
-  pub locks : (i : ℕ) → i < word w 515 → i < 128 → LockNamed w i (getD (tablesOf w .locks) i noLock)
-  pub sizes : (i : ℕ) → i < 16 → getD (tablesOf w .files) i noFile .size ≡ word w (1156 + i)
+  pub lock-count : tablesOf w .nlocks ≡ word w 579
+  pub locks : (i : ℕ) → i < word w 579 → i < 128 → LockNamed w i (getD (tablesOf w .locks) i noLock)
+  pub sizes : (i : ℕ) → i < 16 → getD (tablesOf w .files) i noFile .size ≡ word w (1220 + i)
+  pub name-count : tablesOf w .nnames ≡ word w 1236
+  pub names : (i : ℕ) → i < word w 1236 → i < 16 → NameNamed w i (getD (tablesOf w .names) i noName)
 
 -- ---- a word of a part, and of a record of a part
 
@@ -67,16 +77,18 @@ module _ (w : List ℕ) (from n : ℕ) where
   of-record k i j at below inside e =
       getD-take k _ j 0 below ∙ getD-drop (1 + k * i) (part w from n) j 0 ∙ of-part (1 + k * i + j) at inside e
 
-module _ (w : List ℕ) (long : length w ≡ 1172) (e : inUseFit w ≡ true) where
-  -- the four tables fit
+module _ (w : List ℕ) (long : length w ≡ 1461) (e : inUseFit w ≡ true) where
+  -- the four tables and the catalogue fit
   fits : (tableFits sessionLimits 16 (part w 0 33) ≡ true) × (tableFits treeLimits 32 (part w 33 97) ≡ true)
-      × (tableFits openLimits 64 (part w 130 385) ≡ true) × (tableFits lockLimits 128 (part w 515 641) ≡ true)
+      × (tableFits openLimits 64 (part w 130 449) ≡ true) × (tableFits lockLimits 128 (part w 579 641) ≡ true)
+      × (tableFits nameLimits 16 (part w 1236 225) ≡ true)
   unfolding inUseFit
   fits =
       let a = both-hold (tableFits sessionLimits 16 (part w 0 33)) _ e in
       let b = both-hold (tableFits treeLimits 32 (part w 33 97)) _ (a .1) in
-      let c = both-hold (tableFits openLimits 64 (part w 130 385)) (tableFits lockLimits 128 (part w 515 641)) (b .1) in
-      (a .0, b .0, c .0, c .1)
+      let c = both-hold (tableFits openLimits 64 (part w 130 449)) _ (b .1) in
+      let d = both-hold (tableFits lockLimits 128 (part w 579 641)) (tableFits nameLimits 16 (part w 1236 225)) (c .1) in
+      (a .0, b .0, c .0, d .0, d .1)
 
   session-words : (i : ℕ) → i < word w 0 → i < 16 → SessionNamed w i (getD (tablesOf w .sessions) i noSession)
   unfolding tablesOf
@@ -102,28 +114,54 @@ module _ (w : List ℕ) (long : length w ≡ 1172) (e : inUseFit w ≡ true) whe
   open-words : (i : ℕ) → i < word w 130 → i < 64 → OpenNamed w i (getD (tablesOf w .opens) i noOpen)
   unfolding tablesOf
   open-words i h below =
-      let count = of-part w 130 385 0 130 (omega arith) (omega arith) in
-      let same = opens-faithful (part w 130 385) i (length-part w 130 385 (omega arith)) (fits .2) (omega arith) in
+      let count = of-part w 130 449 0 130 (omega arith) (omega arith) in
+      let same = opens-faithful (part w 130 449) i (length-part w 130 449 (omega arith)) (fits .2) (omega arith) in
       record {
-        fid = ap (λ (l : List ℕ). word l 0) same ∙ of-record w 130 385 6 i 0 (131 + 6 * i) (omega arith) (omega arith) (omega arith);
-        uid = ap (λ (l : List ℕ). word l 1) same ∙ of-record w 130 385 6 i 1 (132 + 6 * i) (omega arith) (omega arith) (omega arith);
-        tid = ap (λ (l : List ℕ). word l 2) same ∙ of-record w 130 385 6 i 2 (133 + 6 * i) (omega arith) (omega arith) (omega arith);
-        process = ap (λ (l : List ℕ). word l 3) same ∙ of-record w 130 385 6 i 3 (134 + 6 * i) (omega arith) (omega arith) (omega arith);
-        file = ap (λ (l : List ℕ). word l 4) same ∙ of-record w 130 385 6 i 4 (135 + 6 * i) (omega arith) (omega arith) (omega arith);
-        access = ap (λ (l : List ℕ). word l 5) same ∙ of-record w 130 385 6 i 5 (136 + 6 * i) (omega arith) (omega arith) (omega arith);
+        fid = ap (λ (l : List ℕ). word l 0) same ∙ of-record w 130 449 7 i 0 (131 + 7 * i) (omega arith) (omega arith) (omega arith);
+        uid = ap (λ (l : List ℕ). word l 1) same ∙ of-record w 130 449 7 i 1 (132 + 7 * i) (omega arith) (omega arith) (omega arith);
+        tid = ap (λ (l : List ℕ). word l 2) same ∙ of-record w 130 449 7 i 2 (133 + 7 * i) (omega arith) (omega arith) (omega arith);
+        process = ap (λ (l : List ℕ). word l 3) same ∙ of-record w 130 449 7 i 3 (134 + 7 * i) (omega arith) (omega arith) (omega arith);
+        file = ap (λ (l : List ℕ). word l 4) same ∙ of-record w 130 449 7 i 4 (135 + 7 * i) (omega arith) (omega arith) (omega arith);
+        access = ap (λ (l : List ℕ). word l 5) same ∙ of-record w 130 449 7 i 5 (136 + 7 * i) (omega arith) (omega arith) (omega arith);
+        sharing = ap (λ (l : List ℕ). word l 6) same ∙ of-record w 130 449 7 i 6 (137 + 7 * i) (omega arith) (omega arith) (omega arith);
       }
 
-  lock-words : (i : ℕ) → i < word w 515 → i < 128 → LockNamed w i (getD (tablesOf w .locks) i noLock)
+  lock-words : (i : ℕ) → i < word w 579 → i < 128 → LockNamed w i (getD (tablesOf w .locks) i noLock)
   unfolding tablesOf
   lock-words i h below =
-      let count = of-part w 515 641 0 515 (omega arith) (omega arith) in
-      let same = locks-faithful (part w 515 641) i (length-part w 515 641 (omega arith)) (fits .3) (omega arith) in
+      let count = of-part w 579 641 0 579 (omega arith) (omega arith) in
+      let same = locks-faithful (part w 579 641) i (length-part w 579 641 (omega arith)) (fits .3) (omega arith) in
       record {
-        fid = ap (λ (l : List ℕ). word l 0) same ∙ of-record w 515 641 5 i 0 (516 + 5 * i) (omega arith) (omega arith) (omega arith);
-        process = ap (λ (l : List ℕ). word l 1) same ∙ of-record w 515 641 5 i 1 (517 + 5 * i) (omega arith) (omega arith) (omega arith);
-        offset = ap (λ (l : List ℕ). word l 2) same ∙ of-record w 515 641 5 i 2 (518 + 5 * i) (omega arith) (omega arith) (omega arith);
-        length = ap (λ (l : List ℕ). word l 3) same ∙ of-record w 515 641 5 i 3 (519 + 5 * i) (omega arith) (omega arith) (omega arith);
-        shared = ap (λ (l : List ℕ). word l 4) same ∙ of-record w 515 641 5 i 4 (520 + 5 * i) (omega arith) (omega arith) (omega arith);
+        fid = ap (λ (l : List ℕ). word l 0) same ∙ of-record w 579 641 5 i 0 (580 + 5 * i) (omega arith) (omega arith) (omega arith);
+        process = ap (λ (l : List ℕ). word l 1) same ∙ of-record w 579 641 5 i 1 (581 + 5 * i) (omega arith) (omega arith) (omega arith);
+        offset = ap (λ (l : List ℕ). word l 2) same ∙ of-record w 579 641 5 i 2 (582 + 5 * i) (omega arith) (omega arith) (omega arith);
+        length = ap (λ (l : List ℕ). word l 3) same ∙ of-record w 579 641 5 i 3 (583 + 5 * i) (omega arith) (omega arith) (omega arith);
+        shared = ap (λ (l : List ℕ). word l 4) same ∙ of-record w 579 641 5 i 4 (584 + 5 * i) (omega arith) (omega arith) (omega arith);
+      }
+
+  name-words : (i : ℕ) → i < word w 1236 → i < 16 → NameNamed w i (getD (tablesOf w .names) i noName)
+  unfolding tablesOf
+  name-words i h below =
+      let count = of-part w 1236 225 0 1236 (omega arith) (omega arith) in
+      let full = length-part w 1236 225 (omega arith) in
+      let n = getD (nameArray (part w 1236 225)) i noName in
+      let same = names-faithful (part w 1236 225) i full (fits .4) (omega arith) in
+      let here : (1 + 14 * i) + 14 ≤ length (part w 1236 225) = omega arith in
+      let long : suc (length (n .text ++ (n .file ∷ []))) ≡ 14 = ap length same ∙ length-part (part w 1236 225) (1 + 14 * i) 14 here in
+      let text-and-file = length-append (n .text) (n .file ∷ []) in
+      let twelve : length (n .text) ≡ 12 = omega arith in
+      record {
+        length = ap (λ (l : List ℕ). word l 0) same ∙ of-record w 1236 225 14 i 0 (1237 + 14 * i) (omega arith) (omega arith) (omega arith);
+        text = λ j few.
+            let inside : j < length (n .text) = omega arith in
+            sym (List·getD-append (n .text) (n .file ∷ []) 0 j inside)
+            ∙ ap (λ (l : List ℕ). word l (suc j)) same
+            ∙ of-record w 1236 225 14 i (suc j) (1238 + j + 14 * i) (omega arith) (omega arith) (omega arith);
+        file =
+            sym (getD-append-seam (n .text) (n .file) [] 0)
+            ∙ ap (word (n .text ++ (n .file ∷ []))) twelve
+            ∙ ap (λ (l : List ℕ). word l 13) same
+            ∙ of-record w 1236 225 14 i 13 (1250 + 14 * i) (omega arith) (omega arith) (omega arith);
       }
 
   -- each field is the word that the header has for it
@@ -135,9 +173,11 @@ module _ (w : List ℕ) (long : length w ≡ 1172) (e : inUseFit w ≡ true) whe
         sessions = session-words;
         tree-count = of-part w 33 97 0 33 (omega arith) (omega arith);
         trees = tree-words;
-        open-count = of-part w 130 385 0 130 (omega arith) (omega arith);
+        open-count = of-part w 130 449 0 130 (omega arith) (omega arith);
         opens = open-words;
-        lock-count = of-part w 515 641 0 515 (omega arith) (omega arith);
+        lock-count = of-part w 579 641 0 579 (omega arith) (omega arith);
         locks = lock-words;
-        sizes = λ i h. ap (λ (f : File). f .size) (file-at (part w 1156 16) i noFile h) ∙ of-part w 1156 16 i (1156 + i) h (omega arith);
+        sizes = λ i h. ap (λ (f : File). f .size) (file-at (part w 1220 16) i noFile h) ∙ of-part w 1220 16 i (1220 + i) h (omega arith);
+        name-count = of-part w 1236 225 0 1236 (omega arith) (omega arith);
+        names = name-words;
       }
