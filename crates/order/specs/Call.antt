@@ -14,7 +14,11 @@ use Rattle.message.specs.Message.{Taken, take-message}
 use Rattle.invariants.specs.Fit.{Fit}
 use Rattle.invariants.specs.Sound.{Good}
 use Rattle.demands.specs.NotServed.{Known}
+use Rattle.message.specs.JustOpened.{NOBODY}
 use Rattle.demands.specs.Calls.{statusRead}
+use Rattle.demands.specs.CallsOneByOne.{Calls}
+use Rattle.demands.specs.SpansOneByOne.{ownSpan, callSpans}
+use Rattle.demands.specs.SpansRefused.{lastReturned}
 
 -- what a call is lent: "one request message, the tables of sessions, trees, opens and locks and the file memory", with the connection's number and the room
 -- for the reply
@@ -62,3 +66,12 @@ sending c message = record { connection = c .connection; message = message; tabl
 -- "reply room 12,292", for the messages of a chain's commands sent one by one
 abbrev pub someRoom : List ℕ
 someRoom = replicate 12292 0
+
+-- what the commands of some blocks leave, sent one to a message up to the first refused; the first of them carries no FID returned, and a FID 0xFFFF is nobody's
+abbrev pub leftBy : Call → List Span → Calls
+leftBy c spans = callSpans (c .connection) (c .message) someRoom NOBODY spans (c .tables) (c .memory)
+
+-- the message of the next one: "for 0xFFFF, and only then, demand 3's separate READ carries the FID returned" (document 02, CR 6) by the last of these
+abbrev pub ownMessage : Call → List Span → Span → List ℕ
+ownMessage c front command =
+    ownSpan (c .message) (lastReturned (c .connection) (c .message) someRoom NOBODY front (c .tables) (c .memory)) command

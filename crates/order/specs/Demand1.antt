@@ -5,34 +5,35 @@ use Prim.Native.Nat.{ℕ, _≤_}
 use mathlib.Core.List.{List, [], _∷_, _++_}
 use lib.ListN.{length, length-replicate}
 use Rattle.wire.specs.LittleEndian.{byteAt}
+use Rattle.records.specs.declared.Name.{Name}
 use Rattle.records.specs.declared.Tables.{Tables}
-use Rattle.host.specs.HostCall.{addSession, addTree, addOpen, loadFile, loadMemory, dropConnection}
-use Rattle.chain.specs.Layout.{LOCKING, READ, WRITE, CLOSE, LOGOFF, TREE_DISCONNECT, PROCESS_EXIT, CORE-READ, CORE-WRITE, LOCK_BYTE_RANGE, UNLOCK_BYTE_RANGE, FIRST, firstFid, coreCount}
+use Rattle.host.specs.HostCall.{addSession, addTree, addOpen, loadFile, loadMemory, dropConnection, setCatalogue}
+use Rattle.chain.specs.Layout.{LOCKING, READ, WRITE, CLOSE, LOGOFF, TREE_DISCONNECT, PROCESS_EXIT, CORE-READ, CORE-WRITE, LOCK_BYTE_RANGE, UNLOCK_BYTE_RANGE, OPEN, FIRST, firstFid, coreCount}
 use Rattle.chain.specs.Grammar.{Span, Reading, Sentence}
-use Rattle.chain.specs.Parse.{rangeFields}
+use Rattle.chain.specs.Parse.{rangeFields, openFields}
 use Rattle.chain.specs.declared.block.WriteFields.{WriteFields}
 use Rattle.message.specs.Message.{Taken, notTaken, take-message}
+use Rattle.message.specs.JustOpened.{NOBODY}
 use Rattle.message.specs.declared.caller.Caller.{Caller}
 use Rattle.message.specs.declared.refusal.Status.{Status}
 use Rattle.message.specs.declared.refusal.HeldBy.the-variants.{Nobody}
 use Rattle.invariants.specs.Sound.{Good}
-use Rattle.claims.specs.HostReasons.{SessionReason, TreeReason, OpenReason, LoadReason, DropReason, addSession-reason, addSession-given, addTree-reason, addTree-given, addOpen-reason, addOpen-given, loadFile-reason, loadFile-given, dropConnection-reason, dropConnection-given}
-use Rattle.claims.specs.HostAnswer.{Unchanged, addSession-refused, addTree-refused, addOpen-refused, loadFile-refused, loadMemory-refused, dropConnection-refused}
+use Rattle.claims.specs.HostReasons.{SessionReason, TreeReason, OpenReason, LoadReason, DropReason, SetReason, addSession-reason, addSession-given, addTree-reason, addTree-given, addOpen-reason, addOpen-given, loadFile-reason, loadFile-given, dropConnection-reason, dropConnection-given, setCatalogue-reason, setCatalogue-given}
+use Rattle.claims.specs.HostAnswer.{Unchanged, addSession-refused, addTree-refused, addOpen-refused, loadFile-refused, loadMemory-refused, dropConnection-refused, setCatalogue-refused}
 use Rattle.demands.specs.MessageReasons.{MessageReason, take-message-reason, take-message-given}
 use Rattle.demands.specs.NotServed.{Known, not-served-exact}
 use Rattle.demands.specs.CoreReasons.{LockStatus, UnlockStatus}
+use Rattle.demands.specs.OpenReasons.{OpenStatus}
 use Rattle.demands.specs.CommandReasons.{SessionStatus, TreeStatus, CloseStatus, ReadStatus, WriteStatus, SetSizeStatus, CoreWriteStatus, some-count, count-0}
-use Rattle.demands.specs.WireFields.{readFields, writeFields, coreReadFields, coreWriteFields}
+use Rattle.demands.specs.WireFields.{readFields, writeFields, coreReadFields, coreWriteFields, openName}
 use Rattle.demands.specs.LockReasons.{LockingReason, locking-reason-exact}
-use Rattle.demands.specs.FirstReadings.{read-exact, write-exact, close-exact, disconnect-exact, logoff-exact, exit-exact, core-read-exact, core-write-exact, lock-exact, unlock-exact}
+use Rattle.demands.specs.FirstReadings.{read-exact, write-exact, close-exact, disconnect-exact, logoff-exact, exit-exact, core-read-exact, core-write-exact, lock-exact, unlock-exact, open-exact}
 use Rattle.demands.specs.RoomKept.{RoomKept, refused-writes-nothing, room-kept}
 use Rattle.demands.specs.SpansRefused.{AllCarried, spans-refused}
-use Rattle.demands.specs.CallsOneByOne.{Calls}
-use Rattle.demands.specs.SpansOneByOne.{aloneSpan, callSpans}
 use Rattle.demands.specs.Reached.{HostCall, call-good, Reached, reached-good}
 use Rattle.demands.specs.Calls.{statusRead}
 use Rattle.demands.specs.NoSentence.{no-sentence-taken}
-use Rattle.order.specs.Call.{Call, gives, Answerable, BeginsKnown, OneCommand, statusGiven, Says, sender, someRoom}
+use Rattle.order.specs.Call.{Call, gives, Answerable, BeginsKnown, OneCommand, statusGiven, Says, sender, someRoom, leftBy, ownMessage}
 
 -- "No message and no host call, with any bytes, may stop the box or touch memory it wasn't lent": that is what the check of a crate with code shows of each of
 -- its functions (it ends, no index is out of range, no sum wraps), and no entry point has a `requires`. How much stack a call takes is measured, not proved.
@@ -45,6 +46,8 @@ pub record NumberForItsReason : Type 0 where
   pub open-file : (t : Tables) (uid tid process file access n : ℕ) → (addOpen t uid tid process file access .number ≡ n) ↔ OpenReason t uid tid file access n
   pub load : (t : Tables) (file : ℕ) (bytes memory : List ℕ) (n : ℕ) → (loadFile t file bytes memory .number ≡ n) ↔ LoadReason t file (length bytes) (length memory) n
   pub drop : (t : Tables) (connection n : ℕ) → (dropConnection t connection .number ≡ n) ↔ DropReason t n
+  -- document 02, CR 6: "for the catalogue 7: over 16 names, a name of another length, with a zero byte or doubled, a file above 15"
+  pub catalogue : (t : Tables) (names : List Name) (count n : ℕ) → (setCatalogue t names count .number ≡ n) ↔ SetReason t names count n
 
 -- the same of the Status in the reply: of a message whose command is not known, and of each command alone in its message. (2/1: Demand3. In a chain: Demand3, OneToAMessage.)
 pub record StatusForItsReason : Type 0 where
@@ -67,6 +70,9 @@ pub record StatusForItsReason : Type 0 where
   pub core-lock : (c : Call) → Answerable c → OneCommand c LOCK_BYTE_RANGE → (n : Status) → (statusGiven c ≡ n) ↔ LockStatus (sender c) (c .tables) (rangeFields (c .message) FIRST) n
   pub core-unlock : (c : Call) → Answerable c → OneCommand c UNLOCK_BYTE_RANGE → (n : Status)
       → (statusGiven c ≡ n) ↔ UnlockStatus (sender c) (c .tables) (rangeFields (c .message) FIRST) n
+  -- OPEN_ANDX (document 02, CR 6): "Refusals, after 2/5: 2/65535 OpenMode, 1/12 access or sharing code, 1/2 name, 1/5 tree right, 1/32 sharing, 1/4 all 64 FIDs in use"
+  pub opening : (c : Call) → Answerable c → OneCommand c OPEN → (n : Status)
+      → (statusGiven c ≡ n) ↔ OpenStatus (sender c) (c .tables) (openFields (c .message) FIRST) (openName (c .message)) n
 
 -- "and then every table and file byte stands as before that command": a call refused by its number writes nothing at all
 pub record RefusedByNumber : Type 0 where
@@ -78,16 +84,13 @@ pub record RefusedByNumber : Type 0 where
   pub load : (t : Tables) (file : ℕ) (bytes memory : List ℕ) → (loadFile t file bytes memory .number ≡ 0 → ⊥)
       → Unchanged t (loadFile t file bytes memory) × (loadMemory t file bytes memory ≡ memory)
   pub drop : (t : Tables) (connection : ℕ) → (dropConnection t connection .number ≡ 0 → ⊥) → Unchanged t (dropConnection t connection)
+  pub catalogue : (t : Tables) (names : List Name) (count : ℕ) → (setCatalogue t names count .number ≡ 0 → ⊥) → Unchanged t (setCatalogue t names count)
 
 -- nor does a message change anything that is no sentence, whatever its command (2/1, 2/22): its reply is the header and one refused block, with no holder
 abbrev pub NoSentence : Type 0
 NoSentence =
     (c : Call) → Answerable c → (Sentence (c .message) → ⊥) → (gives c .tables ≡ c .tables) × (gives c .memory ≡ c .memory) × (gives c .length ≡ 35)
     × (gives c .holder ≡ Nobody)
-
--- what the commands of some blocks leave, sent one to a message up to the first refused
-abbrev pub leftBy : Call → List Span → Calls
-leftBy c spans = callSpans (c .connection) (c .message) someRoom spans (c .tables) (c .memory)
 
 -- and a command refused in the reply (Status not 0), alone or in a chain, leaves what the commands before it have left; its own message, sent on that, is answered with
 -- the same Status and has the same holder; those after it aren't begun
@@ -96,11 +99,11 @@ pub record CommandRefused (c : Call) (spans : List Span) : Type 0 where
   pub command : Span
   pub later : List Span
   pub split : spans ≡ front ++ (command ∷ later)
-  pub front-stands : AllCarried (c .connection) (c .message) someRoom front (c .tables) (c .memory)
+  pub front-stands : AllCarried (c .connection) (c .message) someRoom NOBODY front (c .tables) (c .memory)
   pub tables-left : gives c .tables ≡ leftBy c front .tables
   pub memory-left : gives c .memory ≡ leftBy c front .memory
-  pub refused-alone : statusRead (take-message (c .connection) (aloneSpan (c .message) command) (leftBy c front .tables) (leftBy c front .memory) someRoom .room) ≡ statusGiven c
-  pub holder-alone : take-message (c .connection) (aloneSpan (c .message) command) (leftBy c front .tables) (leftBy c front .memory) someRoom .holder ≡ gives c .holder
+  pub refused-alone : statusRead (take-message (c .connection) (ownMessage c front command) (leftBy c front .tables) (leftBy c front .memory) someRoom .room) ≡ statusGiven c
+  pub holder-alone : take-message (c .connection) (ownMessage c front command) (leftBy c front .tables) (leftBy c front .memory) someRoom .holder ≡ gives c .holder
   pub later-not-begun : leftBy c spans ≡ leftBy c (front ++ (command ∷ []))
 
 abbrev pub RefusedInReply : Type 0
@@ -149,6 +152,7 @@ demand-1 =
         open-file = λ t uid tid process file access. exactly (addOpen-reason t uid tid process file access) (λ n r. addOpen-given t uid tid process file access r);
         load = λ t file bytes memory. exactly (loadFile-reason t file bytes memory) (λ n r. loadFile-given t file bytes memory r);
         drop = λ t connection. exactly (dropConnection-reason t connection) (λ n r. dropConnection-given t connection r);
+        catalogue = λ t names count. exactly (setCatalogue-reason t names count) (λ n r. setCatalogue-given t names count r);
       };
       status-for-its-reason = record {
         not-known = λ c a. not-served-exact (c .connection) (c .message) (c .tables) (c .memory) (c .room) (a .fit);
@@ -166,6 +170,7 @@ demand-1 =
             Iff·trans (core-write-exact (c .connection) (c .message) (one .reading) (c .tables) (c .memory) (c .room) (a .fit) (one .is) n) (by-none e, count-0 e);
         core-lock = λ c a one n. lock-exact (c .connection) (c .message) (one .reading) (c .tables) (c .memory) (c .room) (a .fit) (one .is) n;
         core-unlock = λ c a one n. unlock-exact (c .connection) (c .message) (one .reading) (c .tables) (c .memory) (c .room) (a .fit) (one .is) n;
+        opening = λ c a one n. open-exact (c .connection) (c .message) (one .reading) (c .tables) (c .memory) (c .room) (a .fit) (one .is) n;
       };
       refused-by-number = record {
         message = λ c. refused-writes-nothing (c .connection) (c .message) (c .tables) (c .memory) (c .room);
@@ -174,6 +179,7 @@ demand-1 =
         open-file = addOpen-refused;
         load = λ t file bytes memory n. (loadFile-refused t file bytes memory n, loadMemory-refused t file bytes memory n);
         drop = dropConnection-refused;
+        catalogue = setCatalogue-refused;
       };
       no-sentence = λ c a none.
           let q = no-sentence-taken (c .connection) (c .message) (c .tables) (c .memory) (c .room) (a .fit) none in (q .0 .same-tables, q .0 .same-memory, q .1, q .2);

@@ -10,7 +10,7 @@ use Rattle.records.specs.declared.Lock.{Lock}
 use Rattle.records.specs.Held.{locksOf}
 use Rattle.locks.specs.Range.{Overlap}
 use Rattle.locks.specs.declared.types.LockRange.{LockRange}
-use Rattle.chain.specs.Layout.{LOCKING, READ, WRITE, CLOSE, LOGOFF, TREE_DISCONNECT, PROCESS_EXIT, CORE-READ, CORE-WRITE, LOCK_BYTE_RANGE, UNLOCK_BYTE_RANGE, headerCommand, FIRST, fidAfterAndx, lockType, unlockCount, lockCount, firstFid, coreCount, coreOffset}
+use Rattle.chain.specs.Layout.{LOCKING, READ, WRITE, CLOSE, LOGOFF, TREE_DISCONNECT, PROCESS_EXIT, CORE-READ, CORE-WRITE, LOCK_BYTE_RANGE, UNLOCK_BYTE_RANGE, OPEN, headerCommand, FIRST, fidAfterAndx, lockType, unlockCount, lockCount, firstFid, coreCount, coreOffset}
 use Rattle.chain.specs.Grammar.{Span, Reading, Sentence}
 use Rattle.chain.specs.Parse.{rangeFields}
 use Rattle.message.specs.Caller.{callerOf}
@@ -24,11 +24,13 @@ use Rattle.demands.specs.LoneCall.{lockingFields, lockingArea, lone-lock-readin
 use Rattle.demands.specs.ReplyHeader.{HeaderOf, reply-header as header-given}
 use Rattle.demands.specs.FirstReadings.{BarsReadOn, BarsWriteOn, BarsCoreReadOn, BarsCoreWriteOn, BarsSizeOn, first-read-reading, first-write-reading, first-core-read-reading, first-core-write-reading, first-set-size-reading, first-lock-reading}
 use Rattle.demands.specs.Effects.{ReadDone, WriteDone, CoreReadDone, CoreWriteDone, read-reading, write-reading, core-read-reading, core-write-reading, close-reading, disconnect-reading, logoff-reading, exit-reading}
+use Rattle.demands.specs.OpenEffects.{OpenDone, open-reading}
 use Rattle.demands.specs.SetSize.{SetSizeDone, set-size-reading}
 use Rattle.demands.specs.LockEffects.{LockingDone, LockRangeDone, UnlockRangeDone, locking-reading, lock-reading, unlock-reading}
 use Rattle.claims.specs.RemovalPlain.{Closed, Disconnected, LoggedOff, Exited}
-use Rattle.claims.specs.HostFrames.{SessionAdded, TreeAdded, OpenAdded, FileLoaded, ConnectionDropped, addSession-frame, addTree-frame, addOpen-frame, loadFile-frame, dropConnection-frame}
-use Rattle.host.specs.HostCall.{addSession, addTree, addOpen, loadFile, loadMemory, dropConnection}
+use Rattle.claims.specs.HostFrames.{SessionAdded, TreeAdded, OpenAdded, FileLoaded, ConnectionDropped, CatalogueSet, addSession-frame, addTree-frame, addOpen-frame, loadFile-frame, dropConnection-frame, setCatalogue-frame}
+use Rattle.host.specs.HostCall.{addSession, addTree, addOpen, loadFile, loadMemory, dropConnection, setCatalogue}
+use Rattle.records.specs.declared.Name.{Name}
 use Rattle.records.specs.declared.Tables.{Tables}
 use Rattle.invariants.specs.Sound.{Good}
 use Rattle.order.specs.Call.{Call, gives, Answerable, OneCommand, Says, sender}
@@ -69,6 +71,8 @@ pub record CarriedOut : Type 0 where
       → SetSizeDone (sender c) (c .tables) (firstFid (c .message) FIRST) (coreOffset (c .message) FIRST) (c .memory) (gives c)
   pub core-lock : (c : Call) → DoneAlone c LOCK_BYTE_RANGE → LockRangeDone (c .connection) (c .message) (c .tables) (c .memory) (gives c)
   pub core-unlock : (c : Call) → DoneAlone c UNLOCK_BYTE_RANGE → UnlockRangeDone (c .connection) (c .message) (c .tables) (c .memory) (gives c)
+  -- OPEN_ANDX (document 02, CR 6): one open more, with the smallest free FID, and the reply's bytes with Flags bit 0 clear and set
+  pub opening : (c : Call) → DoneAlone c OPEN → OpenDone (c .connection) (c .message) (c .tables) (c .memory) (gives c)
 
 -- what a host call leaves, and what stands
 pub record HostCallsDone : Type 0 where
@@ -79,6 +83,7 @@ pub record HostCallsDone : Type 0 where
   pub load : (t : Tables) → Good t → (file : ℕ) (bytes memory : List ℕ) → loadFile t file bytes memory .number ≡ 0
       → FileLoaded t file bytes memory (loadFile t file bytes memory) (loadMemory t file bytes memory)
   pub drop : (t : Tables) (connection : ℕ) → dropConnection t connection .number ≡ 0 → ConnectionDropped t connection (dropConnection t connection)
+  pub catalogue : (t : Tables) (names : List Name) (count : ℕ) → setCatalogue t names count .number ≡ 0 → CatalogueSet t names count (setCatalogue t names count)
 
 -- ---- locks
 
@@ -187,6 +192,7 @@ demand-2 =
         set-size = λ c d. set-size-reading (c .connection) (c .message) (d .1 .reading) (c .tables) (c .memory) (c .room) (d .0 .good) (d .0 .fit) (d .2) (d .1 .is);
         core-lock = λ c d. lock-reading (c .connection) (c .message) (d .1 .reading) (c .tables) (c .memory) (c .room) (d .0 .good) (d .0 .fit) (d .2) (d .1 .is);
         core-unlock = λ c d. unlock-reading (c .connection) (c .message) (d .1 .reading) (c .tables) (c .memory) (c .room) (d .0 .good) (d .0 .fit) (d .2) (d .1 .is);
+        opening = λ c d. open-reading (c .connection) (c .message) (d .1 .reading) (c .tables) (c .memory) (c .room) (d .0 .good) (d .0 .fit) (d .2) (d .1 .is);
       };
       host-calls-done = record {
         session = addSession-frame;
@@ -194,6 +200,7 @@ demand-2 =
         open-file = addOpen-frame;
         load = λ t g. loadFile-frame t (g .shaped);
         drop = dropConnection-frame;
+        catalogue = setCatalogue-frame;
       };
       lone-lock = λ c spans o a r asks bits valid low.
           let q = lone-lock-reading (c .connection) (c .message) r (c .tables) (c .memory) (c .room) (a .fit) o (asks .is-locking) (asks .no-unlock) (asks .one-lock) bits valid low in (

@@ -20,9 +20,10 @@ use Rattle.demands.specs.NotServed.{known-exact}
 use Rattle.demands.specs.Calls.{malformed-call}
 use Rattle.demands.specs.Taken.{free-taken, unread-taken}
 use Rattle.demands.specs.CallsOneByOne.{comparedCall}
-use Rattle.demands.specs.SpansOneByOne.{callSpans, spans-one-by-one}
+use Rattle.message.specs.JustOpened.{NOBODY}
+use Rattle.demands.specs.SpansOneByOne.{spans-one-by-one}
 use Rattle.demands.specs.SpansFit.{AllSentFit, spans-fit}
-use Rattle.order.specs.Call.{Call, gives, Answerable, BeginsKnown, Says, sending, someRoom}
+use Rattle.order.specs.Call.{Call, gives, Answerable, BeginsKnown, Says, sending, someRoom, leftBy}
 
 -- "The grammar of chained messages is written without reference to the reader": chain/specs/Grammar.antt cites chain/specs/Layout.antt, where each field
 -- stands, and nothing else.
@@ -54,16 +55,16 @@ UnreadBytes =
     → Answerable c → Answerable (sending c other) → gives (sending c other) ≡ gives c
 
 -- "A sentence's commands sent one to a message, up to the first refused, give the chain's reply blocks, status, tables and files, every byte"; and its holder
--- (document 02, CR 2), the last message's. The calls one by one are demands/specs/SpansOneByOne.antt's `callSpans`, and what is compared
--- CallsOneByOne.antt's `comparedCall`
+-- (document 02, CR 2), the last message's. The calls one by one are demands/specs/SpansOneByOne.antt's `callSpans`, each a
+-- block's own message, where "for 0xFFFF, and only then, demand 3's separate READ carries the FID returned" (CR 6), and what is compared CallsOneByOne.antt's `comparedCall`
 abbrev pub OneToAMessage : Type 0
 OneToAMessage =
     (c : Call) (spans : List Span) → Reading (c .message) spans → Answerable c
-    → gives c ≡ comparedCall (c .message) (c .room) (callSpans (c .connection) (c .message) someRoom spans (c .tables) (c .memory))
+    → gives c ≡ comparedCall (c .message) (c .room) (leftBy c spans)
 
 -- each of these messages is fit to be answered and is one command alone, so that demand 1's reasons and demand 2's effects speak of it
 abbrev pub EachAlone : Type 0
-EachAlone = (c : Call) (spans : List Span) → Reading (c .message) spans → Answerable c → AllSentFit (c .connection) (c .message) someRoom spans (c .tables) (c .memory)
+EachAlone = (c : Call) (spans : List Span) → Reading (c .message) spans → Answerable c → AllSentFit (c .connection) (c .message) someRoom NOBODY spans (c .tables) (c .memory)
 
 -- "a small program that lists a message's commands": a line for each block of the reading; `not a chain` exactly if there is none, `dropped` by row 1
 pub record Listed : Type 0 where

@@ -5,8 +5,10 @@ pub mod Demand3
 pub mod Request1
 pub mod Request4
 pub mod Request5
+pub mod Request6
 pub mod Possible
 pub mod Possible2
 pub mod Request2
 pub mod Request3
 pub mod Possible3
+pub mod Possible6

@@ -18,7 +18,7 @@ use Rattle.lists.specs.Stored.{stored}
 use Rattle.wire.specs.LittleEndian.{byteAt, le16At, le32At}
 use Rattle.records.specs.declared.Open.{Open}
 use Rattle.records.specs.declared.Tables.{Tables}
-use Rattle.records.specs.Empty.{noSession, noTree, noOpen, noLock, noFile}
+use Rattle.records.specs.Empty.{noSession, noTree, noOpen, noLock, noFile, noName}
 use Rattle.numbers.specs.Number.{contains, numberOk, numbered}
 use Rattle.numbers.specs.Column.{uidOf, tidOf, fidOf}
 use Rattle.locks.specs.Range.{overlaps, passesEnd}
@@ -27,7 +27,8 @@ use Rattle.locks.specs.Answer.{owns, bars, inWay, named, answersFor, answers}
 use Rattle.locks.specs.Request.{ofHeader, rangesOf, holderAt, askOf, lockOf, removeAt, afterFind, releaseAll, afterWalk, grantAll, afterGrants, rangePasses, afterReleases, request, settle, locking}
 use Rattle.soundness.specs.File.{fileOf}
 use Rattle.soundness.specs.Lookup.{isTree}
-use Rattle.soundness.specs.Sound.{withinRoom, fileOk, treeOk, permits, holdsOpen, openOk, soundRecords, lockOk, agree, agreeAll, soundLocks, sound}
+use Rattle.catalogue.specs.Name.{noneDoubled, catalogueOk}
+use Rattle.soundness.specs.Sound.{withinRoom, fileOk, treeOk, permits, holdsOpen, sharingOk, openOk, soundRecords, lockOk, agree, agreeAll, soundLocks, sound}
 use Rattle.chain.specs.Layout.{FIRST, lockType}
 use Rattle.chain.specs.Grammar.{Span, Reading, Sentence}
 use Rattle.chain.specs.Header.{startsSmb, isReply, dropped}
@@ -40,6 +41,7 @@ use Rattle.message.specs.declared.refusal.HeldBy.the-variants.{Nobody, Holder a
 use Rattle.message.specs.Command.{isSession, withSession, withTree, isOpen, openAt, withOpen, servedType, requestOf, withLockList, lockingEnd, lockingAfter, doLocking, askBy, unlessBarred, barring, doRead, perform}
 use Rattle.message.specs.Contents.{sizeOf, contents, readBytes}
 use Rattle.message.specs.Reply.{two, linkWords, replySize, replyBlock, refusedBlock}
+use Rattle.message.specs.JustOpened.{fidMeant, bodyMeant}
 use Rattle.message.specs.Message.{areaOf, dataOf, after, linkTo, afterGiven, run, served, runChain, answered, Taken, replied}
 use Rattle.invariants.specs.Sound.{Good}
 use Rattle.invariants.specs.Fit.{fit-answered}
@@ -68,11 +70,13 @@ plant access held =
       nsessions = 1;
       trees = record { tid = 1; uid = 1; right = 1 } ∷ replicate 31 noTree;
       ntrees = 1;
-      opens = record { fid = 1; uid = 1; tid = 1; process = 7; file = 0; access = access } ∷ replicate 63 noOpen;
+      opens = record { fid = 1; uid = 1; tid = 1; process = 7; file = 0; access = access; sharing = 4 } ∷ replicate 63 noOpen;
       nopens = 1;
       locks = record { fid = 1; process = 9; offset = 105; length = 20; shared = true } ∷ replicate 127 noLock;
       nlocks = held;
       files = replicate 16 noFile;
+      names = replicate 16 noName;
+      nnames = 0;
     }
 
 -- a message of that terminal, with file memory and room as a host lends them
@@ -82,12 +86,12 @@ asked message t = record { connection = 5; message = message; tables = t; memory
 -- ---- the tables are sound and have their room
 
 plant-sound : (sound (plant 2 0) ≡ true) × (sound (plant 1 0) ≡ true) × (sound (plant 2 1) ≡ true)
-unfolding sound withinRoom fileOk treeOk permits holdsOpen openOk soundRecords lockOk agree agreeAll soundLocks any all allTails contains numberOk numbered overlaps passesEnd fileOf plant
+unfolding sound withinRoom fileOk treeOk permits holdsOpen sharingOk catalogueOk noneDoubled openOk soundRecords lockOk agree agreeAll soundLocks any all allTails contains numberOk numbered overlaps passesEnd fileOf plant
 plant-sound = (refl, refl, refl)
 
 good : (access held : ℕ) → sound (plant access held) ≡ true → Good (plant access held)
 unfolding plant
-good access held ok = record { sound = ok; shaped = record { sessions16 = refl; trees32 = refl; opens64 = refl; locks128 = refl; files16 = refl } }
+good access held ok = record { sound = ok; shaped = record { sessions16 = refl; trees32 = refl; opens64 = refl; locks128 = refl; files16 = refl; names16 = refl } }
 
 -- an open for both, one for writing, and the first beside the lock
 pub plant-good : Good (plant 2 0) × Good (plant 1 0) × Good (plant 2 1)
@@ -151,7 +155,7 @@ processNine = held-by (record { lock = record { fid = 1; process = 9; offset = 1
 -- on an open for both LOCKING and READ are done; on one for writing READ is refused (1/5) behind LOCKING's block; beside the shared lock LOCKING is (1/33), and has
 -- its holder
 answers-given : answer-to (message 61 []) (plant 2 0) 0 0 34 Nobody × answer-to (message 61 []) (plant 1 0) 1 5 10 Nobody × answer-to (message 61 []) (plant 2 1) 1 33 3 processNine
-unfolding asked message blocks blocksFrom blocksWithin afterParse afterBlock before parse parseLocking parseRead answer lockingFits readFits linkFits linkAt mayFollow shaped bare isLarge le16At le32At wideOffset rangeSize answered served runChain run afterGiven after perform doLocking withOpen withTree withSession isSession isTree isOpen openAt found foundFrom any servedType requestOf lockingAfter lockingEnd withLockList locking rangesOf ofHeader rangesAt rangeFrom rangeAt numberAt request afterReleases afterGrants grantAll afterWalk holderAt holderOf processNine releaseAll afterFind removeAt rangePasses passesEnd askOf lockOf answers answersFor inWay bars named owns overlaps settle stored doRead unlessBarred barring askBy fileOf callerOf areaOf dataOf status statusOf plant answer-to readBytes contents sizeOf replySize replyBlock refusedBlock linkTo linkWords two
+unfolding asked message blocks blocksFrom blocksWithin afterParse afterBlock before parse parseLocking parseRead answer lockingFits readFits linkFits linkAt mayFollow shaped bare isLarge le16At le32At wideOffset rangeSize answered served runChain run bodyMeant fidMeant afterGiven after perform doLocking withOpen withTree withSession isSession isTree isOpen openAt found foundFrom any servedType requestOf lockingAfter lockingEnd withLockList locking rangesOf ofHeader rangesAt rangeFrom rangeAt numberAt request afterReleases afterGrants grantAll afterWalk holderAt holderOf processNine releaseAll afterFind removeAt rangePasses passesEnd askOf lockOf answers answersFor inWay bars named owns overlaps settle stored doRead unlessBarred barring askBy fileOf callerOf areaOf dataOf status statusOf plant answer-to readBytes contents sizeOf replySize replyBlock refusedBlock linkTo linkWords two
 answers-given = ((refl, refl, refl), (refl, refl, refl), (refl, refl, refl))
 
 call-says : (t : Tables) (ok : Good t) (class code size : ℕ) (held : HeldBy) → answer-to (message 61 []) t class code size held
@@ -185,7 +189,7 @@ pub served-type : OnlyTwoBits (lockType (message 61 []) FIRST)
 unfolding message
 served-type = refl
 
-pub valid-open : ValidOpen (asked (message 61 []) (plant 2 1)) (record { fid = 1; uid = 1; tid = 1; process = 7; file = 0; access = 2 })
+pub valid-open : ValidOpen (asked (message 61 []) (plant 2 1)) (record { fid = 1; uid = 1; tid = 1; process = 7; file = 0; access = 2; sharing = 4 })
 unfolding asked message plant callerOf le16At SessionHere HasTree
 valid-open =
     record {

@@ -22,6 +22,7 @@ use Rattle.message.specs.Caller.{callerOf}
 use Rattle.message.specs.Refusal.{holderOf}
 use Rattle.message.specs.declared.refusal.HeldBy.the-variants.{Holder as held-by}
 use Rattle.message.specs.Command.{isSession, withSession, withTree, isOpen, openAt, withOpen, servedType, requestOf, lockingEnd, lockingAfter, doLocking, perform}
+use Rattle.message.specs.JustOpened.{fidMeant, bodyMeant}
 use Rattle.message.specs.Message.{areaOf, dataOf, afterGiven, run, served, runChain, answered, Taken, replied}
 use Rattle.invariants.specs.Fit.{fit-answered}
 use Rattle.order.specs.Call.{Call, gives, Answerable}
@@ -52,7 +53,7 @@ unfolding twoAsked
 two-answerable = answerable twoRanges (plant 2 1) (plant-good .2) kept
 
 two-given : (answered 5 twoRanges (plant 2 1) (replicate 65536 0) .holder ≡ held-by firstRange) × (answered 5 twoRanges (plant 2 1) (replicate 65536 0) .tables ≡ plant 2 1)
-unfolding twoRanges firstRange plant blocks blocksFrom blocksWithin afterParse afterBlock before parse parseLocking answer lockingFits linkFits linkAt mayFollow shaped bare isLarge le16At le32At rangeSize answered served runChain run afterGiven perform doLocking withOpen withTree withSession isSession isTree isOpen openAt found foundFrom any servedType requestOf lockingAfter lockingEnd locking rangesOf ofHeader rangesAt rangeFrom rangeAt numberAt request afterReleases afterGrants grantAll afterWalk releaseAll afterFind removeAt rangePasses passesEnd askOf lockOf holderAt holderOf answers answersFor inWay bars named owns overlaps settle stored fileOf callerOf areaOf dataOf
+unfolding twoRanges firstRange plant blocks blocksFrom blocksWithin afterParse afterBlock before parse parseLocking answer lockingFits linkFits linkAt mayFollow shaped bare isLarge le16At le32At rangeSize answered served runChain run bodyMeant fidMeant afterGiven perform doLocking withOpen withTree withSession isSession isTree isOpen openAt found foundFrom any servedType requestOf lockingAfter lockingEnd locking rangesOf ofHeader rangesAt rangeFrom rangeAt numberAt request afterReleases afterGrants grantAll afterWalk releaseAll afterFind removeAt rangePasses passesEnd askOf lockOf holderAt holderOf answers answersFor inWay bars named owns overlaps settle stored fileOf callerOf areaOf dataOf
 two-given = (refl, refl)
 
 -- that range is the holder, and its lock is undone: no table is changed

@@ -14,7 +14,7 @@ use Rattle.wire.specs.LittleEndian.{le16At, le32At}
 use Rattle.records.specs.declared.Open.{Open}
 use Rattle.records.specs.declared.Lock.{Lock}
 use Rattle.records.specs.declared.Tables.{Tables}
-use Rattle.records.specs.Empty.{noSession, noTree, noOpen, noLock, noFile}
+use Rattle.records.specs.Empty.{noSession, noTree, noOpen, noLock, noFile, noName}
 use Rattle.records.specs.Held.{withFiles}
 use Rattle.numbers.specs.Number.{contains, numberOk, numbered}
 use Rattle.locks.specs.Range.{overlaps, passesEnd}
@@ -23,7 +23,8 @@ use Rattle.locks.specs.Answer.{owns, bars, inWay, named, answersFor, answers}
 use Rattle.locks.specs.Request.{ofHeader, rangesOf, holderAt, askOf, lockOf, removeAt, afterFind, releaseAll, afterWalk, grantAll, afterGrants, rangePasses, afterReleases, request, settle, locking}
 use Rattle.soundness.specs.File.{fileOf}
 use Rattle.soundness.specs.Lookup.{isTree}
-use Rattle.soundness.specs.Sound.{withinRoom, fileOk, treeOk, permits, holdsOpen, openOk, soundRecords, lockOk, agree, agreeAll, soundLocks, sound}
+use Rattle.catalogue.specs.Name.{noneDoubled, catalogueOk}
+use Rattle.soundness.specs.Sound.{withinRoom, fileOk, treeOk, permits, holdsOpen, sharingOk, openOk, soundRecords, lockOk, agree, agreeAll, soundLocks, sound}
 use Rattle.chain.specs.Layout.{LOCKING, READ, WRITE, CORE-READ, CORE-WRITE, LOCK_BYTE_RANGE, UNLOCK_BYTE_RANGE}
 use Rattle.chain.specs.Header.{startsSmb, isReply, dropped}
 use Rattle.chain.specs.Parse.{shaped, bare, isLarge, lockingFits, coreWriteFits, mayFollow, linkFits, linkAt, answer, parseLocking, parseBare, parseCoreWrite, parse}
@@ -35,6 +36,7 @@ use Rattle.message.specs.declared.refusal.HeldBy.the-variants.{Nobody, Holder a
 use Rattle.message.specs.Command.{isSession, withSession, withTree, isOpen, openAt, withOpen, servedType, requestOf, withLockList, lockingEnd, lockingAfter, doLocking, askBy, unlessBarred, barring, doRead, endsPast, doWrite, coreSaid, asCore, rangeBy, oneRange, doRange, betweenSizes, doSetSize, doCoreWrite, perform}
 use Rattle.message.specs.Contents.{sizeOf, contents, readBytes, written, resized}
 use Rattle.message.specs.Reply.{two, linkWords, replySize, replyBlock, refusedBlock}
+use Rattle.message.specs.JustOpened.{fidMeant, bodyMeant}
 use Rattle.message.specs.Message.{areaOf, dataOf, Ran, after, linkTo, afterGiven, run, served, runChain, answered, Taken, replied}
 use Rattle.invariants.specs.Sound.{Good}
 use Rattle.invariants.specs.Fit.{fit-answered, take-message-good}
@@ -57,7 +59,7 @@ use Rattle.order.specs.Request3.{AsksSize, SentInstead, OnWhatItLeft, re
 
 -- UID 3 on connection 5, its tree TID 2, and FID 4, an open of file 1 for both by process 65,543, whose file has 6 bytes; and, where `held` is 1, that lock
 unfoldable pub benchOpen : Open
-benchOpen = record { fid = 4; uid = 3; tid = 2; process = 65543; file = 1; access = 2 }
+benchOpen = record { fid = 4; uid = 3; tid = 2; process = 65543; file = 1; access = 2; sharing = 4 }
 
 unfoldable pub bench : Lock → ℕ → Tables
 bench lock held =
@@ -66,11 +68,13 @@ bench lock held =
       nsessions = 1;
       trees = record { tid = 2; uid = 3; right = 1 } ∷ replicate 31 noTree;
       ntrees = 1;
-      opens = record { fid = 4; uid = 3; tid = 2; process = 65543; file = 1; access = 2 } ∷ replicate 63 noOpen;
+      opens = record { fid = 4; uid = 3; tid = 2; process = 65543; file = 1; access = 2; sharing = 4 } ∷ replicate 63 noOpen;
       nopens = 1;
       locks = lock ∷ replicate 127 noLock;
       nlocks = held;
       files = noFile ∷ record { size = 6 } ∷ replicate 14 noFile;
+      names = replicate 16 noName;
+      nnames = 0;
     }
 
 -- a shared lock of process 9 on the bytes 105 to 124, and the bench's own exclusive one on 100 to 109
@@ -81,12 +85,12 @@ unfoldable pub own : Lock
 own = record { fid = 4; process = 65543; offset = 100; length = 10; shared = false }
 
 bench-sound : (sound (bench others 0) ≡ true) × (sound (bench others 1) ≡ true) × (sound (bench own 1) ≡ true)
-unfolding sound withinRoom fileOk treeOk permits holdsOpen openOk soundRecords lockOk agree agreeAll soundLocks any all allTails contains numberOk numbered overlaps passesEnd fileOf bench others own
+unfolding sound withinRoom fileOk treeOk permits holdsOpen sharingOk catalogueOk noneDoubled openOk soundRecords lockOk agree agreeAll soundLocks any all allTails contains numberOk numbered overlaps passesEnd fileOf bench others own
 bench-sound = (refl, refl, refl)
 
 good : (lock : Lock) (held : ℕ) → sound (bench lock held) ≡ true → Good (bench lock held)
 unfolding bench
-good lock held ok = record { sound = ok; shaped = record { sessions16 = refl; trees32 = refl; opens64 = refl; locks128 = refl; files16 = refl } }
+good lock held ok = record { sound = ok; shaped = record { sessions16 = refl; trees32 = refl; opens64 = refl; locks128 = refl; files16 = refl; names16 = refl } }
 
 -- a message of the bench, with file memory and room as a host lends them; file 1 holds A0 to A5
 unfoldable pub asked : List ℕ → Tables → Call
@@ -146,7 +150,7 @@ given-here : Given (answered 5 cut (bench others 0) memory) 0 0 5 Nobody
     × Given (answered 5 (sent CORE-WRITE coreWrite) (bench others 0) memory) 0 0 5 Nobody
     × Given (answered 5 lockThenRead (bench others 0) memory) 0 0 26 Nobody
     × Given (answered 5 tooLarge (bench others 1) memory) 1 33 3 othersHold
-unfolding Given cut grow tooLarge lockThenRead othersHold sent sizeTo coreWriteOf coreRead coreWrite coreBytes andxLocking short100 bench others own memory blocks blocksFrom blocksWithin afterParse afterBlock before parse parseLocking parseBare parseCoreWrite answer lockingFits coreWriteFits linkFits linkAt mayFollow shaped bare isLarge le16At le32At rangeSize answered served runChain run afterGiven after perform withOpen withTree withSession isSession isTree isOpen openAt found foundFrom any servedType requestOf lockingAfter lockingEnd withLockList doLocking locking rangesOf ofHeader rangesAt rangeFrom rangeAt numberAt request afterReleases afterGrants grantAll afterWalk holderAt holderOf releaseAll afterFind removeAt rangePasses passesEnd askOf lockOf answers answersFor inWay bars named owns overlaps settle stored doRead unlessBarred barring askBy fileOf callerOf areaOf dataOf status statusOf readBytes contents sizeOf replySize replyBlock refusedBlock linkTo linkWords two coreSaid asCore rangeBy oneRange doRange smallForm betweenSizes doSetSize doCoreWrite doWrite endsPast resized written put withFiles
+unfolding Given cut grow tooLarge lockThenRead othersHold sent sizeTo coreWriteOf coreRead coreWrite coreBytes andxLocking short100 bench others own memory blocks blocksFrom blocksWithin afterParse afterBlock before parse parseLocking parseBare parseCoreWrite answer lockingFits coreWriteFits linkFits linkAt mayFollow shaped bare isLarge le16At le32At rangeSize answered served runChain run bodyMeant fidMeant afterGiven after perform withOpen withTree withSession isSession isTree isOpen openAt found foundFrom any servedType requestOf lockingAfter lockingEnd withLockList doLocking locking rangesOf ofHeader rangesAt rangeFrom rangeAt numberAt request afterReleases afterGrants grantAll afterWalk holderAt holderOf releaseAll afterFind removeAt rangePasses passesEnd askOf lockOf answers answersFor inWay bars named owns overlaps settle stored doRead unlessBarred barring askBy fileOf callerOf areaOf dataOf status statusOf readBytes contents sizeOf replySize replyBlock refusedBlock linkTo linkWords two coreSaid asCore rangeBy oneRange doRange smallForm betweenSizes doSetSize doCoreWrite doWrite endsPast resized written put withFiles
 given-here = (
   (refl, refl, refl),
   (refl, refl, refl),
@@ -283,7 +287,7 @@ left-computed =
 -- its open stands, and of the file memory the bytes A4 A5 stand at 4,100, where the file has ended
 left-there : Admitted (callerOf 5 grow) (answered 5 cut (bench others 0) memory .tables) 4 benchOpen
     × (getD (answered 5 cut (bench others 0) memory .memory) 4100 0 ≡ 0xA4)
-unfolding grow benchOpen SessionHere HasTree cut sent sizeTo coreWriteOf bench others memory blocks blocksFrom blocksWithin afterParse afterBlock parse parseCoreWrite answer coreWriteFits shaped le16At le32At answered served runChain run afterGiven after perform withOpen withTree withSession isSession isTree isOpen openAt found foundFrom any unlessBarred barring askBy fileOf callerOf areaOf dataOf sizeOf betweenSizes doSetSize doCoreWrite put withFiles answers answersFor inWay bars owns overlaps
+unfolding grow benchOpen SessionHere HasTree cut sent sizeTo coreWriteOf bench others memory blocks blocksFrom blocksWithin afterParse afterBlock parse parseCoreWrite answer coreWriteFits shaped le16At le32At answered served runChain run bodyMeant fidMeant afterGiven after perform withOpen withTree withSession isSession isTree isOpen openAt found foundFrom any unlessBarred barring askBy fileOf callerOf areaOf dataOf sizeOf betweenSizes doSetSize doCoreWrite put withFiles answers answersFor inWay bars owns overlaps
 left-there = (
   record { session = (_, first refl, refl, refl); tree = (_, first refl, refl, refl); opened = record { listed = first refl; of-fid = refl; of-uid = refl; of-tid = refl } },
   refl,

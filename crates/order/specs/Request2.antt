@@ -13,6 +13,7 @@ use Rattle.chain.specs.Grammar.{Span, Reading}
 use Rattle.chain.specs.Parse.{rangeFields}
 use Rattle.message.specs.Caller.{callerOf}
 use Rattle.message.specs.declared.refusal.HeldBy.the-variants.{Nobody, Holder as held-by}
+use Rattle.message.specs.JustOpened.{NOBODY}
 use Rattle.message.specs.Message.{run}
 use Rattle.invariants.specs.ReaderSound.{spanOf, reader-sound}
 use Rattle.invariants.specs.Sound.{Good}
@@ -90,7 +91,7 @@ pub record BesideTheReply : Type 0 where
   -- and `core-lock` cover every one.
   pub chain : (c : Call) (h : Holder) → Answerable c → (gives c .holder ≡ held-by h) ↔ Met (c .connection) (c .message) (c .tables) (c .memory) h
   pub begun-on : (c : Call) (h : Holder) → Answerable c → (m : Met (c .connection) (c .message) (c .tables) (c .memory) h)
-      → gives c .tables ≡ run (sender c) (c .message) (m .front) FIRST (c .tables) (c .memory) .tables
+      → gives c .tables ≡ run (sender c) (c .message) NOBODY (m .front) FIRST (c .tables) (c .memory) .tables
   pub of-a-reading : (c : Call) (h : Holder) (m : Met (c .connection) (c .message) (c .tables) (c .memory) h) → Reading (c .message) (map spanOf (m .front ++ (m .command ∷ m .later)))
   -- "we can't name the terminal": by the FID the host finds one open, and one session with its connection, in the tables that the call leaves
   pub terminal : (c : Call) (h : Holder) → Good (c .tables) → gives c .holder ≡ held-by h → HolderFound (gives c .tables) h

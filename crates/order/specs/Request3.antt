@@ -49,9 +49,9 @@ use Rattle.demands.specs.FileCommands.{WroteFile}
 use Rattle.demands.specs.Effects.{read-reading, write-reading, core-read-reading, core-write-reading}
 use Rattle.demands.specs.SetSize.{SizeSet, set-size-reading}
 use Rattle.demands.specs.LockEffects.{lock-reading, unlock-reading}
-use Rattle.demands.specs.Processes.{range-whole, alone-sender}
+use Rattle.demands.specs.Processes.{range-whole, own-sender}
 use Rattle.demands.specs.Taken.{not-long}
-use Rattle.demands.specs.SpansOneByOne.{aloneSpan}
+use Rattle.demands.specs.SpansOneByOne.{ownSpan}
 use Rattle.demands.specs.CoreMoved.{SameBlock, core-sent}
 use Rattle.demands.specs.Reached.{take-message-memory}
 use Rattle.demands.specs.OldBytes.{ZeroFrom, cut-then-grown, cut-then-written, zero-in-reply, zero-in-core-reply, Asked, history, never-shows, first-never-shows}
@@ -121,8 +121,8 @@ pub record StandsAlone : Type 0 where
 -- count 0 does behind a LOCKING, on the tables that the LOCKING left, with its locks.
 abbrev pub SentAlone : Type 0
 SentAlone =
-    (c : Call) (spans : List Span) → Reading (c .message) spans → Answerable c → (x : Span) → In x spans → EndsChain (x .command)
-    → SameBlock (c .message) (x .place) (aloneSpan (c .message) x) (x .command) × (sender (sending c (aloneSpan (c .message) x)) ≡ sender c)
+    (c : Call) (spans : List Span) → Reading (c .message) spans → Answerable c → (x : Span) → In x spans → EndsChain (x .command) → (just : ℕ)
+    → SameBlock (c .message) (x .place) (ownSpan (c .message) just x) (x .command) × (sender (sending c (ownSpan (c .message) just x)) ≡ sender c)
 
 -- ---- "A core WRITE of count 0 sets the file's size to the offset (past 4,096 is 3/39), with zeros where it grows and no byte changed where it shrinks; for locks it
 -- ---- covers the bytes between the old and the new size."
@@ -440,8 +440,8 @@ request-3 =
     record {
       on-the-wire = on-wire;
       stands-alone = standing;
-      sent-alone = λ c spans r a x i ends.
-          (core-sent (c .message) r (not-long (c .message) (a .fit .not-dropped)) x i ends, alone-sender (c .connection) (c .message) r x);
+      sent-alone = λ c spans r a x i ends just.
+          (core-sent (c .message) r (not-long (c .message) (a .fit .not-dropped)) x i ends just, own-sender (c .connection) (c .message) r just x);
       sets-the-size = sizes;
       same-as-counterpart = counterparts;
       rows-gained = record {

@@ -18,7 +18,7 @@ use Rattle.host.specs.HostCall.{addOpen}
 use Rattle.claims.specs.StreamKept.{Bytes}
 use Rattle.claims.specs.HostFrames.{addOpen-frame}
 use Rattle.demands.specs.ReplyHeader.{reply-header as header-given}
-use Rattle.demands.specs.SpansOneByOne.{aloneSpan}
+use Rattle.demands.specs.SpansOneByOne.{ownSpan}
 use Rattle.demands.specs.LoneLock.{Owner}
 use Rattle.demands.specs.LockWords.{Named}
 use Rattle.demands.specs.CommandReasons.{OnlyTwoBits}
@@ -26,7 +26,7 @@ use Rattle.demands.specs.WireFields.{readFrom, writeFrom}
 use Rattle.demands.specs.FirstReadings.{first-set-size-reading}
 use Rattle.demands.specs.Effects.{exit-reading}
 use Rattle.demands.specs.LockEffects.{RangeOn, GrantedLock, locking-reading, lock-reading}
-use Rattle.demands.specs.Processes.{UpperHalvesDiffer, RangeProcess, LockTaken, ExitLeaves, sender-process, sender-32, same-process, other-process, range-process, lock-taken, not-own, bars-read, bars-write, bars-core-read, bars-core-write, names-not, unlock-refused, core-unlock-refused, alone-sender, exit-leaves}
+use Rattle.demands.specs.Processes.{UpperHalvesDiffer, RangeProcess, LockTaken, ExitLeaves, sender-process, sender-32, same-process, other-process, range-process, lock-taken, not-own, bars-read, bars-write, bars-core-read, bars-core-write, names-not, unlock-refused, core-unlock-refused, own-sender, exit-leaves}
 use Rattle.order.specs.Call.{Call, gives, Answerable, OneCommand, Says, sender, sending}
 use Rattle.order.specs.Demand2.{ReplyHeader, DoneAlone, ValidOpen, RefusedForConflict, coreAsked, ValidCoreOpen, coveredFrom, coveredCount}
 
@@ -111,7 +111,7 @@ pub record ExitOfOne : Type 0 where
 -- "demands 2 and 3 use them all": demand 2's sentences say the sender's process, and the messages of a chain's commands, of which demand 3 speaks (and demand 1, by which
 -- the holder in a chain is that of its command's message), have the chain's sender
 abbrev pub SameSender : Type 0
-SameSender = (c : Call) (spans : List Span) → Reading (c .message) spans → (x : Span) → In x spans → sender (sending c (aloneSpan (c .message) x)) ≡ sender c
+SameSender = (c : Call) (spans : List Span) → Reading (c .message) spans → (x : Span) → In x spans → (just : ℕ) → sender (sending c (ownSpan (c .message) just x)) ≡ sender c
 
 pub record Request4 : Type 0 where
   pub whole-process : WholeProcess
@@ -182,6 +182,6 @@ request-4 =
             let other : o .process ≡ sender c .process → ⊥ = λ h. other-process (d .message) (c .message) e b u (sym is ∙ h) in
             (exit-left c done .open-left o i (λ h. other (h .1)), exit-left c done .lock-left o i (λ h. other (h .1)));
       };
-      same-sender = λ c spans r x i. alone-sender (c .connection) (c .message) r x;
+      same-sender = λ c spans r x i just. own-sender (c .connection) (c .message) r just x;
       replies = λ c a. header-given (c .connection) (c .message) (c .tables) (c .memory) (c .room) (a .fit);
     }

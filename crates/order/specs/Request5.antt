@@ -9,9 +9,10 @@ use Rattle.chain.specs.Parse.{mayFollow}
 use Rattle.literals.specs.Successions.{pair, listed, exactly-listed, grammar-listed}
 
 -- "let the code decide what may follow by the two command numbers, in document 01's order, CR 3's pairs last in their row": `chain::command::may_follow`
--- (crates/chain/src/command.rt), a match by rows. "No answer and no contract may change": its contract is the equation with `mayFollow` that it was.
+-- (crates/chain/src/command.rt), a match by rows, CR 6's row the last. "No answer and no contract may change": its contract is the equation with `mayFollow` that it was.
 
--- "prove once that of all 65,536 pairs it allows exactly the eight listed": the list is literals/specs/Successions.antt's `listed`, which docs/GRAMMAR.md prints
+-- "prove once that of all 65,536 pairs it allows exactly the eight listed", and CR 6: "CR 5's eight pairs become nine": the list is literals/specs/Successions.antt's `listed`,
+-- which docs/GRAMMAR.md prints
 pub record Request5 : Type 0 where
   -- the answer of `may_follow`, which by its contract is `mayFollow`'s, is true of two bytes exactly if they are a pair of the list
   pub allowed : (command next : ℕ) → command < 256 → next < 256 → (mayFollow command next ≡ true) ↔ In (pair command next) listed
