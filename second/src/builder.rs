@@ -2,8 +2,8 @@
 //! What document 01 does not look at is filled by the caller.
 
 use crate::grammar::{
-    CLOSE, DATA_BLOCK_HEAD, DATA_MARK, LOCKING_ANDX, LOCK_BYTE_RANGE, LOGOFF_ANDX, PROCESS_EXIT,
-    READ, READ_ANDX, TREE_DISCONNECT, UNLOCK_BYTE_RANGE, WRITE, WRITE_ANDX,
+    CLOSE, DATA_BLOCK_HEAD, DATA_MARK, LOCKING_ANDX, LOCK_BYTE_RANGE, LOGOFF_ANDX, OPEN_ANDX,
+    PROCESS_EXIT, READ, READ_ANDX, TREE_DISCONNECT, UNLOCK_BYTE_RANGE, WRITE, WRITE_ANDX,
 };
 
 /// The fields of a header that a reply or an answer depends on.
@@ -68,6 +68,13 @@ pub enum Ask {
         offset: u32,
         length: u32,
     },
+    /// OPEN_ANDX.
+    Open {
+        flags: u16,
+        access_mode: u16,
+        open_mode: u16,
+        name: Vec<u8>,
+    },
     Close {
         fid: u16,
     },
@@ -83,6 +90,17 @@ pub fn locking(fid: u16, kind: u8, unlocks: &[Asked], locks: &[Asked]) -> Ask {
         kind,
         unlocks: unlocks.to_vec(),
         locks: locks.to_vec(),
+    }
+}
+
+/// An OPEN_ANDX of what exists, with these codes, that asks for nothing but the
+/// FID.
+pub fn open(access: u8, sharing: u8, name: &[u8]) -> Ask {
+    Ask::Open {
+        flags: 0,
+        access_mode: u16::from(sharing) << 4 | u16::from(access),
+        open_mode: 1,
+        name: name.to_vec(),
     }
 }
 
@@ -124,6 +142,7 @@ impl Ask {
             Ask::CoreWrite { .. } => WRITE,
             Ask::LockRange { .. } => LOCK_BYTE_RANGE,
             Ask::UnlockRange { .. } => UNLOCK_BYTE_RANGE,
+            Ask::Open { .. } => OPEN_ANDX,
             Ask::Close { .. } => CLOSE,
             Ask::Logoff => LOGOFF_ANDX,
             Ask::TreeDisconnect => TREE_DISCONNECT,
@@ -142,7 +161,7 @@ impl Ask {
             | Ask::LockRange { fid, .. }
             | Ask::UnlockRange { fid, .. }
             | Ask::Close { fid } => Some(fid),
-            Ask::Logoff | Ask::TreeDisconnect | Ask::ProcessExit => None,
+            Ask::Open { .. } | Ask::Logoff | Ask::TreeDisconnect | Ask::ProcessExit => None,
         }
     }
 
@@ -157,7 +176,7 @@ impl Ask {
             | Ask::LockRange { fid, .. }
             | Ask::UnlockRange { fid, .. }
             | Ask::Close { fid } => *fid = number,
-            Ask::Logoff | Ask::TreeDisconnect | Ask::ProcessExit => {}
+            Ask::Open { .. } | Ask::Logoff | Ask::TreeDisconnect | Ask::ProcessExit => {}
         }
     }
 
@@ -193,6 +212,12 @@ impl Ask {
                 offset,
                 length,
             } => core_range_block(*fid, *offset, *length),
+            Ask::Open {
+                flags,
+                access_mode,
+                open_mode,
+                name,
+            } => open_block([*flags, *access_mode, *open_mode], name, fill),
             Ask::Close { fid } => close_block(*fid, fill),
             Ask::Logoff => vec![2, 0xFF, fill(), fill(), fill(), 0, 0],
             Ask::TreeDisconnect | Ask::ProcessExit => vec![0, 0, 0],
@@ -280,6 +305,23 @@ fn read_block(
         block.extend(((offset >> 32) as u32).to_le_bytes());
     }
     block.extend([0, 0]);
+    block
+}
+
+/// Flags, AccessMode and OpenMode are given; the name gets its zero byte.
+fn open_block(given: [u16; 3], name: &[u8], fill: &mut impl FnMut() -> u8) -> Vec<u8> {
+    let [flags, access_mode, open_mode] = given.map(u16::to_le_bytes);
+    let mut block = vec![15, 0xFF, fill(), fill(), fill()];
+    block.extend(flags);
+    block.extend(access_mode);
+    // SearchAttrs 2, FileAttrs 2, CreationTime 4.
+    block.extend((0..8).map(|_| fill()));
+    block.extend(open_mode);
+    // AllocationSize 4, Timeout 4, Reserved 4.
+    block.extend((0..12).map(|_| fill()));
+    block.extend((name.len() as u16 + 1).to_le_bytes());
+    block.extend(name);
+    block.push(0);
     block
 }
 

@@ -1,7 +1,8 @@
 //! A call of the host's as a value, so that histories of calls can be made.
 
 use crate::refusals::Outcome;
-use crate::words::{self, HolderWords, Words};
+use crate::words::{self, CatalogueWords, HolderWords, Words};
+use std::borrow::Cow;
 
 #[derive(Clone, Debug, PartialEq, Eq)]
 pub enum Call {
@@ -25,6 +26,9 @@ pub enum Call {
     },
     DropConnection {
         connection: u32,
+    },
+    SetCatalogue {
+        catalogue: Box<CatalogueWords>,
     },
     TakeMessage {
         connection: u32,
@@ -60,6 +64,9 @@ impl Call {
             Call::DropConnection { connection } => {
                 words::drop_connection(words, connection).map(|()| 0)
             }
+            Call::SetCatalogue { ref catalogue } => {
+                words::set_catalogue(words, catalogue).map(|()| 0)
+            }
             Call::TakeMessage {
                 connection,
                 ref message,
@@ -67,12 +74,17 @@ impl Call {
         }
     }
 
-    /// The message, or the contents to load.
-    pub fn input(&self) -> &[u8] {
+    /// The message, the contents to load, or the words of the catalogue as they
+    /// stand in memory.
+    pub fn input(&self) -> Cow<'_, [u8]> {
         match self {
-            Call::LoadFile { contents, .. } => contents,
-            Call::TakeMessage { message, .. } => message,
-            _ => &[],
+            Call::LoadFile { contents, .. } => contents.into(),
+            Call::TakeMessage { message, .. } => message.into(),
+            Call::SetCatalogue { catalogue } => {
+                let bytes = catalogue.iter().flat_map(|word| word.to_ne_bytes());
+                bytes.collect::<Vec<u8>>().into()
+            }
+            _ => Cow::default(),
         }
     }
 }

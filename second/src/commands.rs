@@ -1,13 +1,16 @@
 //! What each request does, from "Locks, reads and writes" of document 01,
 //! with the refusals in the order of "Refusals on the wire". A command that
 //! is refused has changed nothing. The core commands have "the rules of their
-//! AndX counterparts" (document 02, request 3).
+//! AndX counterparts" (document 02, request 3); OPEN_ANDX is request 6's.
 
 use crate::holder::{unless_held, Holder, Refused};
 use crate::host::file_bytes_mut;
 use crate::refusals::WireRefusal;
-use crate::request::{OwnedRange, Ranges, Request, TYPE_LARGE, TYPE_SHARED};
-use crate::tables::{Lock, Open, Range, Tables, ACCESS_READ, ACCESS_WRITE, FILE_BYTES, LOCKS};
+use crate::request::{OwnedRange, Ranges, Request, ToOpen, TYPE_LARGE, TYPE_SHARED};
+use crate::tables::{
+    exceeds, Lock, Open, Range, Tables, Tree, ACCESS_READ, ACCESS_WRITE, DENY_BOTH, DENY_NONE,
+    FILE_BYTES, LARGEST_ACCESS, LOCKS,
+};
 use std::iter::{empty, once};
 
 /// Who asks: the connection, and the header's numbers.
@@ -31,6 +34,25 @@ pub enum Done {
     Read(std::ops::Range<usize>),
     /// WRITE: how many bytes were written.
     Written(u16),
+    /// OPEN_ANDX: the FID, and what else was asked for.
+    Opened { fid: u16, told: Option<Told> },
+}
+
+/// What is told of a file that was opened: its size and the access code asked.
+#[derive(Clone, Copy, Debug, PartialEq, Eq)]
+pub struct Told {
+    pub size: u32,
+    pub access: u8,
+}
+
+impl Done {
+    /// The FID of a file that was opened.
+    pub fn opened(&self) -> Option<u16> {
+        match *self {
+            Done::Opened { fid, .. } => Some(fid),
+            _ => None,
+        }
+    }
 }
 
 /// Carries out one command.
@@ -59,6 +81,7 @@ pub fn carry_out(
         Request::Read { fid, range } => read(tables, asker, fid, range),
         Request::Write { fid, offset, data } => write(tables, memory, asker, fid, offset, data),
         Request::Resize { fid, size } => resize(tables, memory, asker, fid, size),
+        Request::Open(ref asked) => Ok(open(tables, asker, asked)?),
     }
 }
 
@@ -71,11 +94,9 @@ fn find_session(tables: &Tables, asker: &Asker) -> Result<(), WireRefusal> {
 }
 
 /// "2/5 no tree of that TID and UID"
-fn find_tree(tables: &Tables, asker: &Asker) -> Result<(), WireRefusal> {
-    match tables.tree(asker.tid, asker.uid) {
-        Some(_) => Ok(()),
-        None => Err(WireRefusal::NoTree),
-    }
+fn find_tree(tables: &Tables, asker: &Asker) -> Result<Tree, WireRefusal> {
+    let tree = tables.tree(asker.tid, asker.uid);
+    tree.copied().ok_or(WireRefusal::NoTree)
 }
 
 /// 2/5, then "1/6 no open of that FID, UID and TID".
@@ -109,6 +130,57 @@ fn close(tables: &mut Tables, asker: &Asker, fid: u16) -> Result<Done, WireRefus
     Ok(Done::Plain)
 }
 
+/// "OpenMode must be 1 (open what exists)".
+const OPEN_EXISTING: u16 = 1;
+/// "with the block's Flags bit 0 [...] set the size, the access and OpenResults 1"
+const FLAGS_TELL: u16 = 0x0001;
+
+/// "Refusals, after 2/5: 2/65535 OpenMode, 1/12 access or sharing code, 1/2 name,
+/// 1/5 tree right, 1/32 sharing, 1/4 all 64 FIDs in use".
+fn open(tables: &mut Tables, asker: &Asker, asked: &ToOpen) -> Result<Done, WireRefusal> {
+    let tree = find_tree(tables, asker)?;
+    let existing = asked.open_mode == OPEN_EXISTING;
+    refuse_unless(existing, WireRefusal::NotSupported)?;
+    let (access, sharing) = codes(asked.access_mode)?;
+    let file = tables.catalogue.file(asked.name);
+    let file = file.ok_or(WireRefusal::NoName)?;
+    refuse_unless(!exceeds(access, tree.right), WireRefusal::Access)?;
+    let open = Open {
+        uid: asker.uid,
+        tid: asker.tid,
+        process: asker.process,
+        file,
+        access,
+        sharing,
+        ..Open::default()
+    };
+    refuse_unless(tables.may_share(&open), WireRefusal::Sharing)?;
+    refuse_unless(!tables.opens.is_full(), WireRefusal::NoFid)?;
+    // A size is at most 4,096.
+    let size = tables.files[usize::from(file)].size as u32;
+    Ok(Done::Opened {
+        fid: tables.add_open(open),
+        told: (asked.flags & FLAGS_TELL != 0).then_some(Told { size, access }),
+    })
+}
+
+/// "Access is bits 0 to 2 of AccessMode, sharing bits 4 to 6; bit 3 and bits from 7
+/// up are ignored."
+fn codes(access_mode: u16) -> Result<(u8, u8), WireRefusal> {
+    let code = |from: u16| (access_mode >> from & 7) as u8;
+    let (access, sharing) = (code(0), code(4));
+    let known = access <= LARGEST_ACCESS && (DENY_BOTH..=DENY_NONE).contains(&sharing);
+    refuse_unless(known, WireRefusal::AccessCode)?;
+    Ok((access, sharing))
+}
+
+fn refuse_unless(holds: bool, refusal: WireRefusal) -> Result<(), WireRefusal> {
+    match holds {
+        true => Ok(()),
+        false => Err(refusal),
+    }
+}
+
 /// The places of the lock table that a request releases: bit n for place n.
 #[derive(Clone, Copy, Default)]
 struct Released(u128);
@@ -139,7 +211,7 @@ fn locking(
 ) -> Result<Done, Refused> {
     let open = find_open(tables, asker, fid)?;
     if kind & !(TYPE_SHARED | TYPE_LARGE) != 0 {
-        return Err(WireRefusal::LockType.into());
+        return Err(WireRefusal::NotSupported.into());
     }
     let shared = kind & TYPE_SHARED != 0;
     let as_lock = |asked: OwnedRange| Lock {

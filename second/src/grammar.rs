@@ -1,5 +1,5 @@
 //! A reader of chains, from "The grammar of a chain" of document 01 and the rows
-//! of document 02, request 3.
+//! of document 02, requests 3 and 6.
 //!
 //! Sentences of that paper are quoted at the test that they became. All sums
 //! are in `usize`, wide enough that none of them can wrap: the largest is a
@@ -12,13 +12,14 @@ pub const LOCK_BYTE_RANGE: u8 = 0x0C;
 pub const UNLOCK_BYTE_RANGE: u8 = 0x0D;
 pub const PROCESS_EXIT: u8 = 0x11;
 pub const LOCKING_ANDX: u8 = 0x24;
+pub const OPEN_ANDX: u8 = 0x2D;
 pub const READ_ANDX: u8 = 0x2E;
 pub const WRITE_ANDX: u8 = 0x2F;
 pub const TREE_DISCONNECT: u8 = 0x71;
 pub const LOGOFF_ANDX: u8 = 0x74;
 
-/// "Requests served", with the core commands of document 02, request 3.
-pub const SERVED: [u8; 11] = [
+/// "Requests served", with the core commands and OPEN_ANDX of document 02.
+pub const SERVED: [u8; 12] = [
     CLOSE,
     READ,
     WRITE,
@@ -26,6 +27,7 @@ pub const SERVED: [u8; 11] = [
     UNLOCK_BYTE_RANGE,
     PROCESS_EXIT,
     LOCKING_ANDX,
+    OPEN_ANDX,
     READ_ANDX,
     WRITE_ANDX,
     TREE_DISCONNECT,
@@ -81,6 +83,10 @@ pub enum Why {
     DataMark,
     /// The data block's length is not the count.
     DataLength,
+    /// The byte area does not end with the zero byte behind a name.
+    NameEnd,
+    /// The name has a zero byte.
+    NameZero,
     /// AndXCommand is not in the table's last column.
     Follower,
     /// AndXOffset is before the end of its own block.
@@ -88,7 +94,7 @@ pub enum Why {
 }
 
 impl Why {
-    pub const ALL: [Why; 13] = [
+    pub const ALL: [Why; 15] = [
         Why::NotServed,
         Why::StartOutside,
         Why::WordCount,
@@ -100,6 +106,8 @@ impl Why {
         Why::DataPast,
         Why::DataMark,
         Why::DataLength,
+        Why::NameEnd,
+        Why::NameZero,
         Why::Follower,
         Why::AndXOffset,
     ];
@@ -212,6 +220,7 @@ fn read_block(
             }
         }
         WRITE => check_data_block(words, &message[area_start..end])?,
+        OPEN_ANDX => check_name(&message[area_start..end])?,
         _ => {
             if byte_count != 0 {
                 return Err(Why::ByteCount);
@@ -264,10 +273,23 @@ fn check_data_block(words: &[u8], area: &[u8]) -> Result<(), Why> {
     Ok(())
 }
 
+/// "The byte area is a name of any length, even none, without zero bytes, then
+/// one zero byte" (document 02, request 6).
+fn check_name(area: &[u8]) -> Result<(), Why> {
+    let [name @ .., 0] = area else {
+        return Err(Why::NameEnd);
+    };
+    match name.contains(&0) {
+        true => Err(Why::NameZero),
+        false => Ok(()),
+    }
+}
+
 /// Column "Words".
 fn word_counts(command: u8) -> &'static [u8] {
     match command {
         LOCKING_ANDX => &[8],
+        OPEN_ANDX => &[15],
         READ_ANDX => &[10, 12],
         WRITE_ANDX => &[12, 14],
         CLOSE => &[3],
@@ -278,20 +300,24 @@ fn word_counts(command: u8) -> &'static [u8] {
     }
 }
 
-/// Column "May be followed by", and "READ and WRITE may end a chain after
-/// LOCKING_ANDX".
+/// Column "May be followed by", "READ and WRITE may end a chain after
+/// LOCKING_ANDX", and of OPEN_ANDX "READ_ANDX may follow".
 fn followers(command: u8) -> &'static [u8] {
     match command {
         LOCKING_ANDX => &[READ_ANDX, WRITE_ANDX, READ, WRITE],
         READ_ANDX => &[CLOSE],
         WRITE_ANDX => &[WRITE_ANDX, READ_ANDX, CLOSE],
+        OPEN_ANDX => &[READ_ANDX],
         _ => &[],
     }
 }
 
 /// The requests named ANDX. Their blocks name the next one, in replies too.
 pub fn is_andx(command: u8) -> bool {
-    matches!(command, LOCKING_ANDX | READ_ANDX | WRITE_ANDX | LOGOFF_ANDX)
+    matches!(
+        command,
+        LOCKING_ANDX | OPEN_ANDX | READ_ANDX | WRITE_ANDX | LOGOFF_ANDX
+    )
 }
 
 /// The little-endian 16-bit number at `place`.

@@ -2,10 +2,11 @@
 //! of "What a call returns": 2, 4, 7, 6, 8, 9, 5. A number that the host names
 //! has 32 bits, and is the number given: 65,537 is no UID 1, 256 no right 0.
 
+use crate::catalogue::Catalogue;
 use crate::refusals::{CallRefusal, Outcome};
 use crate::tables::{
-    exceeds, smallest_free, Open, Session, Tables, Tree, FILE_BYTES, LARGEST_ACCESS, LARGEST_FILE,
-    LARGEST_RIGHT, MEMORY_BYTES,
+    exceeds, smallest_free, Open, Session, Tables, Tree, DENY_NONE, FILE_BYTES, LARGEST_ACCESS,
+    LARGEST_FILE, LARGEST_RIGHT, MEMORY_BYTES,
 };
 
 /// Refuses unless the condition holds.
@@ -49,7 +50,8 @@ pub fn add_tree(tables: &mut Tables, uid: u32, right: u32) -> Outcome<u16> {
     Ok(tid)
 }
 
-/// Adds an open; gives its FID.
+/// Adds an open; gives its FID. "Opens by the host deny nothing and are not
+/// tested."
 pub fn add_open(
     tables: &mut Tables,
     uid: u32,
@@ -67,16 +69,15 @@ pub fn add_open(
     let tree = tables.tree(tid, uid).ok_or(CallRefusal::NoSuch)?;
     ensure(!exceeds(access, tree.right), CallRefusal::ExceedsRight)?;
     ensure(!tables.opens.is_full(), CallRefusal::Full)?;
-    let fid = smallest_free(tables.opens.in_use().iter().map(|o| o.fid));
-    tables.opens.push(Open {
-        fid,
+    Ok(tables.add_open(Open {
         uid,
         tid,
         process,
         file,
         access,
-    });
-    Ok(fid)
+        sharing: DENY_NONE,
+        ..Open::default()
+    }))
 }
 
 /// "A load sets the size and puts zeros after the loaded bytes, up to
@@ -98,6 +99,14 @@ pub fn load_file(
     loaded.copy_from_slice(contents);
     rest.fill(0);
     tables.files[usize::from(file)].size = contents.len() as u64;
+    Ok(())
+}
+
+/// Sets the catalogue whole. "Setting it looks at no open. Order 4, 7."
+pub fn set_catalogue(tables: &mut Tables, catalogue: &Catalogue) -> Outcome<()> {
+    ensure(tables.sound(), CallRefusal::NotSound)?;
+    ensure(catalogue.sound(), CallRefusal::OutOfRange)?;
+    tables.catalogue = catalogue.clone();
     Ok(())
 }
 

@@ -11,6 +11,7 @@
 
 pub mod builder;
 pub mod call;
+pub mod catalogue;
 pub mod commands;
 pub mod grammar;
 pub mod header;

@@ -87,10 +87,15 @@ fn answer_chain(
         tid,
         process,
     };
+    // What the command before has opened.
+    let mut opened = None;
     for block in blocks(message).flatten() {
-        let request = Request::read(message, &block);
+        let request = Request::read(message, &block).behind_open(opened);
         match carry_out(tables, memory, &asker, &request) {
-            Ok(done) => reply.done(block.command, &done, memory),
+            Ok(done) => {
+                reply.done(block.command, &done, memory);
+                opened = done.opened();
+            }
             Err(Refused { why, holder }) => {
                 reply.refused(block.command, why);
                 return holder;

@@ -4,10 +4,12 @@
 //! `grammar.rs` is itself checked against something.
 
 mod data_blocks;
+mod names;
 
 use crate::grammar::{
-    CLOSE, DATA_BLOCK_HEAD, DATA_MARK, LOCKING_ANDX, LOCK_BYTE_RANGE, LOGOFF_ANDX, PROCESS_EXIT,
-    READ, READ_ANDX, TREE_DISCONNECT, UNLOCK_BYTE_RANGE, WRITE, WRITE_ANDX,
+    is_andx, CLOSE, DATA_BLOCK_HEAD, DATA_MARK, LOCKING_ANDX, LOCK_BYTE_RANGE, LOGOFF_ANDX,
+    OPEN_ANDX, PROCESS_EXIT, READ, READ_ANDX, TREE_DISCONNECT, UNLOCK_BYTE_RANGE, WRITE,
+    WRITE_ANDX,
 };
 use crate::rng::Rng;
 use std::collections::HashSet;
@@ -72,6 +74,10 @@ enum Form {
     },
     LockRange,
     UnlockRange,
+    /// The byte area is a name of so many bytes and its zero byte.
+    Open {
+        name: usize,
+    },
     Close,
     Logoff,
     TreeDisconnect,
@@ -88,6 +94,7 @@ impl Form {
             Form::CoreWrite { .. } => WRITE,
             Form::LockRange => LOCK_BYTE_RANGE,
             Form::UnlockRange => UNLOCK_BYTE_RANGE,
+            Form::Open { .. } => OPEN_ANDX,
             Form::Close => CLOSE,
             Form::Logoff => LOGOFF_ANDX,
             Form::TreeDisconnect => TREE_DISCONNECT,
@@ -100,6 +107,7 @@ impl Form {
             Form::Locking { .. } => 8,
             Form::Read { words } | Form::Write { words, .. } => words,
             Form::CoreRead | Form::CoreWrite { .. } | Form::LockRange | Form::UnlockRange => 5,
+            Form::Open { .. } => 15,
             Form::Close => 3,
             Form::Logoff => 2,
             Form::TreeDisconnect | Form::ProcessExit => 0,
@@ -120,6 +128,7 @@ impl Form {
                 ..
             } => before + data + after,
             Form::CoreWrite { data } => DATA_BLOCK_HEAD + data,
+            Form::Open { name } => name + 1,
             _ => 0,
         }
     }
@@ -135,8 +144,8 @@ impl Form {
 }
 
 /// The successions of "May be followed by", those of document 02, request 3,
-/// last in their row.
-pub const SUCCESSIONS: [(u8, u8); 8] = [
+/// last in their row, that of request 6 last.
+pub const SUCCESSIONS: [(u8, u8); 9] = [
     (LOCKING_ANDX, READ_ANDX),
     (LOCKING_ANDX, WRITE_ANDX),
     (LOCKING_ANDX, READ),
@@ -145,6 +154,7 @@ pub const SUCCESSIONS: [(u8, u8); 8] = [
     (WRITE_ANDX, WRITE_ANDX),
     (WRITE_ANDX, READ_ANDX),
     (WRITE_ANDX, CLOSE),
+    (OPEN_ANDX, READ_ANDX),
 ];
 
 /// Places in a block, counted from its WordCount.
@@ -157,7 +167,7 @@ const DATA_LENGTH: usize = 21;
 const DATA_OFFSET: usize = 23;
 const CORE_COUNT: usize = 3;
 
-/// The fourteen sorts of block: each command with each word count, and each
+/// The fifteen sorts of block: each command with each word count, and each
 /// length of range.
 #[derive(Clone, Copy, PartialEq, Eq, Debug)]
 enum Sort {
@@ -171,13 +181,14 @@ enum Sort {
     CoreWrite,
     LockRange,
     UnlockRange,
+    Open,
     Close,
     Logoff,
     TreeDisconnect,
     ProcessExit,
 }
 
-const SORTS: [Sort; 14] = [
+const SORTS: [Sort; 15] = [
     Sort::Locking10,
     Sort::Locking20,
     Sort::Read10,
@@ -188,6 +199,7 @@ const SORTS: [Sort; 14] = [
     Sort::CoreWrite,
     Sort::LockRange,
     Sort::UnlockRange,
+    Sort::Open,
     Sort::Close,
     Sort::Logoff,
     Sort::TreeDisconnect,
@@ -214,6 +226,7 @@ impl Sort {
                 Sort::Read12,
                 Sort::Close,
             ],
+            Sort::Open => &[Sort::Read10, Sort::Read12],
             _ => &[],
         }
     }
@@ -245,6 +258,9 @@ impl Sort {
             },
             Sort::LockRange => Form::LockRange,
             Sort::UnlockRange => Form::UnlockRange,
+            Sort::Open => Form::Open {
+                name: rng.below(1 + size),
+            },
             Sort::Close => Form::Close,
             Sort::Logoff => Form::Logoff,
             Sort::TreeDisconnect => Form::TreeDisconnect,
@@ -273,19 +289,20 @@ fn block(rng: &mut Rng, form: Form, offset: usize) -> Vec<u8> {
     let mut bytes = rng.bytes(form.length());
     bytes[0] = form.words();
     put16(&mut bytes, form.area() - 2, form.byte_count());
+    if is_andx(form.command()) {
+        bytes[ANDX_COMMAND] = 0xFF;
+    }
     match form {
         Form::Locking {
             kind,
             unlocks,
             locks,
         } => {
-            bytes[ANDX_COMMAND] = 0xFF;
             bytes[LOCK_TYPE] = kind;
             put16(&mut bytes, UNLOCKS, unlocks);
             put16(&mut bytes, LOCKS, locks);
         }
         Form::Write { before, data, .. } => {
-            bytes[ANDX_COMMAND] = 0xFF;
             put16(&mut bytes, DATA_LENGTH, data);
             put16(&mut bytes, DATA_OFFSET, offset + form.area() + before);
         }
@@ -294,9 +311,12 @@ fn block(rng: &mut Rng, form: Form, offset: usize) -> Vec<u8> {
             bytes[form.area()] = DATA_MARK;
             put16(&mut bytes, form.area() + 1, data);
         }
-        Form::Read { .. } | Form::Logoff => bytes[ANDX_COMMAND] = 0xFF,
-        Form::CoreRead | Form::LockRange | Form::UnlockRange => {}
-        Form::Close | Form::TreeDisconnect | Form::ProcessExit => {}
+        Form::Open { name } => {
+            let (text, end) = bytes[form.area()..].split_at_mut(name);
+            text.iter_mut().for_each(|byte| *byte = (*byte).max(1));
+            end.fill(0);
+        }
+        _ => {}
     }
     bytes
 }
@@ -434,6 +454,7 @@ impl Maker {
             Sort::Read12,
             Sort::Write12,
             Sort::Write14,
+            Sort::Open,
         ]);
         let first = self.form(sort, size);
         let mut chain = Chain::new(&mut self.rng, first);
@@ -477,7 +498,7 @@ fn paths(most: usize) -> Vec<Vec<Sort>> {
 }
 
 /// The small chains that are altered and cut at every place.
-const BASES: [&[Sort]; 18] = [
+const BASES: [&[Sort]; 20] = [
     &[Sort::TreeDisconnect],
     &[Sort::ProcessExit],
     &[Sort::Logoff],
@@ -496,6 +517,8 @@ const BASES: [&[Sort]; 18] = [
     &[Sort::Write14, Sort::Read12],
     &[Sort::Write12, Sort::Write14],
     &[Sort::Locking10, Sort::Write12, Sort::Read12, Sort::Close],
+    &[Sort::Open],
+    &[Sort::Open, Sort::Read12, Sort::Close],
 ];
 
 /// The 84-byte message of "A listing, whole".
@@ -527,6 +550,7 @@ pub fn all() -> Vec<Made> {
     long_chains(&mut maker);
     write_data(&mut maker);
     data_blocks::data_blocks(&mut maker);
+    names::names(&mut maker);
     lock_ranges(&mut maker);
     word_counts(&mut maker);
     misfits(&mut maker);
@@ -600,9 +624,13 @@ fn random_chains(maker: &mut Maker) {
             }
         }
         let area = 32 + Form::CoreRead.area() + DATA_BLOCK_HEAD;
-        let form = Form::CoreWrite { data: size - area };
-        let chain = Chain::new(&mut maker.rng, form);
-        maker.push_chain("filled", chain);
+        let core = Form::CoreWrite { data: size - area };
+        let area = 32 + Form::Open { name: 0 }.length();
+        let open = Form::Open { name: size - area };
+        for form in [core, open] {
+            let chain = Chain::new(&mut maker.rng, form);
+            maker.push_chain("filled", chain);
+        }
     }
     for (kind, ranges) in [
         (0, 814),
@@ -895,7 +923,9 @@ fn lock_ranges(maker: &mut Maker) {
 
 /// Word counts that are not the table's, with room for the words.
 fn word_counts(maker: &mut Maker) {
-    let bases: [&[Sort]; 18] = [
+    let bases: [&[Sort]; 20] = [
+        &[Sort::Open],
+        &[Sort::Open, Sort::Read10],
         &[Sort::Locking10],
         &[Sort::Locking20],
         &[Sort::Read10],
@@ -1006,6 +1036,8 @@ fn overlaps(maker: &mut Maker) {
         (Sort::Write14, Sort::Read10),
         (Sort::Write12, Sort::Close),
         (Sort::Write14, Sort::Close),
+        (Sort::Open, Sort::Read10),
+        (Sort::Open, Sort::Read12),
     ] {
         for shared in 0..=40 {
             let form = match first {
@@ -1019,6 +1051,7 @@ fn overlaps(maker: &mut Maker) {
                     unlocks: 1,
                     locks: 1,
                 },
+                Sort::Open => Form::Open { name: 40 },
                 _ => Form::Write {
                     words: if first == Sort::Write12 { 12 } else { 14 },
                     before: 0,
@@ -1113,7 +1146,9 @@ fn byte_counts(maker: &mut Maker) {
 
 /// Every AndXOffset from 0 to past the message, and far ones.
 fn andx_offsets(maker: &mut Maker) {
-    let bases: [&[Sort]; 10] = [
+    let bases: [&[Sort]; 12] = [
+        &[Sort::Open, Sort::Read10],
+        &[Sort::Open, Sort::Read12, Sort::Close],
         &[Sort::Locking10, Sort::Read10],
         &[Sort::Locking20, Sort::Write12],
         &[Sort::Locking10, Sort::CoreWrite],
@@ -1177,6 +1212,7 @@ fn followers(maker: &mut Maker) {
         Sort::Read10,
         Sort::Read12,
         Sort::Write12,
+        Sort::Open,
         Sort::Logoff,
     ] {
         for command in 0..=255u8 {
@@ -1191,12 +1227,7 @@ fn followers(maker: &mut Maker) {
                     chain.bytes.extend([0; 40]);
                 }
             }
-            let allowed = match sort {
-                Sort::Locking10 => [READ_ANDX, WRITE_ANDX, READ, WRITE].contains(&command),
-                Sort::Write12 => [WRITE_ANDX, READ_ANDX, CLOSE].contains(&command),
-                Sort::Read10 | Sort::Read12 => command == CLOSE,
-                _ => false,
-            };
+            let allowed = SUCCESSIONS.contains(&(first.command(), command));
             let expected = if allowed || command == 0xFF {
                 chain.expected()
             } else {

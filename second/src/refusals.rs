@@ -14,7 +14,7 @@ pub enum CallRefusal {
     Full = 5,
     /// "no such session, or no such tree of that session"
     NoSuch = 6,
-    /// "number out of range"
+    /// "number out of range"; for a catalogue, a rule broken
     OutOfRange = 7,
     /// "open would exceed its tree's right"
     ExceedsRight = 8,
@@ -33,7 +33,7 @@ pub fn number<T>(outcome: &Outcome<T>) -> u8 {
     }
 }
 
-/// "Refusals on the wire", in the order written.
+/// "Refusals on the wire", in the order written, with those of document 02.
 #[derive(Clone, Copy, Debug, PartialEq, Eq, PartialOrd, Ord)]
 pub enum WireRefusal {
     /// "header command not served"
@@ -48,8 +48,8 @@ pub enum WireRefusal {
     NoOpen,
     /// "access"
     Access,
-    /// "lock type bit other than 0x01 and 0x10"
-    LockType,
+    /// "lock type bit other than 0x01 and 0x10"; of OPEN_ANDX, OpenMode
+    NotSupported,
     /// "no such lock to release"
     NotLocked,
     /// "lock range passes 2^64"
@@ -60,22 +60,34 @@ pub enum WireRefusal {
     NoLockRecord,
     /// "write would end past 4,096"
     FileFull,
+    /// "access or sharing code" (document 02, request 6, as those below)
+    AccessCode,
+    /// "name"
+    NoName,
+    /// "sharing"
+    Sharing,
+    /// "all 64 FIDs in use"
+    NoFid,
 }
 
 impl WireRefusal {
-    pub const ALL: [WireRefusal; 12] = [
+    pub const ALL: [WireRefusal; 16] = [
         WireRefusal::NotServed,
         WireRefusal::NotASentence,
         WireRefusal::NoSession,
         WireRefusal::NoTree,
         WireRefusal::NoOpen,
         WireRefusal::Access,
-        WireRefusal::LockType,
+        WireRefusal::NotSupported,
         WireRefusal::NotLocked,
         WireRefusal::RangePasses,
         WireRefusal::Conflict,
         WireRefusal::NoLockRecord,
         WireRefusal::FileFull,
+        WireRefusal::AccessCode,
+        WireRefusal::NoName,
+        WireRefusal::Sharing,
+        WireRefusal::NoFid,
     ];
 
     /// Class and code, decimal as in the paper.
@@ -87,12 +99,16 @@ impl WireRefusal {
             WireRefusal::NoTree => (2, 5),
             WireRefusal::NoOpen => (1, 6),
             WireRefusal::Access => (1, 5),
-            WireRefusal::LockType => (2, 65535),
+            WireRefusal::NotSupported => (2, 65535),
             WireRefusal::NotLocked => (1, 158),
             WireRefusal::RangePasses => (1, 87),
             WireRefusal::Conflict => (1, 33),
             WireRefusal::NoLockRecord => (1, 8),
             WireRefusal::FileFull => (3, 39),
+            WireRefusal::AccessCode => (1, 12),
+            WireRefusal::NoName => (1, 2),
+            WireRefusal::Sharing => (1, 32),
+            WireRefusal::NoFid => (1, 4),
         }
     }
 }

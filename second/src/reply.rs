@@ -1,7 +1,7 @@
-//! The reply, from "Header" and "Reply blocks" of document 01, and the core
-//! commands' from source document 004.
+//! The reply, from "Header" and "Reply blocks" of document 01, the core commands'
+//! from source document 004 and OPEN_ANDX's from 001.
 
-use crate::commands::Done;
+use crate::commands::{Done, Told};
 use crate::grammar::{DATA_BLOCK_HEAD, DATA_MARK, READ, WRITE};
 use crate::header::{COMMAND, FLAGS, FLAGS2, HEADER, PID_HIGH, STATUS, TID};
 use crate::refusals::WireRefusal;
@@ -54,7 +54,22 @@ impl<'r> Reply<'r> {
             }
             // "AndX, count, 0xFFFF, four zero bytes"
             (Done::Written(count), _) => self.andx_block([*count, 0xFFFF, 0, 0], &[]),
+            (Done::Opened { fid, told }, _) => self.opened_block(*fid, *told),
         }
+    }
+
+    /// AndX, FID, FileAttrs, LastWriteTime (2 words), FileDataSize (2), AccessRights,
+    /// ResourceType, NMPipeStatus, OpenResults, Reserved (3). "Zero after the FID
+    /// with the block's Flags bit 0 clear; with it set the size, the access and
+    /// OpenResults 1, the rest zero."
+    fn opened_block(&mut self, fid: u16, told: Option<Told>) {
+        let [mut low, mut high, mut access, mut results] = [0; 4];
+        if let Some(told) = told {
+            (low, high) = (told.size as u16, (told.size >> 16) as u16);
+            (access, results) = (told.access.into(), 1);
+        }
+        let words = [fid, 0, 0, 0, low, high, access, 0, 0, results, 0, 0, 0];
+        self.andx_block(words, &[]);
     }
 
     /// "A refused command or message gives WordCount 0 and ByteCount 0, and

@@ -1,11 +1,11 @@
-//! The requests: what "Words after AndX" of document 01, and for the core
-//! commands source document 004, say stands in a block that the grammar has
-//! accepted. A core command has the request of its AndX counterpart where the
+//! The requests: what "Words after AndX" of document 01, for the core commands
+//! source document 004 and for OPEN_ANDX [MS-CIFS] say stands in a block that the
+//! grammar has accepted. A core command has the request of its AndX counterpart where the
 //! two do the same.
 
 use crate::grammar::{
-    Block, CLOSE, DATA_BLOCK_HEAD, LOCKING_ANDX, LOCK_BYTE_RANGE, LOGOFF_ANDX, PROCESS_EXIT, READ,
-    READ_ANDX, TREE_DISCONNECT, UNLOCK_BYTE_RANGE, WRITE, WRITE_ANDX,
+    Block, CLOSE, DATA_BLOCK_HEAD, LOCKING_ANDX, LOCK_BYTE_RANGE, LOGOFF_ANDX, OPEN_ANDX,
+    PROCESS_EXIT, READ, READ_ANDX, TREE_DISCONNECT, UNLOCK_BYTE_RANGE, WRITE, WRITE_ANDX,
 };
 use crate::header::{pid_high, whole_process};
 use crate::tables::Range;
@@ -14,6 +14,8 @@ use crate::tables::Range;
 pub const TYPE_SHARED: u8 = 0x01;
 /// Type bit 0x10: ranges of 20 bytes.
 pub const TYPE_LARGE: u8 = 0x10;
+/// The FID with which a READ_ANDX "means the file just opened".
+pub const JUST_OPENED: u16 = 0xFFFF;
 
 #[derive(Clone, Copy, Debug, PartialEq, Eq)]
 pub enum Request<'m> {
@@ -53,8 +55,19 @@ pub enum Request<'m> {
         fid: u16,
         size: u64,
     },
+    /// OPEN_ANDX.
+    Open(ToOpen<'m>),
     TreeDisconnect,
     Logoff,
+}
+
+/// What an OPEN_ANDX asks for.
+#[derive(Clone, Copy, Debug, PartialEq, Eq)]
+pub struct ToOpen<'m> {
+    pub flags: u16,
+    pub access_mode: u16,
+    pub open_mode: u16,
+    pub name: &'m [u8],
 }
 
 /// A part of a LOCKING request's byte area: ranges, still as bytes.
@@ -131,6 +144,7 @@ impl<'m> Request<'m> {
             PROCESS_EXIT => Request::ProcessExit,
             // The byte area is behind ByteCount.
             LOCKING_ANDX => locking(words, &rest[2..], pid_high(message)),
+            OPEN_ANDX => open(words, &rest[2..]),
             READ_ANDX => read(words),
             WRITE_ANDX => write(message, words),
             READ => core_read(words),
@@ -146,6 +160,18 @@ impl<'m> Request<'m> {
             TREE_DISCONNECT => Request::TreeDisconnect,
             LOGOFF_ANDX => Request::Logoff,
             command => unreachable!("the grammar accepts no command {command:#04X}"),
+        }
+    }
+
+    /// The request directly behind an OPEN_ANDX that gave this FID, or behind
+    /// none: "READ_ANDX may follow [...], where FID 0xFFFF means the file just
+    /// opened".
+    pub fn behind_open(self, opened: Option<u16>) -> Request<'m> {
+        match (self, opened) {
+            (Request::Read { fid, range }, Some(opened)) if fid == JUST_OPENED => {
+                Request::Read { fid: opened, range }
+            }
+            _ => self,
         }
     }
 }
@@ -164,6 +190,18 @@ fn locking<'m>(words: &[u8], area: &'m [u8], high: u16) -> Request<'m> {
         unlocks: ranges(unlocks),
         locks: ranges(locks),
     }
+}
+
+/// "Flags 2, AccessMode 2, SearchAttrs 2, FileAttrs 2, CreationTime 4, OpenMode 2,
+/// AllocationSize 4, Timeout 4, Reserved 4"; the byte area is the name and its
+/// zero byte.
+fn open<'m>(words: &[u8], area: &'m [u8]) -> Request<'m> {
+    Request::Open(ToOpen {
+        flags: u16_at(words, 4),
+        access_mode: u16_at(words, 6),
+        open_mode: u16_at(words, 16),
+        name: &area[..area.len() - 1],
+    })
 }
 
 /// "FID 2, offset 4, max 2, min 2, timeout 4, remaining 2, offset high 4 if

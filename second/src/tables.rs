@@ -1,5 +1,8 @@
 //! The state, from "Tables and room" of document 01: the tables, soundness,
-//! finding and removing records.
+//! finding and removing records. Opens have a sharing code, and beside the tables
+//! stands the catalogue (document 02, request 6).
+
+use crate::catalogue::Catalogue;
 
 pub const SESSIONS: usize = 16;
 pub const TREES: usize = 32;
@@ -18,6 +21,11 @@ pub const LARGEST_RIGHT: u8 = 1;
 pub const ACCESS_READ: u8 = 0;
 pub const ACCESS_WRITE: u8 = 1;
 pub const LARGEST_ACCESS: u8 = 2;
+/// "sharing codes 1 to 4: deny both, deny write, deny read, deny none"
+pub const DENY_BOTH: u8 = 1;
+pub const DENY_WRITE: u8 = 2;
+pub const DENY_READ: u8 = 3;
+pub const DENY_NONE: u8 = 4;
 /// "Files: 16, numbered from 0"
 pub const LARGEST_FILE: u8 = 15;
 
@@ -42,6 +50,7 @@ pub struct Open {
     pub process: u32,
     pub file: u8,
     pub access: u8,
+    pub sharing: u8,
 }
 
 #[derive(Clone, Copy, Debug, Default, PartialEq, Eq)]
@@ -90,6 +99,22 @@ impl Range {
         };
         self.offset.abs_diff(other.offset) < earlier && later > 0
     }
+}
+
+impl Open {
+    /// "An open fails if it asks what another open of the file denies or denies
+    /// what one has": whether one of these two would.
+    pub fn bars(&self, other: &Open) -> bool {
+        denied(self.access, other.sharing) || denied(other.access, self.sharing)
+    }
+}
+
+/// Whether the sharing code denies something of the access: "Access 0 asks and
+/// has reading, 1 writing, 2 both."
+pub fn denied(access: u8, sharing: u8) -> bool {
+    let reading = access != ACCESS_WRITE && matches!(sharing, DENY_BOTH | DENY_READ);
+    let writing = access != ACCESS_READ && matches!(sharing, DENY_BOTH | DENY_WRITE);
+    reading || writing
 }
 
 impl Lock {
@@ -197,6 +222,7 @@ pub struct Tables {
     /// "kept in order of grant"
     pub locks: Table<Lock, LOCKS>,
     pub files: [File; FILES],
+    pub catalogue: Catalogue,
 }
 
 impl Tables {
@@ -207,6 +233,7 @@ impl Tables {
             opens: Table::empty(),
             locks: Table::empty(),
             files: [File::default(); FILES],
+            catalogue: Table::empty(),
         }
     }
 
@@ -226,6 +253,22 @@ impl Tables {
         opens.find(|o| o.fid == fid && o.uid == uid && o.tid == tid)
     }
 
+    /// Whether an open may stand beside those of its file: "Sharing is tested
+    /// against every open of the file, of whatever session, process, tree or name,
+    /// the asker's own and the host's included".
+    pub fn may_share(&self, open: &Open) -> bool {
+        let mut others = self.opens.in_use().iter();
+        !others.any(|other| other.file == open.file && open.bars(other))
+    }
+
+    /// Puts an open, whose FID is not looked at, behind those in use with the
+    /// smallest FID not in use, and gives that. The table is not full.
+    pub fn add_open(&mut self, open: Open) -> u16 {
+        let fid = smallest_free(self.opens.in_use().iter().map(|o| o.fid));
+        self.opens.push(Open { fid, ..open });
+        fid
+    }
+
     /// The locks of a file, through whatever FID, with their places.
     pub fn locks_of(&self, file: u8) -> impl Iterator<Item = (usize, &Lock)> + Clone {
         // The FIDs of the file: bit n - 1 for FID n.
@@ -240,7 +283,8 @@ impl Tables {
     }
 }
 
-/// Soundness: "Tables are sound if ...".
+/// Soundness: "Tables are sound if ...". It "gains sharing codes and the
+/// catalogue's rules" (document 02, request 6).
 impl Tables {
     pub fn sound(&self) -> bool {
         self.limits_sound()
@@ -248,6 +292,7 @@ impl Tables {
             && self.trees_sound()
             && self.opens_sound()
             && self.locks_sound()
+            && self.catalogue.sound()
     }
 
     /// "counts and file sizes are within these limits"
@@ -283,6 +328,7 @@ impl Tables {
     fn open_sound(&self, open: &Open) -> bool {
         usize::from(open.file) < FILES
             && open.access <= LARGEST_ACCESS
+            && (DENY_BOTH..=DENY_NONE).contains(&open.sharing)
             && self
                 .tree(open.tid, open.uid)
                 .is_some_and(|tree| !exceeds(open.access, tree.right))

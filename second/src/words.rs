@@ -1,9 +1,10 @@
-//! The tables as the host hands them over: an array of 1172 words of 64
+//! The tables as the host hands them over: an array of 1461 words of 64
 //! bits, and every call over it. Any words are legal; a field outside its
 //! width, of a record in use, makes the tables not sound. Words of records
 //! that are not in use are nobody's and stay as they are. A refused call
 //! leaves every word as it was.
 
+use crate::catalogue::{Catalogue, Name, LONGEST_NAME, NAMES};
 use crate::holder::Holder;
 use crate::host;
 use crate::message;
@@ -22,9 +23,17 @@ pub const WORDS: usize = 1
     + OPENS * Open::FIELDS
     + 1
     + LOCKS * Lock::FIELDS
-    + FILES * File::FIELDS;
+    + FILES * File::FIELDS
+    + CATALOGUE_WORDS;
 
 pub type Words = [u64; WORDS];
+
+pub const CATALOGUE_WORDS: usize = 1 + NAMES * Name::FIELDS;
+/// The catalogue's own part of the tables, which is at their end: a count and
+/// the names.
+pub type CatalogueWords = [u64; CATALOGUE_WORDS];
+/// Where that part begins.
+pub const CATALOGUE: usize = WORDS - CATALOGUE_WORDS;
 
 pub const HOLDER_WORDS: usize = 6;
 /// Who holds the lock: 1, FID, process, place, offset, length. All are 0 if
@@ -77,7 +86,7 @@ impl Record for Tree {
 }
 
 impl Record for Open {
-    const FIELDS: usize = 6;
+    const FIELDS: usize = 7;
 
     fn from_words(words: &[u64]) -> Option<Self> {
         Some(Open {
@@ -87,6 +96,7 @@ impl Record for Open {
             process: narrow(words[3])?,
             file: narrow(words[4])?,
             access: narrow(words[5])?,
+            sharing: narrow(words[6])?,
         })
     }
 
@@ -98,6 +108,7 @@ impl Record for Open {
             self.process.into(),
             self.file.into(),
             self.access.into(),
+            self.sharing.into(),
         ]);
     }
 }
@@ -144,6 +155,31 @@ impl Record for File {
     }
 }
 
+/// Length, the bytes of the text, file.
+impl Record for Name {
+    const FIELDS: usize = 1 + LONGEST_NAME + 1;
+
+    fn from_words(words: &[u64]) -> Option<Self> {
+        let mut text = [0; LONGEST_NAME];
+        for (byte, &word) in text.iter_mut().zip(&words[1..]) {
+            *byte = narrow(word)?;
+        }
+        Some(Name {
+            length: narrow(words[0])?,
+            text,
+            file: narrow(words[1 + LONGEST_NAME])?,
+        })
+    }
+
+    fn to_words(self, words: &mut [u64]) {
+        words[0] = self.length.into();
+        for (word, byte) in words[1..].iter_mut().zip(self.text) {
+            *word = byte.into();
+        }
+        words[1 + LONGEST_NAME] = self.file.into();
+    }
+}
+
 /// Takes the words of so many records, of which the first `used` are read.
 fn take_records<T: Record>(records: &mut [T], used: usize, words: &mut &[u64]) -> Option<()> {
     let (front, rest) = words.split_at(records.len() * T::FIELDS);
@@ -175,7 +211,16 @@ pub fn unpack(words: &Words) -> Option<Tables> {
     take_table(&mut tables.opens, &mut words)?;
     take_table(&mut tables.locks, &mut words)?;
     take_records(&mut tables.files, FILES, &mut words)?;
+    take_table(&mut tables.catalogue, &mut words)?;
     Some(tables)
+}
+
+/// The catalogue in words of its own; none if a field in use is outside its
+/// width.
+fn unpack_catalogue(words: &CatalogueWords) -> Option<Catalogue> {
+    let mut catalogue = Table::empty();
+    take_table(&mut catalogue, &mut &words[..])?;
+    Some(catalogue)
 }
 
 /// Puts the first `used` of the records into their words; those behind stay.
@@ -204,6 +249,14 @@ pub fn pack(tables: &Tables, words: &mut Words) {
     put_table(&tables.opens, &mut words);
     put_table(&tables.locks, &mut words);
     put_records(&tables.files, FILES, &mut words);
+    put_table(&tables.catalogue, &mut words);
+}
+
+/// A catalogue in words of its own.
+pub fn pack_catalogue(catalogue: &Catalogue) -> CatalogueWords {
+    let mut words = [0; CATALOGUE_WORDS];
+    put_table(catalogue, &mut &mut words[..]);
+    words
 }
 
 /// Makes a call on the tables in the words and, when it is done, puts them
@@ -246,6 +299,18 @@ pub fn load_file(words: &mut Words, file: u32, contents: &[u8], memory: &mut [u8
 
 pub fn drop_connection(words: &mut Words, connection: u32) -> Outcome<()> {
     on_tables(words, |tables| host::drop_connection(tables, connection))
+}
+
+/// On success the tables' part is exactly the words given, those past the names
+/// in use too. A word of a name in use that does not fit breaks a rule as well.
+pub fn set_catalogue(words: &mut Words, given: &CatalogueWords) -> Outcome<()> {
+    on_tables(words, |tables| {
+        host::ensure(tables.sound(), CallRefusal::NotSound)?;
+        let catalogue = unpack_catalogue(given).ok_or(CallRefusal::OutOfRange)?;
+        host::set_catalogue(tables, &catalogue)
+    })?;
+    words[CATALOGUE..].copy_from_slice(given);
+    Ok(())
 }
 
 /// Gives the reply's length. Who holds the lock is written if the message was

@@ -2,9 +2,11 @@
 
 mod common;
 
-use common::{hex, lock, read, status, write, World};
-use second::builder::{core_read, core_write, lock_range, locking, unlock_range, Ask, Header};
-use second::grammar::{blocks, Block, WRITE_ANDX};
+use common::{catalogue, hex, lock, read, status, write, World};
+use second::builder::{
+    core_read, core_write, lock_range, locking, open, unlock_range, Ask, Header,
+};
+use second::grammar::{blocks, is_andx, Block, OPEN_ANDX, WRITE_ANDX};
 use second::host;
 use second::rng::Rng;
 
@@ -112,13 +114,19 @@ fn free_bytes_are_free() {
     }
 }
 
-/// The message of one block, as document 01 has it.
-fn alone(message: &[u8], block: &Block) -> Vec<u8> {
+/// The message of one block, as document 01 has it, behind an OPEN_ANDX that gave
+/// this FID, or none: "for 0xFFFF, and only then, demand 3's separate READ carries
+/// the FID returned" (document 02, request 6).
+fn alone(message: &[u8], block: &Block, opened: Option<[u8; 2]>) -> Vec<u8> {
     let mut single = message[..32].to_vec();
     single[4] = block.command;
     single.extend(&message[block.offset..block.offset + block.length]);
-    if [0x24, 0x2E, 0x2F, 0x74].contains(&block.command) {
+    if is_andx(block.command) {
         single[33] = 0xFF;
+    }
+    match opened {
+        Some(fid) if single[37..39] == [0xFF; 2] => single[37..39].copy_from_slice(&fid),
+        _ => {}
     }
     if block.command == WRITE_ANDX {
         let data_offset = u16::from_le_bytes([single[55], single[56]]);
@@ -149,10 +157,15 @@ fn joined(commands: &[u8], replies: &[Vec<u8>], chain: &[u8]) -> Vec<u8> {
 }
 
 fn random_ask(rng: &mut Rng, follows: Option<&Ask>) -> Ask {
-    let fid = 1 + rng.below(4) as u16;
+    let fid = rng.pick(&[1, 2, 3, 4, 1, 2, 3, 4, 0xFFFF]);
+    let fid = match follows {
+        Some(Ask::Open { .. }) => rng.pick(&[fid, 0xFFFF, 0xFFFF, 6]),
+        _ => fid,
+    };
     let offset = rng.below(40) as u64;
     let kinds: &[usize] = match follows {
-        None => &[0, 0, 0, 0, 1, 2, 2, 3, 4, 5, 6, 7, 8, 9, 10],
+        None => &[0, 0, 0, 0, 1, 2, 2, 3, 4, 5, 6, 7, 8, 9, 10, 11, 11, 11, 11],
+        Some(Ask::Open { .. }) => &[1],
         Some(Ask::Locking { .. }) => &[1, 2, 2, 7, 8],
         Some(Ask::Write { .. }) => &[1, 2, 2, 2, 3],
         _ => &[3],
@@ -181,12 +194,29 @@ fn random_ask(rng: &mut Rng, follows: Option<&Ask>) -> Ask {
             &[rng.byte(); 9][..rng.below(10)],
         ),
         9 => lock_range(fid, offset as u32, 4),
-        _ => unlock_range(fid, offset as u32, 4),
+        10 => unlock_range(fid, offset as u32, 4),
+        _ => random_open(rng),
     }
+}
+
+fn random_open(rng: &mut Rng) -> Ask {
+    let name: &[u8] = rng.pick(&[b"LIST", b"list", b"Other", b"other", b"none"]);
+    let sharing = rng.pick(&[1, 2, 3, 4, 4, 4, 4, 4, 4, 4, 4, 5]);
+    let mut ask = open(rng.below(3) as u8, sharing, name);
+    if let Ask::Open {
+        flags, open_mode, ..
+    } = &mut ask
+    {
+        *flags = rng.below(4) as u16;
+        *open_mode = rng.pick(&[1, 1, 1, 1, 1, 1, 0]);
+    }
+    ask
 }
 
 fn random_world(rng: &mut Rng) -> World {
     let mut world = World::with_size(rng.below(60));
+    let names = catalogue(&[(b"List", 0), (b"OTHER", rng.below(2) as u8)]);
+    host::set_catalogue(&mut world.tables, &names).unwrap();
     for access in [2, 2, 0, 1] {
         let file = rng.below(2) as u32;
         host::add_open(&mut world.tables, 1, 1, 7, file, access).unwrap();
@@ -207,14 +237,14 @@ fn random_world(rng: &mut Rng) -> World {
 #[test]
 fn chains_are_their_messages_in_turn() {
     let mut rng = Rng::new(3);
-    let mut refused = 0;
+    let (mut refused, mut just_opened) = (0, [0, 0]);
     for _ in 0..4000 {
         let mut world = random_world(&mut rng);
         let mut asks = vec![random_ask(&mut rng, None)];
         while rng.below(5) != 0
             && matches!(
                 asks[asks.len() - 1],
-                Ask::Locking { .. } | Ask::Read { .. } | Ask::Write { .. }
+                Ask::Locking { .. } | Ask::Read { .. } | Ask::Write { .. } | Ask::Open { .. }
             )
         {
             asks.push(random_ask(&mut rng, asks.last()));
@@ -232,10 +262,14 @@ fn chains_are_their_messages_in_turn() {
             memory: world.memory.clone(),
             ..world
         };
-        let mut replies = Vec::new();
+        let (mut replies, mut opened) = (Vec::new(), None);
         for block in &read {
-            let reply = apart.take(&alone(&chain, block)).unwrap();
+            let reply = apart.take(&alone(&chain, block, opened)).unwrap();
             let done = status(&reply) == (0, 0);
+            let just = opened.is_some() && chain[block.offset + 5..][..2] == [0xFF; 2];
+            just_opened[usize::from(done)] += usize::from(just);
+            // Behind WordCount and AndX.
+            opened = (done && block.command == OPEN_ANDX).then(|| [reply[37], reply[38]]);
             replies.push(reply);
             if !done {
                 refused += 1;
@@ -249,4 +283,9 @@ fn chains_are_their_messages_in_turn() {
         assert_eq!(world.holder, apart.holder);
     }
     assert!((1000..3500).contains(&refused), "{refused}");
+    // A READ of the file just opened, refused and done.
+    assert!(
+        just_opened.iter().all(|&count| count > 50),
+        "{just_opened:?}"
+    );
 }

@@ -368,7 +368,7 @@ fn no_holder() {
     message[32] = 11;
     assert_eq!(status(&world.take(&message).unwrap()), (2, 1));
     assert_eq!(world.holder, None);
-    message[4] = 0x2D;
+    message[4] = 0x2C;
     assert_eq!(status(&world.take(&message).unwrap()), (2, 22));
     assert_eq!(world.holder, None);
 }

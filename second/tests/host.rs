@@ -241,21 +241,27 @@ fn overlapping_locks_of_one_file_are_shared() {
 
 #[test]
 fn words_are_the_tables() {
-    assert_eq!(WORDS, 1172);
+    assert_eq!(WORDS, 1461);
     let mut all = [0; WORDS];
     assert_eq!(words::add_session(&mut all, 0xFFFF_FFFF), Ok(1));
     assert_eq!(words::add_tree(&mut all, 1, 1), Ok(1));
     assert_eq!(words::add_open(&mut all, 1, 1, 70_000, 15, 2), Ok(1));
     assert_eq!(all[..3], [1, 1, 0xFFFF_FFFF]);
     assert_eq!(all[33..37], [1, 1, 1, 1]);
-    assert_eq!(all[130..137], [1, 1, 1, 1, 70_000, 15, 2]);
-    // The last lock and the files are at the end.
-    all[515] = 128;
-    all[1151..1156].copy_from_slice(&[0xFFFF, 0xFFFF_FFFF, u64::MAX, u64::MAX, 1]);
-    all[1171] = 4096;
+    // A host's open denies nothing: its sharing code is 4.
+    assert_eq!(all[130..138], [1, 1, 1, 1, 70_000, 15, 2, 4]);
+    // The last lock, the files and the catalogue are at the end.
+    all[579] = 128;
+    all[1215..1220].copy_from_slice(&[0xFFFF, 0xFFFF_FFFF, u64::MAX, u64::MAX, 1]);
+    all[1235] = 4096;
+    all[1236] = 16;
+    all[1447..1461].copy_from_slice(&[3, 65, 46, 98, 4, 5, 6, 7, 8, 9, 10, 11, 12, 13]);
     let tables = unpack(&all).unwrap();
     assert_eq!(tables.locks.records[127].range.offset, u64::MAX);
     assert_eq!(tables.files[15].size, 4096);
+    let last = tables.catalogue.records[15];
+    assert_eq!((last.length, last.bytes(), last.file), (3, &b"A.b"[..], 13));
+    assert_eq!(last.text[3..], [4, 5, 6, 7, 8, 9, 10, 11, 12]);
     // Packed over other words, the records in use and those given up are
     // written and no other.
     let mut again = all;
@@ -274,11 +280,13 @@ fn words_are_the_tables() {
 /// sound", of any other it is nothing.
 #[test]
 fn words_have_widths() {
-    let tables: [(usize, &[u64]); 4] = [
+    let opens = [0xFFFF, 0xFFFF, 0xFFFF, 0xFFFF_FFFF, 0xFF, 0xFF, 0xFF];
+    let tables: [(usize, &[u64]); 5] = [
         (0, &[0xFFFF, 0xFFFF_FFFF]),
         (33, &[0xFFFF, 0xFFFF, 0xFF]),
-        (130, &[0xFFFF, 0xFFFF, 0xFFFF, 0xFFFF_FFFF, 0xFF, 0xFF]),
-        (515, &[0xFFFF, 0xFFFF_FFFF, u64::MAX, u64::MAX, 1]),
+        (130, &opens),
+        (579, &[0xFFFF, 0xFFFF_FFFF, u64::MAX, u64::MAX, 1]),
+        (1236, &[0xFF; 14]),
     ];
     for (count, widths) in tables {
         for (field, &width) in widths.iter().enumerate() {

@@ -162,9 +162,9 @@ fn dropped_by_row_1() {
 
 #[test]
 fn not_served() {
-    // NEGOTIATE, OPEN_ANDX, and 0xFF.
+    // NEGOTIATE, OPEN, and 0xFF.
     refused(&message(0x72, "00 0000"), Why::NotServed, 0x72);
-    refused(&message(0x2D, READ10), Why::NotServed, 0x2D);
+    refused(&message(0x02, READ10), Why::NotServed, 0x02);
     refused(&message(0xFF, "00 0000"), Why::NotServed, 0xFF);
 }
 

@@ -4,6 +4,7 @@ use linked as gateway;
 use second::call::Call;
 use second::refusals::number;
 use second::words::{HolderWords, Words, HOLDER_WORDS};
+use std::borrow::Cow;
 
 /// What is asked of both programs.
 #[derive(Clone, Debug)]
@@ -37,6 +38,7 @@ impl Trial {
             Some(Call::AddOpen { .. }) => "add_open",
             Some(Call::LoadFile { .. }) => "load_file",
             Some(Call::DropConnection { .. }) => "drop_connection",
+            Some(Call::SetCatalogue { .. }) => "set_catalogue",
             Some(Call::TakeMessage { .. }) => "take_message",
         }
     }
@@ -48,9 +50,9 @@ impl Trial {
         }
     }
 
-    /// The message, or the contents to load.
-    pub fn input(&self) -> &[u8] {
-        self.call().map_or(&[], Call::input)
+    /// The message, the contents to load, or the words of the catalogue.
+    pub fn input(&self) -> Cow<'_, [u8]> {
+        self.call().map(Call::input).unwrap_or_default()
     }
 
     /// Another length of the file memory.
@@ -153,6 +155,9 @@ pub fn theirs(trial: &Trial, tables: &mut [u8], holder: &mut [u8], places: Place
             ),
             Call::DropConnection { connection } => {
                 gateway::gateway_drop_connection(tables, connection)
+            }
+            Call::SetCatalogue { .. } => {
+                gateway::gateway_set_catalogue(tables, input.as_ptr().cast())
             }
             Call::TakeMessage { connection, .. } => gateway::gateway_take_message(
                 tables,

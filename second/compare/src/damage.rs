@@ -1,7 +1,8 @@
 //! Damage to the tables: some of it makes them unsound, some doesn't.
 
+use crate::catalogues;
 use second::rng::Rng;
-use second::words::Words;
+use second::words::{Words, CATALOGUE};
 
 /// A table in the words: its count's place, its records and their fields'
 /// largest values.
@@ -11,14 +12,15 @@ struct Layout {
     widths: &'static [u64],
 }
 
+const U8: u64 = 0xFF;
 const U16: u64 = 0xFFFF;
 const U32: u64 = 0xFFFF_FFFF;
 const U64: u64 = u64::MAX;
-const FILES: usize = 1156;
+const FILES: usize = 1220;
 const OPENS: usize = 2;
 const LOCKS: usize = 3;
 
-const LAYOUTS: [Layout; 4] = [
+const LAYOUTS: [Layout; 5] = [
     Layout {
         count: 0,
         records: 16,
@@ -27,17 +29,22 @@ const LAYOUTS: [Layout; 4] = [
     Layout {
         count: 33,
         records: 32,
-        widths: &[U16, U16, 0xFF],
+        widths: &[U16, U16, U8],
     },
     Layout {
         count: 130,
         records: 64,
-        widths: &[U16, U16, U16, U32, 0xFF, 0xFF],
+        widths: &[U16, U16, U16, U32, U8, U8, U8],
     },
     Layout {
-        count: 515,
+        count: 579,
         records: 128,
         widths: &[U16, U32, U64, U64, 1],
+    },
+    Layout {
+        count: 1236,
+        records: 16,
+        widths: &[U8; 14],
     },
 ];
 
@@ -98,10 +105,10 @@ pub fn litter(words: &mut Words, rng: &mut Rng) {
 
 /// Changes the words in one way or another.
 pub fn damage(words: &mut Words, rng: &mut Rng) {
-    let layout = &LAYOUTS[rng.below(4)];
+    let layout = &LAYOUTS[rng.below(LAYOUTS.len())];
     let used = layout.used(words);
     let field = rng.below(layout.widths.len());
-    match rng.below(15) {
+    match rng.below(17) {
         0 => words[rng.below(words.len())] = rng.pick(&VALUES),
         1 => words[layout.count] = rng.pick(&VALUES),
         2 => words[layout.count] = (words[layout.count] + 2).wrapping_sub(rng.below(4) as u64),
@@ -121,7 +128,8 @@ pub fn damage(words: &mut Words, rng: &mut Rng) {
         }
         10 if used > 1 => swap(words, layout, rng.below(used), rng.below(used)),
         11 => rename(words, rng),
-        12 => past_the_list(words, rng),
+        12 | 13 => past_the_list(words, rng),
+        14 => catalogues::spoil(&mut words[CATALOGUE..], rng),
         _ => damage_locks(words, rng),
     }
 }
@@ -157,9 +165,17 @@ fn rename(words: &mut Words, rng: &mut Rng) {
     }
 }
 
-/// Sets a right, file or access to the largest listed, or one more.
+/// Sets a right, file or access to the largest listed, or one more; a sharing
+/// code to any from 0 to 5, or to one that just fits or doesn't.
 fn past_the_list(words: &mut Words, rng: &mut Rng) {
-    let (table, field, largest) = rng.pick(&[(1, 2, 1), (OPENS, 4, 15), (OPENS, 5, 2)]);
+    let code = rng.pick(&[0, 0, 0, 1, 2, 3, 4, U8, U8]);
+    let (table, field, largest) = rng.pick(&[
+        (1, 2, 1),
+        (OPENS, 4, 15),
+        (OPENS, 5, 2),
+        (OPENS, 6, code),
+        (OPENS, 6, code),
+    ]);
     let used = LAYOUTS[table].used(words);
     if used > 0 {
         let word = LAYOUTS[table].word(rng.below(used), field);

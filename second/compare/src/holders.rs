@@ -224,8 +224,12 @@ impl<'m> Conflict<'m> {
     ) -> Result<Conflict<'m>, String> {
         let read: Vec<_> = blocks(message).flatten().collect();
         let requests = read.iter().map(|block| Request::read(message, block));
-        let requests: Vec<_> = requests.collect();
+        let mut requests: Vec<_> = requests.collect();
         let tables = unpack(words).ok_or("a holder in tables that are not sound")?;
+        if let [Request::Open(_), read, ..] = &mut requests[..] {
+            let opened = tables.opens.in_use().last().map(|open| open.fid);
+            *read = read.behind_open(opened);
+        }
         let list = list(&tables, &requests[begun - 1]);
         let place = holder[3] as usize;
         let named = list.get(place).map(|(_, lock)| {

@@ -7,10 +7,12 @@
 //! call to print before it is made.
 
 mod call;
+mod catalogues;
 mod core_commands;
 mod crash;
 mod damage;
 mod holders;
+mod opening;
 mod plan;
 mod processes;
 mod report;
@@ -28,7 +30,7 @@ use sides::{Given, Sides};
 use std::process::ExitCode;
 use tally::Tally;
 
-const CALLS: usize = 300_000;
+const CALLS: usize = 400_000;
 const SEED: u64 = 0x4757_3031;
 
 /// A run of the comparison.

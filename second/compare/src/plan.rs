@@ -2,8 +2,10 @@
 //! that every answer is met often, with errors and damage mixed in.
 
 mod core_asks;
+mod open_asks;
 
 use crate::call::Trial;
+use crate::catalogues;
 use crate::sides::LARGEST;
 use core_asks::set_across;
 use second::builder::{locking, message, Ask, Asked, Header};
@@ -16,6 +18,7 @@ use second::messages::{all, Made};
 use second::processes::twins;
 use second::rng::Rng;
 use second::tables::{Lock, Tables};
+use second::words::pack_catalogue;
 
 const CONNECTIONS: [u32; 6] = [0, 1, 2, 77, 0x1_0001, u32::MAX];
 /// The halves of processes. They are few, so that two processes often differ in
@@ -39,9 +42,14 @@ const EDGES: [u64; 14] = [
     4096,
 ];
 
+/// The kinds of call, in the order of [`Mood::calls`].
+const CALLS: usize = 7;
+const SET_CATALOGUE: usize = 5;
 /// The kinds of command, in the order of [`Mood::asks`].
-const KINDS: usize = 11;
+const KINDS: usize = 12;
 const FIRST_CORE: usize = 7;
+const CORES: usize = 4;
+const OPEN: usize = FIRST_CORE + CORES;
 
 /// What the calls tend to for a while.
 #[derive(Clone, Copy, Debug, PartialEq, Eq)]
@@ -54,25 +62,25 @@ enum Mood {
 }
 
 impl Mood {
-    /// Weights: add session, tree, open; load; drop; message.
-    fn calls(self) -> [usize; 6] {
+    /// Weights: add session, tree, open; load; drop; set the catalogue; message.
+    fn calls(self) -> [usize; CALLS] {
         match self {
-            Mood::Grow => [8, 12, 40, 4, 0, 40],
-            Mood::Fill => [20, 40, 80, 8, 0, 12],
-            Mood::Work => [2, 3, 8, 6, 1, 160],
-            Mood::Locks => [1, 1, 2, 2, 0, 100],
-            Mood::Shrink => [2, 2, 5, 10, 6, 100],
+            Mood::Grow => [8, 12, 40, 4, 0, 2, 40],
+            Mood::Fill => [20, 40, 80, 8, 0, 4, 12],
+            Mood::Work => [2, 3, 8, 6, 1, 4, 160],
+            Mood::Locks => [1, 1, 2, 2, 0, 1, 100],
+            Mood::Shrink => [2, 2, 5, 10, 6, 3, 100],
         }
     }
 
     /// Weights: LOCKING, READ_ANDX, WRITE_ANDX, CLOSE, LOGOFF, TREE_DISCONNECT,
-    /// PROCESS_EXIT, then READ, WRITE, LOCK, UNLOCK.
+    /// PROCESS_EXIT, then READ, WRITE, LOCK, UNLOCK, then OPEN_ANDX.
     fn asks(self) -> [usize; KINDS] {
         match self {
-            Mood::Grow | Mood::Fill => [300, 200, 200, 4, 1, 1, 2, 50, 80, 60, 40],
-            Mood::Work => [300, 250, 300, 20, 3, 4, 12, 70, 130, 60, 60],
-            Mood::Locks => [700, 60, 90, 5, 1, 1, 5, 30, 60, 100, 40],
-            Mood::Shrink => [100, 80, 80, 60, 12, 16, 20, 20, 40, 20, 20],
+            Mood::Grow | Mood::Fill => [300, 200, 200, 4, 1, 1, 2, 50, 80, 60, 40, 200],
+            Mood::Work => [320, 270, 300, 20, 3, 4, 12, 70, 160, 60, 60, 120],
+            Mood::Locks => [700, 60, 90, 5, 1, 1, 5, 30, 60, 100, 40, 20],
+            Mood::Shrink => [100, 80, 80, 60, 12, 16, 20, 20, 40, 20, 20, 60],
         }
     }
 }
@@ -144,7 +152,7 @@ impl Planner {
 
     /// A call of any kind, one as often as the other.
     pub fn any(&mut self, tables: &Tables) -> Trial {
-        let kind = self.rng.below(6);
+        let kind = self.rng.below(CALLS);
         self.call(kind, tables)
     }
 
@@ -159,6 +167,7 @@ impl Planner {
             4 => Trial::plain(Call::DropConnection {
                 connection: self.connection(),
             }),
+            SET_CATALOGUE => self.set_catalogue(tables),
             _ => self.take_message(tables),
         }
     }
@@ -174,6 +183,9 @@ impl Planner {
             }
             if tables.opens.count < 4 {
                 return 2;
+            }
+            if tables.catalogue.count == 0 {
+                return SET_CATALOGUE;
             }
         }
         self.weighted(&self.mood.calls())
@@ -254,6 +266,20 @@ impl Planner {
         }
     }
 
+    /// A new catalogue, or the one that stands, changed; once in three spoilt.
+    fn set_catalogue(&mut self, tables: &Tables) -> Trial {
+        let mut words = match self.once_in(3) {
+            true => pack_catalogue(&tables.catalogue),
+            false => catalogues::good(&mut self.rng),
+        };
+        if self.once_in(3) {
+            catalogues::spoil(&mut words, &mut self.rng);
+        }
+        Trial::plain(Call::SetCatalogue {
+            catalogue: Box::new(words),
+        })
+    }
+
     /// The value, or once in 16 one of the others.
     fn seldom<T: Copy>(&mut self, value: T, others: &[T]) -> T {
         if self.once_in(16) {
@@ -308,6 +334,8 @@ impl Planner {
             self.damage(&mut message);
         } else if self.once_in(5) && dropped(&message).is_none() {
             self.damage_data_block(&mut message);
+        } else if self.once_in(15) && dropped(&message).is_none() {
+            self.damage_name(&mut message);
         }
         Trial::Call {
             call: Call::TakeMessage {
@@ -431,10 +459,11 @@ impl Planner {
                 Ask::Locking { .. } => &[1, 1, 2, 2, FIRST_CORE, FIRST_CORE + 1],
                 Ask::Read { .. } => &[3],
                 Ask::Write { .. } => &[2, 2, 2, 1, 1, 3],
+                Ask::Open { .. } => &[1],
                 _ => break,
             };
             let any = self.rng.below(KINDS);
-            let core = FIRST_CORE + self.rng.below(KINDS - FIRST_CORE);
+            let core = FIRST_CORE + self.rng.below(CORES);
             let next = self.rng.pick(followers);
             let next = self.seldom(next, &[next, next, next, next, any, core]);
             let mut ask = self.ask(next, tables, scene);
@@ -449,7 +478,13 @@ impl Planner {
             if self.once_in(3) {
                 set_across(&mut ask, &asks[0]);
             }
+            if first == OPEN {
+                self.set_behind_open(&mut ask, tables);
+            }
             asks.push(ask);
+        }
+        if first != OPEN {
+            self.seldom_misplaced(&mut asks);
         }
         asks
     }
@@ -497,6 +532,8 @@ impl Planner {
             4 => Ask::Logoff,
             5 => Ask::TreeDisconnect,
             6 => Ask::ProcessExit,
+            OPEN if self.once_in(3) => self.willing_open(tables, scene),
+            OPEN => self.open_ask(tables),
             _ => self.core_ask(kind - FIRST_CORE, fid, tables, scene),
         }
     }

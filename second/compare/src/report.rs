@@ -11,23 +11,29 @@ use second::words::{HolderWords, Words, WORDS};
 /// Most differences of one kind that are printed.
 const MOST: usize = 12;
 
+const NAME_FIELDS: [&str; 14] = [
+    "length", "text 0", "text 1", "text 2", "text 3", "text 4", "text 5", "text 6", "text 7",
+    "text 8", "text 9", "text 10", "text 11", "file",
+];
+
 /// The name of a word: table, place and field.
 pub fn word_name(word: usize) -> String {
-    let tables: [(&str, usize, usize, &[&str]); 4] = [
+    let tables: [(&str, usize, usize, &[&str]); 5] = [
         ("sessions", 0, 16, &["uid", "connection"]),
         ("trees", 33, 32, &["tid", "uid", "right"]),
         (
             "opens",
             130,
             64,
-            &["fid", "uid", "tid", "process", "file", "access"],
+            &["fid", "uid", "tid", "process", "file", "access", "sharing"],
         ),
         (
             "locks",
-            515,
+            579,
             128,
             &["fid", "process", "offset", "length", "shared"],
         ),
+        ("names", 1236, 16, &NAME_FIELDS),
     ];
     for (table, start, records, fields) in tables {
         let end = start + 1 + records * fields.len();
@@ -40,7 +46,7 @@ pub fn word_name(word: usize) -> String {
             return format!("{table}[{}].{field}", place / fields.len());
         }
     }
-    format!("files[{}].size", word - 1156)
+    format!("files[{}].size", word - 1220)
 }
 
 /// The words that differ.
@@ -144,13 +150,13 @@ pub fn described(trial: &Trial, before: &Words) -> String {
         Some(Call::LoadFile { file, .. }) => format!(
             "load_file: file {file}, {} bytes, memory {memory:?}\n{}\n",
             input.len(),
-            hex(input)
+            hex(&input)
         ),
         Some(Call::TakeMessage { connection, .. }) => format!(
             "take_message: connection {connection}, {} bytes, memory {memory:?}, room {room}\n{}{}\n",
             input.len(),
-            explained(input),
-            hex(input)
+            explained(&input),
+            hex(&input)
         ),
         Some(other) => format!("{other:?}\n"),
         None => "empty\n".to_string(),

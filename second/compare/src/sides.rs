@@ -110,7 +110,7 @@ impl Sides {
         let tables = library.tables.place(TABLE_BYTES, side);
         put_words(&self.words, tables);
         let places = Places {
-            input: library.input.put(trial.input(), side),
+            input: library.input.put(&trial.input(), side),
             memory: match trial.other_memory() {
                 None => library.memory.place(MEMORY_BYTES, side),
                 Some(_) => library.odd_memory.put(&self.odd_memory, side),
@@ -125,7 +125,7 @@ impl Sides {
 
     fn make_own(&mut self, trial: &Trial) -> u8 {
         let places = Places {
-            input: trial.input(),
+            input: &trial.input(),
             memory: match trial.other_memory() {
                 None => &mut self.memory,
                 Some(_) => &mut self.odd_memory,
@@ -150,7 +150,7 @@ impl Sides {
         compare("reply room", &self.room, &mut library.room);
         compare("file memory", &self.memory, &mut library.memory);
         compare("odd memory", &self.odd_memory, &mut library.odd_memory);
-        compare("input", trial.input(), &mut library.input);
+        compare("input", &trial.input(), &mut library.input);
         found
     }
 

@@ -3,6 +3,7 @@
 use crate::call::Trial;
 use crate::core_commands::CoreCommands;
 use crate::holders::Holders;
+use crate::opening::Opening;
 use crate::processes::Processes;
 use crate::sides::Given;
 use second::call::Call;
@@ -32,20 +33,22 @@ pub struct Tally {
     successions: BTreeMap<(u8, u8), usize>,
     lengths: BTreeMap<&'static str, usize>,
     longest: usize,
-    /// Most sessions, trees, opens and locks at a time.
-    most: [u64; 4],
+    /// Most sessions, trees, opens, locks and names at a time.
+    most: [u64; 5],
     holders: Holders,
     processes: Processes,
     core: CoreCommands,
+    opening: Opening,
 }
 
 /// Every call's numbers, from "What a call returns".
-const NUMBERS: [(&str, &[u8]); 6] = [
+const NUMBERS: [(&str, &[u8]); 7] = [
     ("add_session", &[0, 4, 5]),
     ("add_tree", &[0, 4, 5, 6, 7]),
     ("add_open", &[0, 4, 5, 6, 7, 8]),
     ("load_file", &[0, 2, 4, 7, 9]),
     ("drop_connection", &[0, 4]),
+    ("set_catalogue", &[0, 4, 7]),
     ("take_message", &[0, 1, 2, 4]),
 ];
 
@@ -92,14 +95,19 @@ fn possible(refusal: WireRefusal, command: u8) -> bool {
     let commands: &[u8] = match refusal {
         WireRefusal::NotServed => &[],
         WireRefusal::NotASentence | WireRefusal::NoSession => &SERVED,
-        WireRefusal::NoTree => &[0x04, 0x0A, 0x0B, 0x0C, 0x0D, 0x24, 0x2E, 0x2F, 0x71],
+        WireRefusal::NoTree => &[0x04, 0x0A, 0x0B, 0x0C, 0x0D, 0x24, 0x2D, 0x2E, 0x2F, 0x71],
         WireRefusal::NoOpen => &[0x04, 0x0A, 0x0B, 0x0C, 0x0D, 0x24, 0x2E, 0x2F],
-        WireRefusal::Access => &[0x0A, 0x0B, 0x2E, 0x2F],
+        WireRefusal::Access => &[0x0A, 0x0B, 0x2D, 0x2E, 0x2F],
         WireRefusal::Conflict => &[0x0A, 0x0B, 0x0C, 0x24, 0x2E, 0x2F],
-        WireRefusal::LockType | WireRefusal::RangePasses => &[0x24],
+        WireRefusal::NotSupported => &[0x24, 0x2D],
+        WireRefusal::RangePasses => &[0x24],
         WireRefusal::NotLocked => &[0x0D, 0x24],
         WireRefusal::NoLockRecord => &[0x0C, 0x24],
         WireRefusal::FileFull => &[0x0B, 0x2F],
+        WireRefusal::AccessCode
+        | WireRefusal::NoName
+        | WireRefusal::Sharing
+        | WireRefusal::NoFid => &[0x2D],
     };
     commands.contains(&command)
 }
@@ -141,6 +149,7 @@ impl Tally {
     pub fn begin_history(&mut self) {
         self.histories += 1;
         self.core.begin_history();
+        self.opening.begin_history();
     }
 
     /// Counts a call, these being the reply room after it, and the words before
@@ -170,6 +179,7 @@ impl Tally {
         if let Some(call) = trial.call() {
             self.processes.count(call, given, reply, before, after);
             self.core.count(call, given, reply, before);
+            self.opening.count(call, given, reply, before, after);
         }
         if let Some(Call::TakeMessage { message, .. }) = trial.call() {
             self.holders.count(message, given, reply, after);
@@ -180,7 +190,7 @@ impl Tally {
     }
 
     pub fn count_tables(&mut self, words: &[u64]) {
-        for (most, place) in self.most.iter_mut().zip([0, 33, 130, 515]) {
+        for (most, place) in self.most.iter_mut().zip([0, 33, 130, 579, 1236]) {
             *most = words[place].max(*most);
         }
     }
@@ -229,8 +239,8 @@ impl Tally {
             "tables damaged before a call: {}, sound all the same: {}",
             self.damaged, self.damaged_but_sound
         );
-        println!("most sessions, trees, opens, locks: {:?}", self.most);
-        let full = self.most == [16, 32, 64, 128];
+        println!("most sessions, trees, opens, locks, names: {:?}", self.most);
+        let full = self.most == [16, 32, 64, 128, 16];
         if !full {
             println!("FAILED: some table was never full");
         }
@@ -244,6 +254,7 @@ impl Tally {
             self.holders.print(),
             self.processes.print(),
             self.core.print(),
+            self.opening.print(),
         ];
         parts.into_iter().all(|good| good)
     }
@@ -338,6 +349,7 @@ impl Tally {
             (0x2F, 0x2F),
             (0x2F, 0x2E),
             (0x2F, 0x04),
+            (0x2D, 0x2E),
         ] {
             let count = self.successions.get(&(first, next)).copied().unwrap_or(0);
             println!("  {first:02X} {next:02X}: {count}");

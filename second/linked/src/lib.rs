@@ -25,6 +25,7 @@ extern "C" {
         memory: *mut u8,
         memory_length: usize,
     ) -> u8;
+    pub fn gateway_set_catalogue(tables: *mut u64, catalogue: *const u64) -> u8;
     pub fn gateway_drop_connection(tables: *mut u64, connection: u32) -> u8;
     pub fn gateway_take_message(
         tables: *mut u64,

@@ -7,8 +7,8 @@
 #![forbid(unsafe_code)]
 
 use second::grammar::{
-    NotAChain, Why, CLOSE, LOCKING_ANDX, LOCK_BYTE_RANGE, LOGOFF_ANDX, PROCESS_EXIT, READ,
-    READ_ANDX, SERVED, TREE_DISCONNECT, UNLOCK_BYTE_RANGE, WRITE, WRITE_ANDX,
+    NotAChain, Why, CLOSE, LOCKING_ANDX, LOCK_BYTE_RANGE, LOGOFF_ANDX, OPEN_ANDX, PROCESS_EXIT,
+    READ, READ_ANDX, SERVED, TREE_DISCONNECT, UNLOCK_BYTE_RANGE, WRITE, WRITE_ANDX,
 };
 use second::listing::{answer, listing, text, Answer, Dropped};
 use second::messages::{all, Made, SUCCESSIONS};
@@ -261,6 +261,7 @@ fn check_own(messages: &[Made]) -> bool {
         (WRITE, 5, 0),
         (LOCK_BYTE_RANGE, 5, 0),
         (UNLOCK_BYTE_RANGE, 5, 0),
+        (OPEN_ANDX, 15, 0),
         (CLOSE, 3, 0),
         (LOGOFF_ANDX, 2, 0),
         (TREE_DISCONNECT, 0, 0),
@@ -340,6 +341,7 @@ fn possible_reasons() -> BTreeSet<NotAChain> {
             // 35 bytes hold all of a block without words and bytes.
             Why::WordsOutside | Why::ByteCountOutside => &[
                 LOCKING_ANDX,
+                OPEN_ANDX,
                 READ_ANDX,
                 WRITE_ANDX,
                 CLOSE,
@@ -349,7 +351,7 @@ fn possible_reasons() -> BTreeSet<NotAChain> {
                 UNLOCK_BYTE_RANGE,
                 LOGOFF_ANDX,
             ],
-            // Any ByteCount may do for a WRITE_ANDX.
+            // Any ByteCount may do for a WRITE_ANDX, any but 0 for an OPEN_ANDX.
             Why::ByteCount => &[
                 LOCKING_ANDX,
                 READ_ANDX,
@@ -364,8 +366,9 @@ fn possible_reasons() -> BTreeSet<NotAChain> {
             ],
             Why::DataBefore | Why::DataPast => &[WRITE_ANDX],
             Why::DataMark | Why::DataLength => &[WRITE],
-            Why::Follower => &[LOCKING_ANDX, READ_ANDX, WRITE_ANDX, LOGOFF_ANDX],
-            Why::AndXOffset => &[LOCKING_ANDX, READ_ANDX, WRITE_ANDX],
+            Why::NameEnd | Why::NameZero => &[OPEN_ANDX],
+            Why::Follower => &[LOCKING_ANDX, OPEN_ANDX, READ_ANDX, WRITE_ANDX, LOGOFF_ANDX],
+            Why::AndXOffset => &[LOCKING_ANDX, OPEN_ANDX, READ_ANDX, WRITE_ANDX],
         };
         reasons.extend(commands.iter().map(|&command| NotAChain { why, command }));
     }

@@ -5,9 +5,9 @@
 //! 1 add a session (connection u32); 2 add a tree (uid u16, right u8); 3 add
 //! an open (uid u16, tid u16, process u32, file u8, access u8); 4 load a file
 //! (file u8, length u16, the bytes); 5 drop a connection (connection u32); 6
-//! take a message (connection u32, length u16, the bytes). It starts from
-//! empty tables, file memory of zeros and a reply room of 12,292 zeros that
-//! is carried from call to call.
+//! take a message (connection u32, length u16, the bytes); 7 set the catalogue
+//! (its 225 words, a byte each). It starts from empty tables, file memory of
+//! zeros and a reply room of 12,292 zeros that is carried from call to call.
 //!
 //! The lines are this package's own answers, `NUMBER VALUE REPLYHEX DIGEST`
 //! for each call, and the holder of a lock behind it; see [`calls::State::line`]. The program ends with a failure
@@ -25,6 +25,8 @@ mod day;
 mod holders;
 #[path = "make_history/maker.rs"]
 mod maker;
+#[path = "make_history/opening.rs"]
+mod opening;
 #[path = "make_history/plan.rs"]
 mod plan;
 #[path = "make_history/processes.rs"]
@@ -80,6 +82,7 @@ fn made() -> Maker {
     holders::holders(&mut maker);
     processes::processes(&mut maker);
     core_commands::core_commands(&mut maker);
+    opening::opening(&mut maker);
     maker
 }
 

@@ -30,8 +30,8 @@ mod messages;
 mod tally;
 
 use calls::{digest, State};
-use maker::Maker;
-use messages::{messages, CONNECTION};
+use maker::{words_of, Maker};
+use messages::{messages, CONNECTION, NAMES};
 use second::call::Call;
 use second::grammar::{Why, SERVED};
 use second::message::ROOM_BYTES;
@@ -104,6 +104,9 @@ fn calls_before() -> Vec<Call> {
         load(1, b"0017 0042 0311 0768"),
         open(8, 0, 2),
         open(7, 1, 0),
+        Call::SetCatalogue {
+            catalogue: Box::new(words_of(&NAMES)),
+        },
     ]
 }
 

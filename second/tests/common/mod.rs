@@ -2,11 +2,12 @@
 #![allow(dead_code)]
 
 use second::builder::{locking, message, Ask, Asked, Header};
+use second::catalogue::{Catalogue, Name};
 use second::holder::Holder;
 use second::host;
 use second::message::{take_message, Taken, ROOM_BYTES};
 use second::refusals::Outcome;
-use second::tables::{Tables, MEMORY_BYTES};
+use second::tables::{Table, Tables, MEMORY_BYTES};
 
 /// FID, process, place, offset and length.
 pub type Held = (u16, u32, usize, u64, u64);
@@ -89,6 +90,15 @@ impl World {
         }
         status
     }
+}
+
+/// A catalogue of these names and files.
+pub fn catalogue(names: &[(&[u8], u8)]) -> Catalogue {
+    let mut catalogue = Table::empty();
+    for &(name, file) in names {
+        catalogue.push(Name::new(name, file));
+    }
+    catalogue
 }
 
 /// A holder's numbers.

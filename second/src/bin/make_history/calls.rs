@@ -4,7 +4,7 @@ use second::call::Call;
 use second::message::ROOM_BYTES;
 use second::refusals::number;
 use second::tables::MEMORY_BYTES;
-use second::words::{HolderWords, Words, HOLDER_WORDS, WORDS};
+use second::words::{HolderWords, Words, CATALOGUE_WORDS, HOLDER_WORDS, WORDS};
 
 /// The digest counts modulo this prime.
 const P: u64 = 4_294_967_291;
@@ -52,6 +52,12 @@ pub fn encode(call: &Call, history: &mut Vec<u8>) {
             history.extend(connection.to_le_bytes());
             put_counted(history, message);
         }
+        Call::SetCatalogue { catalogue } => {
+            history.push(7);
+            for &word in catalogue.iter() {
+                history.push(u8::try_from(word).expect("a word of 8 bits"));
+            }
+        }
     }
 }
 
@@ -83,6 +89,9 @@ pub fn decode(history: &mut &[u8]) -> Option<Call> {
         6 => Call::TakeMessage {
             connection: take_u32(history)?,
             message: take_counted(history)?,
+        },
+        7 => Call::SetCatalogue {
+            catalogue: Box::new(take_array::<CATALOGUE_WORDS>(history)?.map(u64::from)),
         },
         _ => return None,
     })

@@ -4,10 +4,11 @@ use crate::calls::{encode, Answer, State};
 use crate::tally::{status, Tally};
 use second::builder::{self, Ask, Header};
 use second::call::Call;
+use second::catalogue::Name;
 use second::refusals::WireRefusal;
 use second::rng::Rng;
-use second::tables::Tables;
-use second::words::{unpack, HOLDER_WORDS};
+use second::tables::{Table, Tables};
+use second::words::{pack_catalogue, unpack, CatalogueWords, HOLDER_WORDS};
 
 /// Who sends a message: its connection and the header's numbers.
 #[derive(Clone, Copy, Debug, PartialEq, Eq)]
@@ -138,6 +139,12 @@ impl Maker {
         self.host(Call::DropConnection { connection }, 0);
     }
 
+    /// Sets the catalogue, which must return the number.
+    pub fn set_catalogue(&mut self, words: &CatalogueWords, number: u8) {
+        let catalogue = Box::new(*words);
+        self.host(Call::SetCatalogue { catalogue }, number);
+    }
+
     pub fn take(&mut self, connection: u32, message: Vec<u8>) -> Answer {
         self.call(Call::TakeMessage {
             connection,
@@ -210,6 +217,15 @@ impl Maker {
         };
         self.host(call, 1);
     }
+}
+
+/// The words of a catalogue of these names.
+pub fn words_of(names: &[(&[u8], u8)]) -> CatalogueWords {
+    let mut catalogue = Table::empty();
+    for &(name, file) in names {
+        catalogue.push(Name::new(name, file));
+    }
+    pack_catalogue(&catalogue)
 }
 
 pub fn open_call(user: User, process: u32, file: u8, access: u8) -> Call {

@@ -5,7 +5,7 @@ use crate::day::CONNECTIONS;
 use crate::maker::{lengthened, open_call, read, write, Maker, User};
 use second::builder::{locking, Ask, Asked};
 use second::call::Call;
-use second::grammar::{CLOSE, CORE, LOCKING_ANDX, PROCESS_EXIT, READ_ANDX, WRITE_ANDX};
+use second::grammar::{CLOSE, CORE, LOCKING_ANDX, OPEN_ANDX, PROCESS_EXIT, READ_ANDX, WRITE_ANDX};
 use second::messages::{worked, SUCCESSIONS};
 use second::refusals::WireRefusal::{self, *};
 use second::tables::{LOCKS, OPENS, SESSIONS, TREES};
@@ -388,9 +388,9 @@ fn refusals(maker: &mut Maker) {
     maker.done(reader, &[locking(read_only, 0, &[], &[(41, 80, 4)])]);
     maker.done(one, &[locking(write_only, 1, &[], &[(41, 90, 4)])]);
     for kind in [0x02, 0x04, 0x08, 0x13, 0x20, 0x40, 0x80, 0xFF] {
-        maker.refused(one, &[locking(fid, kind, &[], &[(41, 0, 1)])], LockType);
+        maker.refused(one, &[locking(fid, kind, &[], &[(41, 0, 1)])], NotSupported);
     }
-    maker.refused(one, &[locking(fid, 0x02, &[], &[])], LockType);
+    maker.refused(one, &[locking(fid, 0x02, &[], &[])], NotSupported);
     maker.done(one, &[locking(fid, 0, &[], &[])]);
     releases_refused(maker, one, fid);
     drop_pair(maker);
@@ -457,7 +457,7 @@ fn orders(maker: &mut Maker) {
         (User { tid: 77, ..one }, write(0, 0, b"w"), NoTree),
         (one, locking(0, 0x02, &bad, &passing), NoOpen),
         (one, read(write_only, 4080, 1), Access),
-        (one, locking(fid, 0x12, &bad, &passing), LockType),
+        (one, locking(fid, 0x12, &bad, &passing), NotSupported),
         (one, locking(fid, 0x10, &bad, &passing), NotLocked),
         (one, locking(fid, 0x10, &[], &passing), RangePasses),
         (
@@ -489,8 +489,14 @@ fn malformed(maker: &mut Maker) {
     let user = maker.user(OFFICE, 1, 41);
     let fid = maker.open(user, 3, 2);
     let write = maker.message(user, &[write(fid, 0, b"never")]);
-    for command in [0x00, 0x2D, 0x72, 0x73, 0x75, 0xA2, 0xFF] {
-        maker.take_for(OFFICE, changed(&write, &[(4, command)]), (2, 22));
+    for command in [0x00, OPEN_ANDX, 0x72, 0x73, 0x75, 0xA2, 0xFF] {
+        // No OPEN_ANDX has the words of a WRITE.
+        let wanted = if command == OPEN_ANDX {
+            (2, 1)
+        } else {
+            (2, 22)
+        };
+        maker.take_for(OFFICE, changed(&write, &[(4, command)]), wanted);
     }
     maker.take_for(OFFICE, changed(&write, &[(4, 0x25), (32, 99)]), (2, 22));
     for ask in seven(fid) {

@@ -180,7 +180,7 @@ impl Bench {
         };
         let ask = read(self.fid, 0, 5);
         let message = maker.message(top, std::slice::from_ref(&ask));
-        for (place, byte, status) in [(4, 0x2D, (2, 22)), (32, 11, (2, 1))] {
+        for (place, byte, status) in [(4, 0x2D, (2, 1)), (32, 11, (2, 1))] {
             let mut message = message.clone();
             message[place] = byte;
             maker.take_for(BENCH, message, status);

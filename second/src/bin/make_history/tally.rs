@@ -1,12 +1,13 @@
 //! Counts what a history reaches, and tells what it must reach.
 
 mod core_tally;
+mod open_tally;
 
 use crate::calls::Answer;
 use second::call::Call;
 use second::grammar::{
-    blocks, is_andx, Block, Why, CLOSE, LOCKING_ANDX, LOCK_BYTE_RANGE, LOGOFF_ANDX, PROCESS_EXIT,
-    READ, READ_ANDX, SERVED, TREE_DISCONNECT, UNLOCK_BYTE_RANGE, WRITE, WRITE_ANDX,
+    blocks, is_andx, Block, Why, CLOSE, LOCKING_ANDX, LOCK_BYTE_RANGE, LOGOFF_ANDX, OPEN_ANDX,
+    PROCESS_EXIT, READ, READ_ANDX, SERVED, TREE_DISCONNECT, UNLOCK_BYTE_RANGE, WRITE, WRITE_ANDX,
 };
 use second::header::header_numbers;
 use second::listing::{self, Dropped};
@@ -129,6 +130,7 @@ impl Tally {
                 let which = if known { "a known" } else { "an unknown" };
                 self.count(format!("drop {which} connection: {}", answer.number));
             }
+            Call::SetCatalogue { catalogue } => self.note_catalogue(catalogue[0], answer.number),
             Call::TakeMessage { message, .. } => {
                 self.note_message(message, answer, before, after, unchanged)
             }
@@ -170,6 +172,7 @@ impl Tally {
                 self.note_hanging(before, after);
                 self.note_process(message, &blocks[0], answer, before, after);
                 self.note_core(message, &blocks, &answer.reply, before);
+                self.note_opening(message, &blocks, &answer.reply, before);
             }
         }
     }
@@ -458,6 +461,7 @@ pub fn required() -> Vec<(String, usize)> {
     all.extend(holders());
     all.extend(processes());
     all.extend(core_tally::required());
+    all.extend(open_tally::required());
     all
 }
 
@@ -503,13 +507,17 @@ fn refusals_by_command() -> Vec<(String, usize)> {
     let (locking, read, write) = (LOCKING_ANDX, READ_ANDX, WRITE_ANDX);
     let (lock, unlock) = (LOCK_BYTE_RANGE, UNLOCK_BYTE_RANGE);
     let with_open = [locking, read, write, READ, WRITE, lock, unlock, CLOSE];
-    let commands: [(WireRefusal, &[u8]); 11] = [
+    let commands: [(WireRefusal, &[u8]); 15] = [
         (NoSession, &SERVED),
         (NoTree, &with_open),
-        (NoTree, &[TREE_DISCONNECT]),
+        (NoTree, &[TREE_DISCONNECT, OPEN_ANDX]),
         (NoOpen, &with_open),
-        (Access, &[read, write, READ, WRITE]),
-        (LockType, &[locking]),
+        (Access, &[read, write, READ, WRITE, OPEN_ANDX]),
+        (NotSupported, &[locking, OPEN_ANDX]),
+        (AccessCode, &[OPEN_ANDX]),
+        (NoName, &[OPEN_ANDX]),
+        (Sharing, &[OPEN_ANDX]),
+        (NoFid, &[OPEN_ANDX]),
         (NotLocked, &[locking, unlock]),
         (RangePasses, &[locking]),
         (Conflict, &BARRED),
@@ -535,6 +543,7 @@ pub fn name(command: u8) -> &'static str {
         CLOSE => "CLOSE",
         PROCESS_EXIT => "PROCESS_EXIT",
         LOCKING_ANDX => "LOCKING",
+        OPEN_ANDX => "OPEN",
         READ_ANDX => "READ",
         WRITE_ANDX => "WRITE",
         READ => "core READ",

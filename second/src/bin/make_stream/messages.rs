@@ -3,14 +3,17 @@
 
 use crate::day::chain;
 use crate::maker::{lengthened, read, write, Maker, User};
-use second::builder::{core_read, core_write, lock_range, locking, unlock_range, Ask, Asked};
+use second::builder::{core_read, core_write, lock_range, locking, open, unlock_range, Ask, Asked};
 use second::listing::{self, Answer};
 use second::messages::{all, worked};
 use second::refusals::WireRefusal::*;
-use second::tables::LOCKS;
+use second::request::JUST_OPENED;
+use second::tables::{LOCKS, OPENS};
 use std::collections::BTreeMap;
 
 pub const CONNECTION: u32 = 5;
+/// The names in the catalogue, with their files.
+pub const NAMES: [(&[u8], u8); 3] = [(b"REVOKED.TXT", 0), (b"notes", 1), (b"Empty", 2)];
 
 /// Messages drawn by lot.
 const DRAWN: usize = 130;
@@ -48,6 +51,8 @@ pub fn messages(maker: &mut Maker) -> Vec<Vec<u8>> {
     sent.sizes();
     sent.locks_full();
     sent.core_commands();
+    sent.opening();
+    sent.opens_full();
     sent.leaving();
     sent.messages
 }
@@ -85,7 +90,7 @@ impl Sent<'_> {
             (User { tid: 9, ..TERMINAL }, read(FID, 0, 9), NoTree),
             (TERMINAL, read(9, 0, 9), NoOpen),
             (TERMINAL, write(READ_ONLY, 0, b"x"), Access),
-            (TERMINAL, locking(FID, 2, &[], &[]), LockType),
+            (TERMINAL, locking(FID, 2, &[], &[]), NotSupported),
             (TERMINAL, locking(FID, 0, &[held], &[]), NotLocked),
             (TERMINAL, locking(FID, 0x10, &[], &passes), RangePasses),
             (TERMINAL, read(FID, 195, 9), Conflict),
@@ -100,7 +105,7 @@ impl Sent<'_> {
         }
         for kind in [0x02, 0x80] {
             let ask = locking(FID, kind, &[], &[(7, 0, 1)]);
-            self.with(TERMINAL, &[ask], LockType.class_and_code());
+            self.with(TERMINAL, &[ask], NotSupported.class_and_code());
         }
         let near = locking(FID, 0, &[(7, 0, 1)], &[]);
         self.with(TERMINAL, &[near], NotLocked.class_and_code());
@@ -236,6 +241,61 @@ impl Sent<'_> {
         self.done(TERMINAL, &asks);
         self.done(OTHER, &[lock_range(BEHIND, 109, 1)]);
         self.done(OTHER, &[unlock_range(BEHIND, 109, 1)]);
+    }
+
+    /// Opening by name (document 02, request 6), alone and before a READ, done and
+    /// refused.
+    fn opening(&mut self) {
+        let just = read(JUST_OPENED, 0, 30);
+        let told = Ask::Open {
+            flags: 1,
+            access_mode: 0x42,
+            open_mode: 1,
+            name: b"revoked.txt".to_vec(),
+        };
+        self.done(TERMINAL, &[told.clone()]);
+        self.done(TERMINAL, &[told, just.clone()]);
+        self.done(
+            TERMINAL,
+            &[open(0, 4, b"NOTES"), just.clone(), Ask::Close { fid: 6 }],
+        );
+        self.done(TERMINAL, &[open(0, 4, b"Notes"), read(FID, 5, 9)]);
+        // The host has opened file 1 for reading, file 0 for both.
+        let refused = [
+            (open(0, 5, b"notes"), AccessCode),
+            (open(0, 4, b"note"), NoName),
+            (open(1, 3, b"notes"), Sharing),
+            (open(0, 2, b"revoked.TXT"), Sharing),
+        ];
+        for (ask, refusal) in refused {
+            let wanted = refusal.class_and_code();
+            self.with(TERMINAL, std::slice::from_ref(&ask), wanted);
+            self.with(TERMINAL, &[ask, just.clone()], wanted);
+        }
+        let mode = Ask::Open {
+            flags: 0,
+            access_mode: 0x40,
+            open_mode: 2,
+            name: b"notes".to_vec(),
+        };
+        self.with(TERMINAL, &[mode], NotSupported.class_and_code());
+        let asks = [open(1, 4, b"notes"), just.clone()];
+        self.with(TERMINAL, &asks, Access.class_and_code());
+        self.with(TERMINAL, &[just], NoOpen.class_and_code());
+        self.done(OTHER, &[open(2, 1, b"empty")]);
+        let barred = Sharing.class_and_code();
+        self.with(TERMINAL, &[open(0, 4, b"EMPTY")], barred);
+    }
+
+    /// Every FID in use, and none for one more.
+    fn opens_full(&mut self) {
+        while self.maker.tables().opens.count < OPENS {
+            self.done(OTHER, &[open(0, 4, b"notes")]);
+        }
+        let wanted = NoFid.class_and_code();
+        self.with(TERMINAL, &[open(0, 4, b"notes")], wanted);
+        let asks = [open(0, 4, b"notes"), read(JUST_OPENED, 0, 9)];
+        self.with(TERMINAL, &asks, wanted);
     }
 
     /// The opens, the tree and the session go, and what is asked of them then.

@@ -1,0 +1,169 @@
+//! Counts what request 6 of document 02 brings: catalogues set and refused, tables
+//! that are not sound for a sharing code or for the catalogue alone, what became of
+//! each OPEN_ANDX, and of FID 0xFFFF behind it and elsewhere.
+
+mod asked;
+
+use crate::catalogues::{broken, RULES};
+use crate::sides::Given;
+use crate::tally::enough;
+use second::call::Call;
+use second::tables::{Tables, DENY_NONE};
+use second::words::{unpack, Words, CATALOGUE};
+use std::collections::{BTreeMap, BTreeSet};
+
+/// Fewest times for each thing.
+const LEAST: usize = 50;
+
+const CATALOGUES: [&str; 4] = [
+    "catalogue set: empty",
+    "catalogue set: some names",
+    "catalogue set: 16 names",
+    "catalogue set beside opens",
+];
+const SHARING: [&str; 3] = [
+    "not sound: sharing code 0 alone",
+    "not sound: sharing code above 4 alone",
+    "not sound: sharing code that does not fit alone",
+];
+
+/// Where the opens stand in the words: their count, fields and most.
+const OPENS: usize = 130;
+const OPEN_FIELDS: usize = 7;
+const MOST_OPENS: u64 = 64;
+
+#[derive(Default)]
+pub struct Opening {
+    met: BTreeMap<String, usize>,
+    /// The FIDs that the host's calls gave last.
+    hosts: BTreeSet<u16>,
+}
+
+impl Opening {
+    pub fn begin_history(&mut self) {
+        self.hosts.clear();
+    }
+
+    fn met(&mut self, what: impl Into<String>) {
+        *self.met.entry(what.into()).or_default() += 1;
+    }
+
+    fn met_if(&mut self, holds: bool, what: &str) {
+        if holds {
+            self.met(what);
+        }
+    }
+
+    /// Counts a call, these being the words before and after it.
+    pub fn count(
+        &mut self,
+        call: &Call,
+        given: Given,
+        reply: &[u8],
+        before: &Words,
+        after: &Words,
+    ) {
+        if given.number == 4 {
+            self.count_unsound(before);
+        }
+        let tables = unpack(before).zip(unpack(after));
+        match (call, tables.filter(|_| given.number == 0)) {
+            (Call::SetCatalogue { catalogue }, _) => {
+                self.count_set(&catalogue[..], given.number, before);
+            }
+            (Call::AddOpen { .. }, Some(_)) => {
+                self.hosts.insert(given.value as u16);
+            }
+            (Call::DropConnection { .. }, Some((before, after))) => {
+                self.count_gone("drop", &before, &after);
+            }
+            (Call::TakeMessage { message, .. }, Some((before, after))) => {
+                self.count_message(message, reply, &before, &after);
+            }
+            _ => {}
+        }
+    }
+
+    /// An open by name that is there no more.
+    fn count_gone(&mut self, by: &str, before: &Tables, after: &Tables) {
+        let opens = before.opens.in_use().iter();
+        let mut named = opens.filter(|open| !self.hosts.contains(&open.fid));
+        let gone = named.any(|open| !after.opens.in_use().contains(open));
+        self.met_if(gone, &asked::removed(by));
+    }
+
+    fn count_set(&mut self, given: &[u64], number: u8, before: &Words) {
+        match number {
+            0 => {
+                let which = match given[0] {
+                    0 => CATALOGUES[0],
+                    16 => CATALOGUES[2],
+                    _ => CATALOGUES[1],
+                };
+                self.met(which);
+                self.met_if(before[OPENS] > 0, CATALOGUES[3]);
+            }
+            7 => self.count_rule("catalogue refused", given),
+            _ => {}
+        }
+    }
+
+    /// The one rule that a catalogue breaks, if it is one.
+    fn count_rule(&mut self, what: &str, words: &[u64]) {
+        let broken = broken(words);
+        let mut rules = RULES.iter().zip(broken).filter(|(_, broken)| *broken);
+        if let (Some((rule, _)), None) = (rules.next(), rules.next()) {
+            self.met(format!("{what}: {rule} alone"));
+        }
+    }
+
+    /// Tables that would be sound with another catalogue or other sharing codes.
+    fn count_unsound(&mut self, before: &Words) {
+        let sound = |words: &Words| unpack(words).is_some_and(|tables| tables.sound());
+        let mut other = *before;
+        other[CATALOGUE..].fill(0);
+        if sound(&other) {
+            self.count_rule("not sound", &before[CATALOGUE..]);
+        }
+        let mut other = *before;
+        let used = before[OPENS].min(MOST_OPENS) as usize;
+        let codes = (0..used).map(|open| OPENS + OPEN_FIELDS * (open + 1));
+        for word in codes.clone() {
+            other[word] = DENY_NONE.into();
+        }
+        if sound(&other) {
+            for code in codes.map(|word| before[word]) {
+                match code {
+                    1..=4 => {}
+                    0 => self.met(SHARING[0]),
+                    5..=255 => self.met(SHARING[1]),
+                    _ => self.met(SHARING[2]),
+                }
+            }
+        }
+    }
+
+    /// Prints the counts. False if something was met too seldom.
+    pub fn print(&self) -> bool {
+        println!("opening by name:");
+        let mut good = true;
+        for what in required() {
+            let count = self.met.get(&what).copied().unwrap_or(0);
+            println!("  {what}: {count}");
+            good &= enough(count, LEAST, &what);
+        }
+        good
+    }
+}
+
+/// All that must be met.
+fn required() -> Vec<String> {
+    let single = CATALOGUES.iter().chain(&SHARING);
+    let mut all: Vec<String> = single.map(|what| what.to_string()).collect();
+    for rule in RULES {
+        all.push(format!("catalogue refused: {rule} alone"));
+        all.push(format!("not sound: {rule} alone"));
+    }
+    all.extend(asked::required());
+    all
+}
