@@ -5,6 +5,7 @@
 //   4 load a file: file 1, length 2, the bytes
 //   5 drop a connection: connection 4
 //   6 take a message: connection 4, length 2, the bytes
+//   7 set the catalogue: its 225 words, each as 1
 // Any other byte is passed over. What stands behind the end reads as 0, and bytes are cut there.
 
 use crate::line::put_line;
@@ -12,11 +13,13 @@ use digest::state_digest;
 use host::answer::Row;
 use host::connection::drop_connection;
 use host::file::load_file;
+use host::names::set_catalogue;
 use host::open::add_open;
 use host::session::add_session;
 use host::tree::add_tree;
 use message::refusal::HeldBy;
 use numbers::number::at_most;
+use sample::names::catalogue_words;
 use server::call::take_message;
 use wire::byte_at;
 use wire::le16_at;
@@ -44,7 +47,7 @@ fn host_step(o: Row, next: usize, words: &[u64], memory: &[u8], text: &mut [u8])
 fn load_step(
     s: &[u8],
     at: usize,
-    words: &mut [u64; 1172],
+    words: &mut [u64; 1461],
     memory: &mut [u8],
     text: &mut [u8],
 ) -> Step
@@ -63,7 +66,7 @@ fn load_step(
 fn message_step(
     s: &[u8],
     at: usize,
-    words: &mut [u64; 1172],
+    words: &mut [u64; 1461],
     memory: &mut [u8],
     room: &mut [u8],
     text: &mut [u8],
@@ -84,7 +87,7 @@ fn message_step(
 }
 
 // An open: UID, TID, process, file and access.
-fn open_step(s: &[u8], at: usize, words: &mut [u64; 1172], memory: &[u8], text: &mut [u8]) -> Step
+fn open_step(s: &[u8], at: usize, words: &mut [u64; 1461], memory: &[u8], text: &mut [u8]) -> Step
     requires { ⌜ at < length (now s) ⌝ }
     requires { ⌜ length (now s) ≤ 262144 ⌝ }
     ensures { λ r. ⌜ (at < r .next) × (r .length ≤ length (now (text .exit))) ⌝ }
@@ -103,11 +106,28 @@ fn open_step(s: &[u8], at: usize, words: &mut [u64; 1172], memory: &[u8], text: 
     host_step(o, at + 11, words, memory, text)
 }
 
+// A catalogue: its words, all of them, so that those of names not in use arrive as they were given too.
+fn catalogue_step(
+    s: &[u8],
+    at: usize,
+    words: &mut [u64; 1461],
+    memory: &[u8],
+    text: &mut [u8],
+) -> Step
+    requires { ⌜ at < length (now s) ⌝ }
+    requires { ⌜ length (now s) ≤ 262144 ⌝ }
+    ensures { λ r. ⌜ (at < r .next) × (r .length ≤ length (now (text .exit))) ⌝ }
+{
+    let given = catalogue_words(s, at + 1);
+    let o = set_catalogue(words, &given);
+    host_step(o, at + 226, words, memory, text)
+}
+
 // The call that stands at a place of the history.
 pub(crate) fn play(
     s: &[u8],
     at: usize,
-    words: &mut [u64; 1172],
+    words: &mut [u64; 1461],
     memory: &mut [u8],
     room: &mut [u8],
     text: &mut [u8],
@@ -142,6 +162,7 @@ pub(crate) fn play(
             text,
         ),
         6 => message_step(s, at, words, memory, room, text),
+        7 => catalogue_step(s, at, words, memory, text),
         _ => Step {
             next: at + 1,
             length: 0,

@@ -69,8 +69,11 @@ host-step-requires-3 c κs = search needs
 message-step-requires : tie.Need-message-step-requires
 message-step-requires c κs = search needs
 
-add-t61 : tie.Need-add-t61
-add-t61 c = omega arith
+catalogue-step-requires : tie.Need-catalogue-step-requires
+catalogue-step-requires c κs = search needs
+
+add-t66 : tie.Need-add-t66
+add-t66 c = omega arith
 
 same-length : tie.Need-same-length
 same-length c =
@@ -153,8 +156,20 @@ returns-6 c =
     let message-step = c .before .before .before .before .before .before .message-step in
     (omega (arith, message-step .ensures .0), message-step .ensures .1)
 
+same-length-14 : tie.Need-same-length-14
+same-length-14 c =
+    refl
+
+same-length-15 : tie.Need-same-length-15
+same-length-15 c =
+    c .before .before .catalogue-step .kept .1 .1 .1 .1 .0
+
 returns-7 : tie.Need-returns-7
 returns-7 c =
+    (omega (arith, c .before .before .catalogue-step .ensures .0), c .before .before .catalogue-step .ensures .1)
+
+returns-8 : tie.Need-returns-8
+returns-8 c =
     (omega arith, omega arith)
 
 pub play-spec : {M : Type 1} → statement M
@@ -182,7 +197,8 @@ play-spec =
     add-host-step-3
     host-step-requires-3
     message-step-requires
-    add-t61
+    catalogue-step-requires
+    add-t66
     same-length
     same-length-2
     returns
@@ -202,4 +218,7 @@ play-spec =
     same-length-12
     same-length-13
     returns-6
-    returns-7)
+    same-length-14
+    same-length-15
+    returns-7
+    returns-8)
