@@ -12,6 +12,7 @@ mod stream;
 use measure::{by_library, cost, costs};
 use requests::Request;
 use scene::Scene;
+use second::catalogue::NAMES;
 use second::message::ROOM_BYTES;
 use second::tables::FILE_BYTES;
 use second::words::{self, HOLDER_WORDS};
@@ -170,6 +171,7 @@ fn host_calls(scenes: &[Scene], stack: &mut Stack) -> Vec<(&'static str, usize)>
         ("gateway_add_tree", 0),
         ("gateway_add_open", 0),
         ("gateway_load_file", 0),
+        ("gateway_set_catalogue", 0),
         ("gateway_drop_connection", 0),
     ];
     for scene in scenes {
@@ -186,6 +188,7 @@ fn host_call_stack(scene: &Scene, which: usize, stack: &mut Stack) -> usize {
     let connection = asker.connection;
     let (mut words, mut memory) = (scene.words, scene.memory.clone());
     let (contents, mut out) = (vec![1; FILE_BYTES], 0);
+    let catalogue = scene::catalogue(NAMES);
     stack.used(&mut || {
         words.copy_from_slice(&scene.words);
         let (tables, out) = (words.as_mut_ptr(), &raw mut out);
@@ -208,6 +211,7 @@ fn host_call_stack(scene: &Scene, which: usize, stack: &mut Stack) -> usize {
                     to,
                     memory.len(),
                 ),
+                5 => linked::gateway_set_catalogue(tables, catalogue.as_ptr()),
                 _ => linked::gateway_drop_connection(tables, connection),
             }
         };

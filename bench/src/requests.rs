@@ -2,9 +2,10 @@
 
 use crate::scene::{Scene, PROCESS};
 use second::builder::{
-    core_read, core_write, lock_range, message, unlock_range, Ask, Asked, Header,
+    core_read, core_write, lock_range, message, open, unlock_range, Ask, Asked, Header,
 };
-use second::tables::FILE_BYTES;
+use second::request::JUST_OPENED;
+use second::tables::{DENY_NONE, FILE_BYTES};
 
 const LARGEST: usize = 8192;
 
@@ -80,6 +81,26 @@ fn close(scene: &Scene) -> Ask {
     Ask::Close {
         fid: scene.asker.fid,
     }
+}
+
+/// The last name of the catalogue in another case, for reading (document 02,
+/// request 6), alone and before a READ of what was opened. Where every FID is in use
+/// it is refused, behind all else that is looked at.
+fn opens(scene: &Scene) -> [Request; 2] {
+    let tables = scene.tables();
+    let names = tables.catalogue.in_use();
+    let name = names[names.len() - 1].bytes().to_ascii_uppercase();
+    let mut just = read(scene);
+    just.set_fid(JUST_OPENED);
+    let asks = [open(0, DENY_NONE, &name), just];
+    let full = tables.opens.is_full();
+    [("OPEN", 1), ("OPEN + READ", 2)].map(|(what, blocks)| {
+        let name = format!("{what}{}", if full { " (refused 1/4)" } else { "" });
+        Request {
+            status: if full { (1, 4) } else { (0, 0) },
+            ..Request::new(&name, scene, &asks[..blocks])
+        }
+    })
 }
 
 /// A chain of writes of so many bytes each.
@@ -207,6 +228,7 @@ pub fn all(scene: &Scene) -> Vec<Request> {
     let (lock, read, write) = (lock(scene), read(scene), write(scene, 64));
     let (core_read, core_write) = core(scene);
     let made = |name: &str, asks: &[Ask]| Request::new(name, scene, asks);
+    let [open, open_and_read] = opens(scene);
     vec![
         made("LOCKING", std::slice::from_ref(&lock)),
         made("READ, 64 bytes", std::slice::from_ref(&read)),
@@ -219,6 +241,8 @@ pub fn all(scene: &Scene) -> Vec<Request> {
         made("PROCESS_EXIT", &[Ask::ProcessExit]),
         made("LOCKING + READ", &[lock.clone(), read]),
         made("LOCKING + core READ", &[lock, core_read]),
+        open,
+        open_and_read,
         longest(scene),
         spoilt(scene),
         most_ranges(scene),

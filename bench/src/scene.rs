@@ -3,9 +3,11 @@
 //! them.
 
 use second::builder::{message, Ask, Asked, Header};
-use second::tables::{Tables, FILES, FILE_BYTES, MEMORY_BYTES};
+use second::catalogue::{Name, NAMES};
+use second::tables::{Table, Tables, FILES, FILE_BYTES, MEMORY_BYTES};
 use second::words::{
-    add_open, add_session, add_tree, load_file, take_message, unpack, Words, HOLDER_WORDS, WORDS,
+    add_open, add_session, add_tree, load_file, pack_catalogue, set_catalogue, take_message,
+    unpack, CatalogueWords, Words, HOLDER_WORDS, WORDS,
 };
 
 pub const PROCESS: u16 = 7;
@@ -30,9 +32,20 @@ pub struct Scene {
     room: Vec<u8>,
 }
 
+/// A catalogue of so many names of twelve bytes. The last is of file 0.
+pub fn catalogue(names: usize) -> CatalogueWords {
+    let mut catalogue = Table::empty();
+    for place in 0..names {
+        let name = format!("Revoked.{place:04}");
+        let file = (names - 1 - place) % FILES;
+        catalogue.push(Name::new(name.as_bytes(), file as u8));
+    }
+    pack_catalogue(&catalogue)
+}
+
 impl Scene {
-    /// Every file full, no record.
-    fn new(name: &'static str) -> Scene {
+    /// Every file full, so many names in the catalogue, no record.
+    fn new(name: &'static str, names: usize) -> Scene {
         let mut scene = Scene {
             name,
             words: [0; WORDS],
@@ -46,6 +59,7 @@ impl Scene {
             let contents = vec![b'a' + file; FILE_BYTES];
             load_file(&mut scene.words, file.into(), &contents, &mut scene.memory).unwrap();
         }
+        set_catalogue(&mut scene.words, &catalogue(names)).unwrap();
         scene
     }
 
@@ -99,7 +113,7 @@ fn range(place: u64) -> Asked {
 
 /// One terminal that holds no lock.
 fn empty() -> Scene {
-    let mut scene = Scene::new("empty");
+    let mut scene = Scene::new("empty", 1);
     scene.session(100);
     scene.tree();
     scene.open(0);
@@ -109,7 +123,7 @@ fn empty() -> Scene {
 /// Four terminals. Each has a file of its own open and file 0, in which it
 /// holds three locks.
 fn typical() -> Scene {
-    let mut scene = Scene::new("typical");
+    let mut scene = Scene::new("typical", 4);
     for terminal in 0..4 {
         scene.session(100 + terminal);
         scene.tree();
@@ -121,8 +135,8 @@ fn typical() -> Scene {
     scene
 }
 
-/// Every table full: 16 sessions with two trees each, two opens to a tree,
-/// two locks to an open. `file` says which file an open is of, `held` which
+/// Every table full: 16 names, 16 sessions with two trees each, two opens to a
+/// tree, two locks to an open. `file` says which file an open is of, `held` which
 /// two locks it takes.
 fn full_of(
     name: &'static str,
@@ -130,7 +144,7 @@ fn full_of(
     file: impl Fn(u32) -> u8,
     held: impl Fn(u64) -> [Asked; 2],
 ) -> Scene {
-    let mut scene = Scene::new(name);
+    let mut scene = Scene::new(name, NAMES);
     scene.kind = kind;
     for open in 0..64 {
         if open % 4 == 0 {
