@@ -13,6 +13,7 @@
 #include <string.h>
 
 #define MESSAGE 71 /* bytes of a LOCKING message with one range of 20 bytes */
+#define OPENING 69 /* bytes of an OPEN_ANDX message with a name of 3 bytes */
 
 static struct gateway_tables tables;
 static uint8_t memory[GATEWAY_MEMORY];
@@ -34,13 +35,20 @@ static const struct gateway_tables expected = {
               {.tid = 3, .uid = 2, .right = 1},
               {.tid = 4, .uid = 3, .right = 1}},
     .open_count = 3,
-    .opens = {{.fid = 1, .uid = 3, .tid = 4, .process = 65541, .file = 9, .access = 2},
-              {.fid = 2, .uid = 3, .tid = 4, .process = 7, .file = 5, .access = 1},
-              {.fid = 3, .uid = 3, .tid = 4, .process = 8, .file = 6, .access = 0}},
+    .opens = {{.fid = 1, .uid = 3, .tid = 4, .process = 65541, .file = 9, .access = 2, .sharing = GATEWAY_DENY_NONE},
+              {.fid = 2, .uid = 3, .tid = 4, .process = 7, .file = 5, .access = 1, .sharing = GATEWAY_DENY_NONE},
+              {.fid = 3, .uid = 3, .tid = 4, .process = 8, .file = 6, .access = 0, .sharing = GATEWAY_DENY_BOTH}},
     .lock_count = 2,
     .locks = {{.fid = 1, .process = 200929, .offset = 10, .length = 20, .shared = 0},
               {.fid = 2, .process = 1234, .offset = 4294967301, .length = 8589934598, .shared = 1}},
     .files = {[3] = {.size = 300}, [9] = {.size = 77}},
+    .catalogue = {.count = 6,
+                  .names = {{.length = 12, .text = {65, 66, 67, 68, 69, 70, 71, 72, 73, 74, 75, 76}, .file = 13},
+                            {.length = 3, .text = {120, 46, 121}, .file = 6},
+                            {.length = 1, .text = {50}, .file = 2},
+                            {.length = 1, .text = {51}, .file = 3},
+                            {.length = 1, .text = {52}, .file = 4},
+                            {.length = 1, .text = {53}, .file = 5}}},
 };
 
 static void require_done(uint8_t number, const char *call)
@@ -124,7 +132,7 @@ static void require_status(unsigned class, unsigned code)
 {
     if (room[5] == class && room[7] == code)
         return;
-    fprintf(stderr, "fields: the lock was answered with status %u/%u\n", (unsigned)room[5], (unsigned)room[7]);
+    fprintf(stderr, "fields: a message was answered with status %u/%u\n", (unsigned)room[5], (unsigned)room[7]);
     exit(2);
 }
 
@@ -135,11 +143,30 @@ static void lock(uint16_t fid, uint8_t type, uint32_t process, uint64_t offset, 
     require_status(0, 0);
 }
 
+/* Opens "X.Y" with OPEN_ANDX to read, denying both, for UID 3 and TID 4 on connection 70003. */
+static void open_by_name(uint16_t process, uint64_t number)
+{
+    uint8_t message[OPENING] = {0xFF, 0x53, 0x4D, 0x42, 0x2D, [32] = 15, 0xFF, [65] = 'X', '.', 'Y'};
+    size_t reply_length = 0;
+    put(message, 24, 2, 4); /* TID */
+    put(message, 26, 2, process);
+    put(message, 28, 2, 3); /* UID */
+    put(message, 39, 2, 0x0010); /* AccessMode: read, deny both */
+    put(message, 49, 2, 1); /* OpenMode */
+    put(message, 63, 2, 4); /* ByteCount */
+    require_done(gateway_take_message(&tables, 70003, message, sizeof message, memory, sizeof memory, room, sizeof room,
+                                      &reply_length, &holder),
+                 "gateway_take_message");
+    require_status(0, 0);
+    require_number((uint16_t)(room[37] | room[38] << 8), number, "OPEN_ANDX");
+}
+
 static void fill(void)
 {
     gateway_empty(&tables);
     load(3, 300);
     load(9, 77);
+    require_done(gateway_set_catalogue(&tables, &expected.catalogue), "gateway_set_catalogue");
     add_session(70001, 1);
     add_session(70002, 2);
     add_session(70003, 3);
@@ -151,7 +178,7 @@ static void fill(void)
     add_tree(3, 1, 4);
     add_open(65541, 9, 2, 1);
     add_open(7, 5, 1, 2);
-    add_open(8, 6, 0, 3);
+    open_by_name(8, 3);
     lock(1, 0x00, 200929, 10, 20);
     lock(2, 0x01, 1234, 4294967301, 8589934598);
 }
@@ -191,6 +218,7 @@ static void read_records(void)
         FIELD(opens, place, process);
         FIELD(opens, place, file);
         FIELD(opens, place, access);
+        FIELD(opens, place, sharing);
     }
     for (size_t place = 0; place < GATEWAY_LOCKS; place++) {
         FIELD(locks, place, fid);
@@ -201,6 +229,13 @@ static void read_records(void)
     }
     for (size_t place = 0; place < GATEWAY_FILES; place++)
         FIELD(files, place, size);
+    COUNT(catalogue.count);
+    for (size_t place = 0; place < GATEWAY_NAMES; place++) {
+        FIELD(catalogue.names, place, length);
+        for (size_t byte = 0; byte < GATEWAY_NAME_BYTES; byte++)
+            FIELD(catalogue.names, place, text[byte]);
+        FIELD(catalogue.names, place, file);
+    }
 }
 
 #define WORD(field, word) same("the word of " #field, 0, offsetof(struct gateway_tables, field) / 8, word)
@@ -226,18 +261,51 @@ static void read_words(void)
     WORD(opens[0].process, 134);
     WORD(opens[0].file, 135);
     WORD(opens[0].access, 136);
-    WORD(opens[1].fid, 137);
-    WORD(opens[63].access, 514);
-    WORD(lock_count, 515);
-    WORD(locks[0].fid, 516);
-    WORD(locks[0].process, 517);
-    WORD(locks[0].offset, 518);
-    WORD(locks[0].length, 519);
-    WORD(locks[0].shared, 520);
-    WORD(locks[1].fid, 521);
-    WORD(locks[127].shared, 1155);
-    WORD(files[0].size, 1156);
-    WORD(files[15].size, 1171);
+    WORD(opens[0].sharing, 137);
+    WORD(opens[1].fid, 138);
+    WORD(opens[63].sharing, 578);
+    WORD(lock_count, 579);
+    WORD(locks[0].fid, 580);
+    WORD(locks[0].process, 581);
+    WORD(locks[0].offset, 582);
+    WORD(locks[0].length, 583);
+    WORD(locks[0].shared, 584);
+    WORD(locks[1].fid, 585);
+    WORD(locks[127].shared, 1219);
+    WORD(files[0].size, 1220);
+    WORD(files[15].size, 1235);
+    WORD(catalogue.count, 1236);
+    WORD(catalogue.names[0].length, 1237);
+    WORD(catalogue.names[0].text[0], 1238);
+    WORD(catalogue.names[0].text[11], 1249);
+    WORD(catalogue.names[0].file, 1250);
+    WORD(catalogue.names[1].length, 1251);
+    WORD(catalogue.names[15].file, 1460);
+}
+
+/* Catalogues that break a rule are refused, and the old one stands. */
+static void read_catalogue_refused(void)
+{
+    static struct gateway_catalogue given;
+    for (size_t place = 0; place < 5; place++) {
+        given = expected.catalogue;
+        if (place == 0)
+            given.count = GATEWAY_NAMES + 1;
+        else if (place == 1)
+            given.names[1].length = 257;
+        else if (place == 2)
+            given.names[1].text[1] = 0;
+        else if (place == 3)
+            given.names[1] = (struct gateway_name){
+                .length = 12, .text = {97, 98, 99, 100, 101, 102, 103, 104, 105, 106, 107, 108}}; /* the first one's, in small letters */
+        else
+            given.names[1].file = 16;
+        same("number", place, gateway_set_catalogue(&tables, &given), GATEWAY_OUT_OF_RANGE);
+        same("the catalogue", place, (uint64_t)memcmp(&tables.catalogue, &expected.catalogue, sizeof given), 0);
+    }
+    given = (struct gateway_catalogue){0};
+    require_done(gateway_set_catalogue(&tables, &given), "gateway_set_catalogue");
+    same("count", 0, tables.catalogue.count, 0);
 }
 
 static void same_holder(size_t place, struct gateway_holder due)
@@ -389,6 +457,7 @@ int main(void)
     fill();
     read_records();
     read_words();
+    read_catalogue_refused();
     read_holder();
     read_holder_refused();
     read_holder_words();

@@ -1,5 +1,6 @@
 /*
- * An example host: it serves one file, the revocation list, to two terminals and a test bench.
+ * An example host: it serves two files, the revocation list and the office's certificate, to two terminals and a test bench. All
+ * three have the list open; the catalogue has names for both files, by which they open them with OPEN_ANDX.
  *
  *     host [--show] [--pieces SIZE] [--list LIST] [CONNECTION=STREAM ..] > replies
  *
@@ -7,8 +8,8 @@
  * Terminal 1 is connection 5, terminal 2 is connection 6 and the bench is connection 7. The files are read one after the
  * other, and what is begun on a connection at the end of one goes on in its next. With no file named, standard input is
  * connection 5's stream. Replies go to standard output in the same framing, in the order of their messages. A message that is
- * dropped has no reply. With --show a person can read what came of each message, and whose lock is in the way of one that is
- * refused for a lock.
+ * dropped has no reply. With --show a person can read what came of each message, whose lock is in the way of one that is
+ * refused for a lock, and with an OPEN_ANDX which opens and which names there are.
  *
  * SIZE is how many bytes are read at a time at most, 1 to 4,096. LIST is a file of at most 4,096 bytes to serve; without it a
  * built-in list is served.
@@ -27,7 +28,9 @@
 #include <unistd.h>
 
 #define LONGEST_PIECE 4096
-#define REVOCATION_LIST 0 /* the list's file number */
+
+/* File numbers. */
+enum { REVOCATION_LIST = 0, CERTIFICATE = 1 };
 
 /* Values that document 01 gives to rights and accesses. */
 enum { RIGHT_READ = 0, RIGHT_READ_WRITE = 1 };
@@ -52,6 +55,20 @@ static const struct terminal terminals[] = {
 };
 
 #define TERMINALS (sizeof terminals / sizeof terminals[0])
+
+/* A name of the catalogue. The library trims nothing: a client that puts a backslash first asks for another name. */
+struct named_file {
+    const char *name;
+    uint64_t file;
+};
+
+static const struct named_file named_files[] = {
+    {"REVOKED.LST", REVOCATION_LIST},
+    {"\\REVOKED.LST", REVOCATION_LIST},
+    {"OFFICE.CRT", CERTIFICATE},
+};
+
+#define NAMED_FILES (sizeof named_files / sizeof named_files[0])
 
 /* What the host keeps for a connection: its reader, and the reader's buffer. */
 struct line {
@@ -79,6 +96,8 @@ struct host {
 
 static const char built_in_list[] = "Certificates revoked by the office, one to a line, as of this morning: "
                                     "0017 0042 0311 0768 0901 1024 1183 1399 1777 2048";
+
+static const char certificate[] = "Certificate 0001, by which the office signs the list.";
 
 static void stop(const char *what)
 {
@@ -109,17 +128,37 @@ static size_t read_list(const char *path, uint8_t *contents, size_t room)
 }
 
 /* Files are loaded before anything is opened: a load of a file that has an open is refused. */
+static void load_file(struct host *host, uint32_t file, const void *contents, size_t length)
+{
+    uint8_t number = gateway_load_file(&host->tables, file, contents, length, host->memory, sizeof host->memory);
+    require_done(number, "gateway_load_file");
+}
+
 static void load_list(struct host *host, const char *path)
 {
     uint8_t contents[GATEWAY_FILE_SIZE + 1];
-    size_t length = sizeof built_in_list - 1;
     if (path != NULL)
-        length = read_list(path, contents, sizeof contents);
+        load_file(host, REVOCATION_LIST, contents, read_list(path, contents, sizeof contents));
     else
-        memcpy(contents, built_in_list, length);
-    uint8_t number = gateway_load_file(&host->tables, REVOCATION_LIST, contents, length, host->memory,
-                                       sizeof host->memory);
-    require_done(number, "gateway_load_file");
+        load_file(host, REVOCATION_LIST, built_in_list, sizeof built_in_list - 1);
+}
+
+/* A name from a C string. One that is too long keeps its length, so that the library is the one to refuse it. */
+static struct gateway_name name_of(const struct named_file *named)
+{
+    struct gateway_name name = {.length = strlen(named->name), .file = named->file};
+    for (size_t place = 0; place < name.length && place < GATEWAY_NAME_BYTES; place++)
+        name.text[place] = (unsigned char)named->name[place];
+    return name;
+}
+
+/* The catalogue is set whole; the library copies it into the tables. */
+static void set_catalogue(struct host *host)
+{
+    struct gateway_catalogue catalogue = {.count = NAMED_FILES};
+    for (size_t place = 0; place < NAMED_FILES; place++)
+        catalogue.names[place] = name_of(&named_files[place]);
+    require_done(gateway_set_catalogue(&host->tables, &catalogue), "gateway_set_catalogue");
 }
 
 static void add_terminal(struct host *host, const struct terminal *terminal)
@@ -138,6 +177,8 @@ static void prepare(struct host *host, const char *path)
 {
     gateway_empty(&host->tables);
     load_list(host, path);
+    load_file(host, CERTIFICATE, certificate, sizeof certificate - 1);
+    set_catalogue(host);
     for (size_t place = 0; place < TERMINALS; place++) {
         add_terminal(host, &terminals[place]);
         host->lines[place].connection = terminals[place].connection;

@@ -8,6 +8,8 @@
 #define FIRST_BLOCK 32 /* the first block stands behind the header */
 #define NO_COMMAND 0xFF /* an AndXCommand that ends the chain */
 #define CORE_READ 0x0A
+#define OPEN_ANDX 0x2D
+#define OPENED_WORDS 15 /* words of an OPEN_ANDX's reply */
 #define DATA_BLOCK 3 /* bytes before a core READ's data: a mark, and the length in two bytes */
 #define DUMP_WIDTH 16
 
@@ -19,9 +21,13 @@ struct status {
 
 static const struct status statuses[] = {
     {0, 0, "done"},
+    {1, 2, "no such name"},
+    {1, 4, "all 64 FIDs in use"},
     {1, 5, "access refused"},
     {1, 6, "no open of that FID, UID and TID"},
     {1, 8, "no lock record free"},
+    {1, 12, "access or sharing code not served"},
+    {1, 32, "sharing conflict"},
     {1, 33, "lock conflict"},
     {1, 87, "lock range passes 2^64"},
     {1, 158, "no such lock to release"},
@@ -29,7 +35,7 @@ static const struct status statuses[] = {
     {2, 5, "no tree of that TID and UID"},
     {2, 22, "command not served"},
     {2, 91, "no session of that UID on this connection"},
-    {2, 65535, "lock type not served"},
+    {2, 65535, "lock type or OpenMode not served"},
     {3, 39, "write would end past 4,096"},
 };
 
@@ -47,6 +53,7 @@ static const struct command commands[] = {
     {0x0D, "UNLOCK_BYTE_RANGE", false},
     {0x11, "PROCESS_EXIT", false},
     {0x24, "LOCKING_ANDX", true},
+    {OPEN_ANDX, "OPEN_ANDX", true},
     {0x2E, "READ_ANDX", true},
     {0x2F, "WRITE_ANDX", true},
     {0x71, "TREE_DISCONNECT", false},
@@ -54,6 +61,10 @@ static const struct command commands[] = {
 };
 
 static const struct command not_served = {0, "a command that is not served", false};
+
+/* An open's access codes, and its sharing codes from GATEWAY_DENY_BOTH on. */
+static const char *const accesses[] = {"read", "write", "both"};
+static const char *const sharings[] = {"deny both", "deny write", "deny read", "deny none"};
 
 const char *number_in_words(uint8_t number)
 {
@@ -113,9 +124,30 @@ static const struct command *find_command(unsigned number)
     return &not_served;
 }
 
+/* A code's words, of those that a list has from a first code on. */
+static const char *code_in_words(uint64_t code, uint64_t first, const char *const *words, size_t count)
+{
+    return code >= first && code - first < count ? words[code - first] : "a code that is not defined";
+}
+
+static const char *access_in_words(uint64_t access)
+{
+    return code_in_words(access, 0, accesses, sizeof accesses / sizeof accesses[0]);
+}
+
+static const char *sharing_in_words(uint64_t sharing)
+{
+    return code_in_words(sharing, GATEWAY_DENY_BOTH, sharings, sizeof sharings / sizeof sharings[0]);
+}
+
 static unsigned get_word(const uint8_t *bytes)
 {
     return bytes[0] | (unsigned)bytes[1] << 8;
+}
+
+static unsigned long get_double(const uint8_t *bytes)
+{
+    return get_word(bytes) | (unsigned long)get_word(bytes + 2) << 16;
 }
 
 static void put_hex(const uint8_t *bytes, size_t length)
@@ -162,6 +194,19 @@ static void show_bytes(const uint8_t *reply, size_t start, size_t length, unsign
     printf("\"\n");
 }
 
+/*
+ * The words of an OPEN_ANDX's reply: behind AndX the FID at 4, and the size at 12, the access at 16 and OpenResults at 22, which
+ * are all 0 unless the request asked for them.
+ */
+static void show_opened(const uint8_t *words)
+{
+    unsigned access = get_word(words + 16), results = get_word(words + 22);
+    printf("    FID %u", get_word(words + 4));
+    if (results != 0)
+        printf(", size %lu, access %u (%s), OpenResults %u", get_double(words + 12), access, access_in_words(access), results);
+    putchar('\n');
+}
+
 /* Shows a block and answers where the next one stands: 0 if there is none. A block is WordCount, words, ByteCount, bytes. */
 static size_t show_block(const uint8_t *reply, size_t length, size_t start, unsigned command)
 {
@@ -180,6 +225,8 @@ static size_t show_block(const uint8_t *reply, size_t length, size_t start, unsi
     printf("    words");
     put_hex(reply + start + 1, 2 * words);
     putchar('\n');
+    if (command == OPEN_ANDX && words == OPENED_WORDS)
+        show_opened(reply + start + 1);
     show_bytes(reply, data, bytes, command);
     if (!served->andx)
         return 0;
@@ -245,8 +292,35 @@ static void show_holder(const struct gateway_tables *tables, const struct gatewa
 
 static void show_tables(const struct gateway_tables *tables)
 {
-    printf("  tables: sessions %" PRIu64 ", trees %" PRIu64 ", opens %" PRIu64 ", locks %" PRIu64 "\n",
-           tables->session_count, tables->tree_count, tables->open_count, tables->lock_count);
+    printf("  tables: sessions %" PRIu64 ", trees %" PRIu64 ", opens %" PRIu64 ", locks %" PRIu64 ", names %" PRIu64 "\n",
+           tables->session_count, tables->tree_count, tables->open_count, tables->lock_count, tables->catalogue.count);
+}
+
+/* The opens, each with what it has and what it denies. */
+static void show_opens(const struct gateway_tables *tables)
+{
+    for (size_t place = 0; place < tables->open_count; place++) {
+        const struct gateway_open *open = &tables->opens[place];
+        printf("    FID %" PRIu64 " of process %" PRIu64 " on connection %" PRIu64 ": file %" PRIu64 ", access %" PRIu64
+               " (%s), sharing %" PRIu64 " (%s)\n",
+               open->fid, open->process, connection_of(tables, open->fid), open->file, open->access,
+               access_in_words(open->access), open->sharing, sharing_in_words(open->sharing));
+    }
+}
+
+static void show_catalogue(const struct gateway_catalogue *catalogue)
+{
+    printf("    catalogue:");
+    for (size_t place = 0; place < catalogue->count; place++) {
+        const struct gateway_name *name = &catalogue->names[place];
+        uint8_t text[GATEWAY_NAME_BYTES];
+        for (size_t byte = 0; byte < name->length; byte++)
+            text[byte] = (uint8_t)name->text[byte];
+        printf("%s \"", place == 0 ? "" : ",");
+        put_text(text, name->length);
+        printf("\" file %" PRIu64, name->file);
+    }
+    putchar('\n');
 }
 
 void show_message(unsigned long place, uint32_t connection, size_t length)
@@ -267,4 +341,9 @@ void show_taken(uint8_t number, const uint8_t *reply, size_t length, const struc
         show_dump(reply, length);
     }
     show_tables(tables);
+    /* What an OPEN_ANDX was judged by, and what it left. */
+    if (number == GATEWAY_DONE && reply[4] == OPEN_ANDX) {
+        show_opens(tables);
+        show_catalogue(&tables->catalogue);
+    }
 }

@@ -15,7 +15,7 @@ void show_message(unsigned long place, uint32_t connection, size_t length);
 
 /*
  * What the library returned, the reply if there is one, whose lock is in the way if it was refused for one, and how many
- * records the tables then hold.
+ * records the tables then hold; if an OPEN_ANDX was answered also each open with its access and sharing, and the catalogue.
  */
 void show_taken(uint8_t number, const uint8_t *reply, size_t length, const struct gateway_holder *holder,
                 const struct gateway_tables *tables);
