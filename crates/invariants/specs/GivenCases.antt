@@ -29,7 +29,7 @@ use Rattle.message.specs.declared.caller.Caller.{Caller}
 use Rattle.message.specs.Contents.{sizeOf}
 use Rattle.message.specs.Sharing.{keptOut}
 use Rattle.message.specs.Command.{Given, refused, done, isSession, withSession, withTree, isOpen, openAt, withOpen, unlessBarred, barring, writing, codesServed, openBy, openedSaid, openFile, openNamed, doOpen}
-use Rattle.message.specs.declared.refusal.Refusal.the-variants.{NoSession, NoTree, NoOpen, NoAccess, Conflict, NoSpace, OpenMode, BadAccess, NoSuchFile, BadShare, NoFids}
+use Rattle.message.specs.declared.refusal.Refusal.the-variants.{NoSession, NoTree, NoOpen, NoAccess, FileLockConflict, NoSpace, OpenMode, BadAccess, NoSuchFile, BadShare, NoFids}
 
 -- of a choice
 pub cond-case : {A : Type 0} (P : A → Type 0) (t : Bool) (x y : A) → (t ≡ true → P x) → (t ≡ false → P y) → P (cond t x y)
@@ -85,14 +85,14 @@ module _ (P : Given → Type 0) where
       tree-case c t (openAt (found (isOpen c fid) (opensOf t)) (opensOf t) next) no-session no-tree
       (open-at-case (found (isOpen c fid) (opensOf t)) (opensOf t) next bad good)
 
-  pub barred-case : (t : Tables) (f : Found) (next : Given) → ((h : Holder) → P (refused (Conflict h))) → (f ≡ Nothing → P next) → P (unlessBarred t f next)
+  pub barred-case : (t : Tables) (f : Found) (next : Given) → ((h : Holder) → P (refused (FileLockConflict h))) → (f ≡ Nothing → P next) → P (unlessBarred t f next)
   unfolding unlessBarred
   barred-case t (At k) next bad good = bad _
   barred-case t Nothing next bad good = good refl
 
   -- of a write, whatever it asks of the locks and leaves
   pub writing-case : (c : Caller) (t : Tables) (fid : ℕ) (ask : Open → Ask) (past : Bool) (next : Open → Given)
-      → P (refused NoSession) → P (refused NoTree) → P (refused NoOpen) → P (refused NoAccess) → ((h : Holder) → P (refused (Conflict h))) → P (refused NoSpace)
+      → P (refused NoSession) → P (refused NoTree) → P (refused NoOpen) → P (refused NoAccess) → ((h : Holder) → P (refused (FileLockConflict h))) → P (refused NoSpace)
       → ((k : ℕ) → found (isOpen c fid) (opensOf t) ≡ At k → past ≡ false → P (next (getD (opensOf t) k noOpen))) → P (writing c t fid ask past next)
   writing-case c t fid ask past next no-session no-tree no-open no-access conflict no-space good =
       open-case c t fid _ no-session no-tree no-open

@@ -33,7 +33,7 @@ use Rattle.invariants.specs.BlockParse.{bodyAt, blockAt, blockSize, behi
 use Rattle.invariants.specs.Chained.{Chained, chained-end, chained-more, read-chained}
 use Rattle.message.specs.Caller.{callerOf}
 use Rattle.message.specs.declared.caller.Caller.{Caller}
-use Rattle.message.specs.Refusal.{statusOf}
+use Rattle.message.specs.Refusal.{formsOf}
 use Rattle.message.specs.Contents.{sizeOf, contents, readBytes}
 use Rattle.message.specs.Command.{Said, locked, read, wrote, Given, refused, done, servedType, requestOf, lockingEnd, lockingAfter, doLocking, doRead, doWrite, endsPast, coreSaid, asCore, oneRange, doRange, doSetSize, doCoreWrite, openedSaid, doOpen, perform}
 use Rattle.message.specs.JustOpened.{NOBODY, openedBy, bodyMeant}
@@ -253,8 +253,8 @@ pub reply-room : (connection : ℕ) (s : List ℕ) (t : Tables) (memory : List �
     → length (replyOf s (answered connection s t memory)) ≤ 12292
 unfolding replyOf answered onlyStatus refusedBlock
 reply-room connection s t memory g low small =
-    let a : length (replyHeader s (answered connection s t memory .status)) ≡ 32 = length-header s (answered connection s t memory .status) (omega arith) in
+    let a : length (replyHeader s (answered connection s t memory .forms)) ≡ 32 = length-header s (answered connection s t memory .forms) (omega arith) in
     let b : length (answered connection s t memory .blocks) ≤ length s - 32 + 4100 =
     cond-case (λ (r : Ran). length (r .blocks) ≤ length s - 32 + 4100) (served (headerCommand s)) (runChain (callerOf connection s) s (blocks s) t memory)
-    (onlyStatus (statusOf NotServed) t memory) (λ _. chain-room (callerOf connection s) s (blocks s) refl t memory g) (λ _. omega arith) in
-    rw (length-append (replyHeader s (answered connection s t memory .status)) (answered connection s t memory .blocks)) (omega arith)
+    (onlyStatus (formsOf NotServed) t memory) (λ _. chain-room (callerOf connection s) s (blocks s) refl t memory g) (λ _. omega arith) in
+    rw (length-append (replyHeader s (answered connection s t memory .forms)) (answered connection s t memory .blocks)) (omega arith)

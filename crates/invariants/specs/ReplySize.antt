@@ -4,7 +4,7 @@ use Prim.Native.Nat.{ℕ, _≤_}
 use native.Mathlib.Omega.{arith}
 use mathlib.Core.List.{List}
 use lib.ListN.{length, take, drop, length-take, length-drop}
-use Rattle.message.specs.declared.refusal.Status.{Status}
+use Rattle.message.specs.declared.refusal.Forms.{Forms}
 use Rattle.message.specs.Command.{Said, locked, loggedOff, read, wrote, plain, coreRead, coreWrote, opened}
 use Rattle.message.specs.Reply.{two, four, replyHeader, linkWords, replyBlock, replySize}
 use Rattle.message.specs.declared.link.Link.{Link}
@@ -28,8 +28,8 @@ length-block (opened fid size access results) place none = refl
 length-block (opened fid size access results) place (next c p) = refl
 
 -- "Header": "32 bytes"
-pub length-header : (s : List ℕ) (why : Status) → 32 ≤ length s → length (replyHeader s why) ≡ 32
-unfolding replyHeader two
+pub length-header : (s : List ℕ) (why : Forms) → 32 ≤ length s → length (replyHeader s why) ≡ 32
+unfolding replyHeader two four
 length-header s why h =
     let e : length (take 8 (drop 24 s)) ≡ 8 = rw (length-take, length-drop) (omega arith) in
     omega arith

@@ -44,7 +44,7 @@ use Rattle.message.specs.declared.caller.Caller.{Caller}
 use Rattle.message.specs.Sharing.{keptOut}
 use Rattle.message.specs.Contents.{sizeOf, readBytes, grown, written, withSize, resized}
 use Rattle.message.specs.declared.refusal.Refusal.{Refusal}
-use Rattle.message.specs.declared.refusal.Refusal.the-variants.{NotSentence, NoSession, NoTree, NoOpen, NoAccess, LockType, NoSuchLock, PassesEnd, Conflict, NoRecord, NoSpace, OpenMode, BadAccess, NoSuchFile, BadShare, NoFids}
+use Rattle.message.specs.declared.refusal.Refusal.the-variants.{NotSentence, NoSession, NoTree, NoOpen, NoAccess, LockType, NoSuchLock, PassesEnd, LockNotGranted, FileLockConflict, NoRecord, NoSpace, OpenMode, BadAccess, NoSuchFile, BadShare, NoFids}
 
 -- what a command's reply block says
 pub data Said : Type 0 where
@@ -126,7 +126,7 @@ lockingEnd Done t memory l = done (withLockList t (l .locks) (l .count)) memory 
 lockingEnd BadRanges t memory l = refused NotSentence
 lockingEnd NoLock t memory l = refused NoSuchLock
 lockingEnd PastEnd t memory l = refused PassesEnd
-lockingEnd (InWay h) t memory l = refused (Conflict h)
+lockingEnd (InWay h) t memory l = refused (LockNotGranted h)
 lockingEnd NoRoom t memory l = refused NoRecord
 
 unfoldable pub lockingAfter : Tables → List ℕ → Locking → Given
@@ -148,7 +148,7 @@ askBy c fid offset count purpose = record { fid = fid; process = c .process; off
 
 -- document 02, CR 2: "Locks, reads and writes pass it up"
 unfoldable pub unlessBarred : Tables → Found → Given → Given
-unlessBarred t (At place) next = refused (Conflict (holderAt (locksOf t) place))
+unlessBarred t (At place) next = refused (FileLockConflict (holderAt (locksOf t) place))
 unlessBarred t Nothing next = next
 
 unfoldable pub barring : Tables → Ask → Found

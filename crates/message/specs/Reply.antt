@@ -1,9 +1,12 @@
--- The bytes of a reply (document 01, "Header" and "Reply blocks"; document 02, CR 3 and CR 6). Assumes nothing.
+-- The bytes of a reply (document 01, "Header" and "Reply blocks"; document 02, CR 3, CR 6 and CR 7). Assumes nothing.
 use Prim.Native.Nat.{ℕ, _+_, _*_, _/_, _%_}
+use mathlib.Core.Bool.{Bool, cond}
 use mathlib.Core.List.{List, [], _∷_, _++_}
 use lib.ListN.{length, take, drop, replicate}
+use lib.Dec.{eqb}
 use Rattle.wire.specs.LittleEndian.{byteAt}
 use Rattle.message.specs.declared.refusal.Status.{Status}
+use Rattle.message.specs.declared.refusal.Forms.{Forms}
 use Rattle.message.specs.Command.{Said, locked, loggedOff, read, wrote, plain, coreRead, coreWrote, opened}
 use Rattle.message.specs.declared.link.Link.{Link}
 use Rattle.message.specs.declared.link.Link.the-variants.{None as none, Next as next}
@@ -16,13 +19,24 @@ two n = n % 256 ∷ n / 256 % 256 ∷ []
 unfoldable pub four : ℕ → List ℕ
 four n = two n ++ two (n / 65536)
 
--- "A reply copies Command, PIDHigh, TID, PIDLow, UID and MID; Flags is 0x80 plus the request's 0x08; Flags2 keeps only
--- 0x0001; the rest is 0 but for Status." "SMBSTATUS is class, 0, code."
-unfoldable pub replyHeader : List ℕ → Status → List ℕ
-replyHeader s status =
-    (0xFF ∷ 0x53 ∷ 0x4D ∷ 0x42 ∷ byteAt s 4 ∷ status .class ∷ 0 ∷ [])
-    ++ (two (status .code)
-    ++ (((128 + byteAt s 9 / 8 % 2 * 8) ∷ byteAt s 10 % 2 ∷ 0 ∷ byteAt s 12 ∷ byteAt s 13 ∷ [])
+-- "Flags2 bit 0x4000" of a message, which is bit 0x40 of the byte at 11
+unfoldable pub ntBit : List ℕ → Bool
+ntBit s = eqb (byteAt s 11 / 64 % 2) 1
+
+-- "SMBSTATUS is class, 0, code": the number whose four bytes these are
+unfoldable pub smbNumber : Status → ℕ
+smbNumber status = status .class + 65536 * status .code
+
+-- "With the bit set in a request, the reply .. carries" the NTSTATUS
+unfoldable pub statusNumber : List ℕ → Forms → ℕ
+statusNumber s f = cond (ntBit s) (f .nt) (smbNumber (f .status))
+
+-- "A reply copies Command, PIDHigh, TID, PIDLow, UID and MID; Flags is 0x80 plus the request's 0x08; .. the rest is 0 but for Status"; Flags2 is the request's & 0x4001 (docs/DECISIONS.md, 127)
+unfoldable pub replyHeader : List ℕ → Forms → List ℕ
+replyHeader s f =
+    (0xFF ∷ 0x53 ∷ 0x4D ∷ 0x42 ∷ byteAt s 4 ∷ [])
+    ++ (four (statusNumber s f)
+    ++ (((128 + byteAt s 9 / 8 % 2 * 8) ∷ byteAt s 10 % 2 ∷ byteAt s 11 / 64 % 2 * 64 ∷ byteAt s 12 ∷ byteAt s 13 ∷ [])
     ++ (replicate 10 0 ++ take 8 (drop 24 s))))
 
 -- "with none it is FF 00 00 00"
