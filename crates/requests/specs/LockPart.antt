@@ -14,18 +14,18 @@ use Rattle.tables.specs.WholeLaws.{withLockArray, tables-locks}
 use Rattle.message.specs.declared.answer.Answer.{Answer}
 use Rattle.message.specs.declared.answer.Answer.the-variants.{Refused, Locked}
 use Rattle.message.specs.declared.refusal.Refusal.{Refusal}
-use Rattle.message.specs.declared.refusal.Refusal.the-variants.{NotSentence, NoSuchLock, PassesEnd, Conflict, NoRecord}
+use Rattle.message.specs.declared.refusal.Refusal.the-variants.{NotSentence, NoSuchLock, PassesEnd, LockNotGranted, NoRecord}
 use Rattle.message.specs.Command.{refused, locked, withLockList, lockingEnd, lockingAfter}
 use Rattle.message.specs.Given.{givenOf, inside, Gives}
 use Rattle.requests.specs.Leaves.{performed, gives-refused, gives-done}
 
--- "1/158 no such lock to release; 1/87 lock range passes 2^64; 1/33 lock conflict; 1/8 no lock record free"
+-- "1/158 no such lock to release; 1/87 lock range passes 2^64; 1/33 lock conflict; 1/8 no lock record free"; "C0000055 for a lock refused" (document 02, CR 7)
 unfoldable pub lockAnswer : Outcome → Answer
 lockAnswer Done = Locked
 lockAnswer BadRanges = Refused NotSentence
 lockAnswer NoLock = Refused NoSuchLock
 lockAnswer PastEnd = Refused PassesEnd
-lockAnswer (InWay h) = Refused (Conflict h)
+lockAnswer (InWay h) = Refused (LockNotGranted h)
 lockAnswer NoRoom = Refused NoRecord
 
 -- a part put back as it was
@@ -49,5 +49,5 @@ module _ (w e m : List ℕ) (l : Locking) (full : length w ≡ 1461) (long : len
   settles-gives BadRanges s = none-left NotSentence s refl (ap (λ (o : Outcome). lockingEnd o (tablesOf w) m l) (sym (s .outcome)))
   settles-gives NoLock s = none-left NoSuchLock s refl (ap (λ (o : Outcome). lockingEnd o (tablesOf w) m l) (sym (s .outcome)))
   settles-gives PastEnd s = none-left PassesEnd s refl (ap (λ (o : Outcome). lockingEnd o (tablesOf w) m l) (sym (s .outcome)))
-  settles-gives (InWay h) s = none-left (Conflict h) s refl (ap (λ (o : Outcome). lockingEnd o (tablesOf w) m l) (sym (s .outcome)))
+  settles-gives (InWay h) s = none-left (LockNotGranted h) s refl (ap (λ (o : Outcome). lockingEnd o (tablesOf w) m l) (sym (s .outcome)))
   settles-gives NoRoom s = none-left NoRecord s refl (ap (λ (o : Outcome). lockingEnd o (tablesOf w) m l) (sym (s .outcome)))

@@ -20,7 +20,7 @@ ghost use Rattle.locks.specs.Request.{holderAt};
 ghost use Rattle.message.specs.Command.{askBy, barring};
 ghost use Rattle.message.specs.Contents.{sizeOf};
 ghost use Rattle.message.specs.declared.answer.Answer.the-variants.{Refused};
-ghost use Rattle.message.specs.declared.refusal.Refusal.the-variants.{Conflict};
+ghost use Rattle.message.specs.declared.refusal.Refusal.the-variants.{FileLockConflict};
 ghost use Rattle.invariants.specs.Sound.{Good};
 
 // "Locks: process from the range; reads and writes: from the header."
@@ -49,14 +49,14 @@ pub(crate) fn first_bar(words: &[u64], q: Ask) -> Found
     first_answer(&files, &words[579..1220], q)
 }
 
-// 1/33, the listed lock at that place being the holder.
+// 1/33, the listed lock at that place being the holder: "C0000054 for a read or write refused" (document 02, CR 7).
 pub(crate) fn refuse_for(words: &[u64], place: usize) -> Answer
     requires { ⌜ length (now words) ≡ 1461 ⌝ }
     requires { ⌜ place < length (locksOf (tablesOf (now words))) ⌝ }
-    ensures { λ r. ⌜ r ≡ Refused (Conflict (holderAt (locksOf (tablesOf (now (words .entry)))) place)) ⌝ }
+    ensures { λ r. ⌜ r ≡ Refused (FileLockConflict (holderAt (locksOf (tablesOf (now (words .entry)))) place)) ⌝ }
 {
     let lock = lock_at(&words[579..1220], place);
-    Answer::Refused(Refusal::Conflict(Holder { lock, place }))
+    Answer::Refused(Refusal::FileLockConflict(Holder { lock, place }))
 }
 
 // A file's size.

@@ -52,7 +52,8 @@ fn request_of(c: Caller, f: LockingFields) -> Request
     }
 }
 
-// "1/158 no such lock to release; 1/87 lock range passes 2^64; 1/33 lock conflict; 1/8 no lock record free".
+// "1/158 no such lock to release; 1/87 lock range passes 2^64; 1/33 lock conflict; 1/8 no lock record free". "C0000055
+// for a lock refused" (document 02, CR 7).
 pub(crate) fn lock_answer(outcome: Outcome) -> Answer
     ensures { λ r. ⌜ r ≡ lockAnswer outcome ⌝ }
 {
@@ -61,7 +62,7 @@ pub(crate) fn lock_answer(outcome: Outcome) -> Answer
         Outcome::Malformed => Answer::Refused(Refusal::NotSentence),
         Outcome::NoSuchLock => Answer::Refused(Refusal::NoSuchLock),
         Outcome::PassesEnd => Answer::Refused(Refusal::PassesEnd),
-        Outcome::Conflict(h) => Answer::Refused(Refusal::Conflict(h)),
+        Outcome::Conflict(h) => Answer::Refused(Refusal::LockNotGranted(h)),
         Outcome::NoRecord => Answer::Refused(Refusal::NoRecord),
     }
 }

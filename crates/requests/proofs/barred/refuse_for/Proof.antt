@@ -7,7 +7,7 @@ use Rattle.tables.specs.Words.{part, tablesOf}
 use Rattle.locks.specs.Request.{holderAt}
 use Rattle.locks.specs.Listed.{listed-below, listed-at}
 use Rattle.message.specs.declared.answer.Answer.the-variants.{Refused}
-use Rattle.message.specs.declared.refusal.Refusal.the-variants.{Conflict}
+use Rattle.message.specs.declared.refusal.Refusal.the-variants.{FileLockConflict}
 use Rattle.requests.proofs.barred.refuse_for.Statement.{statement}
 use Rattle.requests.proofs.barred.refuse_for.Tie as tie
 
@@ -28,7 +28,7 @@ returns : tie.Need-returns
 unfolding holderAt tablesOf
 returns c =
     let args = c .before .before .before .args in
-    ap (λ (l : Lock). Refused (Conflict (record { lock = l; place = args .place })))
+    ap (λ (l : Lock). Refused (FileLockConflict (record { lock = l; place = args .place })))
     (c .lock-at .ensures ∙ sym (listed-at (part (args .words .now) 579 641) (args .place) (c .before .before .before .pre .1)))
 
 pub refuse-for-spec : {M : Type 1} → statement M
