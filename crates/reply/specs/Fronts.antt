@@ -5,32 +5,32 @@ use mathlib.Core.List.{List, [], _∷_, _++_}
 use lib.ListN.{length, take, drop, replicate}
 use Rattle.wire.specs.LittleEndian.{byteAt}
 use Rattle.message.specs.Command.{read, coreRead, opened}
-use Rattle.message.specs.Reply.{two, four, replyHeader, linkWords, replyBlock}
-use Rattle.message.specs.declared.refusal.Status.{Status}
+use Rattle.message.specs.Reply.{two, four, statusNumber, replyHeader, linkWords, replyBlock}
+use Rattle.message.specs.declared.refusal.Forms.{Forms}
 use Rattle.message.specs.declared.link.Link.{Link}
 use Rattle.message.specs.declared.link.Link.the-variants.{None as none, Next as next}
 
--- Protocol, Command and Status: 9 bytes
-unfoldable pub headerStart : List ℕ → Status → List ℕ
-headerStart s status = 0xFF ∷ 0x53 ∷ 0x4D ∷ 0x42 ∷ byteAt s 4 ∷ status .class ∷ 0 ∷ two (status .code)
+-- Protocol, Command and Status, in the form that is asked for (document 02, CR 7): 9 bytes
+unfoldable pub headerStart : List ℕ → Forms → List ℕ
+headerStart s f = 0xFF ∷ 0x53 ∷ 0x4D ∷ 0x42 ∷ byteAt s 4 ∷ four (statusNumber s f)
 
 -- Flags, Flags2, PIDHigh, SecurityFeatures and Reserved: 15 bytes
 unfoldable pub headerFlags : List ℕ → List ℕ
-headerFlags s = (128 + byteAt s 9 / 8 % 2 * 8) ∷ byteAt s 10 % 2 ∷ 0 ∷ byteAt s 12 ∷ byteAt s 13 ∷ replicate 10 0
+headerFlags s = (128 + byteAt s 9 / 8 % 2 * 8) ∷ byteAt s 10 % 2 ∷ byteAt s 11 / 64 % 2 * 64 ∷ byteAt s 12 ∷ byteAt s 13 ∷ replicate 10 0
 
 -- before TID: 24 bytes
-pub length-headerFront : (s : List ℕ) (status : Status) → length (headerStart s status ++ headerFlags s) ≡ 24
-unfolding headerStart headerFlags two
-length-headerFront s status = refl
+pub length-headerFront : (s : List ℕ) (f : Forms) → length (headerStart s f ++ headerFlags s) ≡ 24
+unfolding headerStart headerFlags two four
+length-headerFront s f = refl
 
-pub length-headerStart : (s : List ℕ) (status : Status) → length (headerStart s status) ≡ 9
-unfolding headerStart two
-length-headerStart s status = refl
+pub length-headerStart : (s : List ℕ) (f : Forms) → length (headerStart s f) ≡ 9
+unfolding headerStart two four
+length-headerStart s f = refl
 
 -- "A reply copies .. TID, PIDLow, UID and MID", the header's last eight bytes
-pub header-whole : (s : List ℕ) (status : Status) → replyHeader s status ≡ (headerStart s status ++ headerFlags s) ++ take 8 (drop 24 s)
-unfolding replyHeader headerStart headerFlags two
-header-whole s status = refl
+pub header-whole : (s : List ℕ) (f : Forms) → replyHeader s f ≡ (headerStart s f ++ headerFlags s) ++ take 8 (drop 24 s)
+unfolding replyHeader headerStart headerFlags two four
+header-whole s f = refl
 
 -- WordCount, "AndX, 0xFFFF, 0, 0": 11 bytes
 unfoldable pub readStart : Link → List ℕ

@@ -55,12 +55,12 @@ returns c =
     let write-status = c .before .before .before .before .before .before .before .before .before .before .before .write-status in
     let write-flags = c .before .before .before .before .before .before .before .write-flags in
     let s = args .s .now in
-    let status = args .status in
+    let forms = args .forms in
     let n : length (take 8 (drop 24 s)) ≡ 8 = rw (length-take, length-drop) (omega arith) in
     let fits : 24 + length (take 8 (drop 24 s)) ≤ length (args .room .now) = omega arith in
-    rw (header-whole s status)
-    (laid-three (args .room .now) (headerStart s status) (headerFlags s) (take 8 (drop 24 s)) (write-status .last .1 .1 .0) (write-flags .last .1 .0) _ (c .before .before .lay .last .1 .0) 9 24
-    (length-headerStart s status) (length-headerFront s status) fits (write-status .ensures) (write-flags .ensures) refl (c .before .before .lay .ensures))
+    rw (header-whole s forms)
+    (laid-three (args .room .now) (headerStart s forms) (headerFlags s) (take 8 (drop 24 s)) (write-status .last .1 .1 .0) (write-flags .last .1 .0) _ (c .before .before .lay .last .1 .0) 9 24
+    (length-headerStart s forms) (length-headerFront s forms) fits (write-status .ensures) (write-flags .ensures) refl (c .before .before .lay .ensures))
 
 pub write-header-spec : {M : Type 1} → statement M
 write-header-spec =
