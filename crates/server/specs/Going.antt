@@ -16,8 +16,8 @@ use Rattle.chain.specs.declared.block.Parsed.the-variants.{Whole}
 use Rattle.invariants.specs.BlockParse.{blockAt, parse-complete}
 use Rattle.invariants.specs.Chained.{Chained, chained-end, chained-more}
 use Rattle.message.specs.declared.caller.Caller.{Caller}
-use Rattle.message.specs.declared.refusal.Status.{Status}
-use Rattle.message.specs.Refusal.{status, statusOf, holderOf}
+use Rattle.message.specs.declared.refusal.Forms.{Forms}
+use Rattle.message.specs.Refusal.{success, formsOf, holderOf}
 use Rattle.message.specs.declared.refusal.HeldBy.{HeldBy}
 use Rattle.message.specs.declared.refusal.HeldBy.the-variants.{Nobody}
 use Rattle.message.specs.declared.refusal.Refusal.{Refusal}
@@ -34,7 +34,7 @@ use Rattle.invariants.specs.Sound.{Good, keeps-good, perform-keeps}
 use Rattle.invariants.specs.ReplySize.{length-block}
 use Rattle.reply.specs.Links.{linkFor}
 use Rattle.reply.specs.BlockLaws.{length-yielded, read-inside, core-inside}
-use Rattle.server.specs.Step.{statusAfter, holderLeft, goesOn, justOpened}
+use Rattle.server.specs.Step.{formsAfter, holderLeft, goesOn, justOpened}
 
 -- ---- a chain at its first block
 
@@ -86,7 +86,7 @@ record Says (a : Answer) (memory : List ℕ) : Type 0 where
   pub given : (t : Tables) → givenOf a t memory ≡ done t memory said
   pub block : (place : ℕ) (link : Link) → blockOf a memory place link ≡ replyBlock said place link
   pub size : answerSize a ≡ replySize said
-  pub status-is : statusAfter a ≡ status 0 0
+  pub forms-is : formsAfter a ≡ success
   pub nobody : holderLeft a ≡ Nobody
   pub next-is : (n : Next) → goesOn a n ≡ n
   pub opens : justOpened a ≡ openedBy said
@@ -97,7 +97,7 @@ module _ (c : Caller) (s : List ℕ) (just : ℕ) (b : Block) (behind : List Blo
   abbrev given : Given
   given = perform c t memory (bodyMeant just (b .body)) (areaOf s b) (dataOf s b)
 
-  run-refused : (why : Refusal) → given ≡ refused why → run c s just (b ∷ behind) place t memory ≡ record { status = statusOf why; holder = holderOf why; tables = t; memory = memory; blocks = refusedBlock }
+  run-refused : (why : Refusal) → given ≡ refused why → run c s just (b ∷ behind) place t memory ≡ record { forms = formsOf why; holder = holderOf why; tables = t; memory = memory; blocks = refusedBlock }
   unfolding run afterGiven
   run-refused why e = rw e
 
@@ -110,7 +110,7 @@ module _ (c : Caller) (s : List ℕ) (just : ℕ) (b : Block) (behind : List Blo
 -- blocks in front of blocks in front
 after-after : (x y : List ℕ) (r : Ran) → after x (after y r) ≡ after (x ++ y) r
 unfolding after
-after-after x y r = ap (λ (z : List ℕ). record { status = r .status; holder = r .holder; tables = r .tables; memory = r .memory; blocks = z }) (sym (append-assoc x y (r .blocks)))
+after-after x y r = ap (λ (z : List ℕ). record { forms = r .forms; holder = r .holder; tables = r .tables; memory = r .memory; blocks = z }) (sym (append-assoc x y (r .blocks)))
 
 after-nothing : (r : Ran) → after [] r ≡ r
 unfolding after
@@ -118,10 +118,10 @@ after-nothing r = refl
 
 -- ---- how far the loop is
 
--- the chain has been carried out: its status, holder, tables, file memory, and its blocks in the room from 32 on
+-- the chain has been carried out: its status in both forms, holder, tables, file memory, and its blocks in the room from 32 on
 module _ (first : List ℕ) (whole : Ran) where
-  pub record Finished (why : Status) (who : HeldBy) (place : ℕ) (t : Tables) (memory room : List ℕ) : Type 0 where
-    pub status-is : why ≡ whole .status
+  pub record Finished (why : Forms) (who : HeldBy) (place : ℕ) (t : Tables) (memory room : List ℕ) : Type 0 where
+    pub forms-is : why ≡ whole .forms
     pub holder-is : who ≡ whole .holder
     pub tables-are : t ≡ whole .tables
     pub memory-is : memory ≡ whole .memory
@@ -172,7 +172,7 @@ going-length {first = first} g enough =
     let h = going-place g in
     ap length (g .room-is) ∙ length-put first (g .written) 32 (omega arith)
 
-pub finished-length : {first : List ℕ} {whole : Ran} {why : Status} {who : HeldBy} {place : ℕ} {t : Tables} {memory room : List ℕ} → Finished first whole why who place t memory room
+pub finished-length : {first : List ℕ} {whole : Ran} {why : Forms} {who : HeldBy} {place : ℕ} {t : Tables} {memory room : List ℕ} → Finished first whole why who place t memory room
     → 32 + length (whole .blocks) ≤ length first → length room ≡ length first
 finished-length {first} {whole} f enough = ap length (f .room-is) ∙ length-put first (whole .blocks) 32 enough
 
@@ -184,42 +184,42 @@ data Kind (a : Answer) (memory : List ℕ) : Type 0 where
   was-done : Says a memory → Kind a memory
 
 kind : (a : Answer) (memory : List ℕ) → inside a ≡ true → length memory ≡ 65536 → Kind a memory
-unfolding givenOf blockOf answerSize replySize statusAfter holderLeft goesOn justOpened openedBy inside
+unfolding givenOf blockOf answerSize replySize formsAfter holderLeft goesOn justOpened openedBy inside
 kind (Refused why) memory i m = was-refused why refl
-kind Locked memory i m = was-done (record { said = locked; given = λ t. refl; block = λ p l. refl; size = refl; status-is = refl; nobody = refl; next-is = λ n. refl; opens = refl })
-kind LoggedOff memory i m = was-done (record { said = loggedOff; given = λ t. refl; block = λ p l. refl; size = refl; status-is = refl; nobody = refl; next-is = λ n. refl; opens = refl })
+kind Locked memory i m = was-done (record { said = locked; given = λ t. refl; block = λ p l. refl; size = refl; forms-is = refl; nobody = refl; next-is = λ n. refl; opens = refl })
+kind LoggedOff memory i m = was-done (record { said = loggedOff; given = λ t. refl; block = λ p l. refl; size = refl; forms-is = refl; nobody = refl; next-is = λ n. refl; opens = refl })
 kind (Read place count) memory i m =
     was-done (record {
       said = read (take count (drop place memory));
       given = λ t. refl;
       block = λ p l. refl;
       size = ap (λ (n : ℕ). 27 + n) (sym (length-yielded memory place count (let h = read-inside (Read place count) place count refl i in omega arith)));
-      status-is = refl;
+      forms-is = refl;
       nobody = refl;
       next-is = λ n. refl;
       opens = refl;
     })
-kind (Wrote count) memory i m = was-done (record { said = wrote count; given = λ t. refl; block = λ p l. refl; size = refl; status-is = refl; nobody = refl; next-is = λ n. refl; opens = refl })
-kind Plain memory i m = was-done (record { said = plain; given = λ t. refl; block = λ p l. refl; size = refl; status-is = refl; nobody = refl; next-is = λ n. refl; opens = refl })
+kind (Wrote count) memory i m = was-done (record { said = wrote count; given = λ t. refl; block = λ p l. refl; size = refl; forms-is = refl; nobody = refl; next-is = λ n. refl; opens = refl })
+kind Plain memory i m = was-done (record { said = plain; given = λ t. refl; block = λ p l. refl; size = refl; forms-is = refl; nobody = refl; next-is = λ n. refl; opens = refl })
 kind (CoreRead place count) memory i m =
     was-done (record {
       said = coreRead (take count (drop place memory));
       given = λ t. refl;
       block = λ p l. refl;
       size = ap (λ (n : ℕ). 16 + n) (sym (length-yielded memory place count (let h = core-inside (CoreRead place count) place count refl i in omega arith)));
-      status-is = refl;
+      forms-is = refl;
       nobody = refl;
       next-is = λ n. refl;
       opens = refl;
     })
-kind (CoreWrote count) memory i m = was-done (record { said = coreWrote count; given = λ t. refl; block = λ p l. refl; size = refl; status-is = refl; nobody = refl; next-is = λ n. refl; opens = refl })
+kind (CoreWrote count) memory i m = was-done (record { said = coreWrote count; given = λ t. refl; block = λ p l. refl; size = refl; forms-is = refl; nobody = refl; next-is = λ n. refl; opens = refl })
 kind (Opened fid size access results) memory i m =
     was-done (record {
       said = opened fid size access results;
       given = λ t. refl;
       block = λ p l. refl;
       size = refl;
-      status-is = refl;
+      forms-is = refl;
       nobody = refl;
       next-is = λ n. refl;
       opens = refl;
@@ -256,7 +256,7 @@ module _ {c : Caller} {s first : List ℕ} {whole : Ran} {command at place just 
 
   -- what is refused: its block stands behind those written, and the tables and the file memory are as they were
   module _ (why : Refusal) (d : perform c t memory (bodyMeant just (b .body)) (areaOf s b) (dataOf s b) ≡ refused why) where
-    refused-whole : whole ≡ record { status = statusOf why; holder = holderOf why; tables = t; memory = memory; blocks = g .written ++ refusedBlock }
+    refused-whole : whole ≡ record { forms = formsOf why; holder = holderOf why; tables = t; memory = memory; blocks = g .written ++ refusedBlock }
     unfolding after
     refused-whole = the-whole ∙ ap (after (g .written)) (run-refused c s just b (here .behind) place t memory why d)
 
@@ -296,8 +296,8 @@ module _ {c : Caller} {s first : List ℕ} {whole : Ran} {command at place just 
           ∙ ap (λ (k : ℕ). put (put first 32 (g .written)) k x) p
           ∙ put-then first (g .written) x 32 (omega arith)
 
-      end-kind : Kind a memory′ → goesOn a (b .next) ≡ End → Finished first whole (statusAfter a) (holderLeft a) (place + answerSize a) t′ memory′ room′
-      unfolding givenOf blockOf answerSize refusedBlock after statusAfter holderLeft tablesAfter memoryAfter run
+      end-kind : Kind a memory′ → goesOn a (b .next) ≡ End → Finished first whole (formsAfter a) (holderLeft a) (place + answerSize a) t′ memory′ room′
+      unfolding givenOf blockOf answerSize refusedBlock after formsAfter holderLeft tablesAfter memoryAfter run
       end-kind (was-refused why f) stop =
           let p = g .place-is in
           let r : perform c t memory (bodyMeant just (b .body)) (areaOf s b) (dataOf s b) ≡ refused why = meaning ∙ ap (λ (x : Answer). givenOf x t′ memory′) f in
@@ -305,7 +305,7 @@ module _ {c : Caller} {s first : List ℕ} {whole : Ran} {command at place just 
           let q : place + answerSize a ≡ 32 + length (g .written ++ refusedBlock) =
           ap (λ (x : Answer). place + answerSize x) f ∙ (let l = length-append (g .written) refusedBlock in omega arith) in
           record {
-            status-is = ap statusAfter f ∙ sym (ap (λ (x : Ran). x .status) w);
+            forms-is = ap formsAfter f ∙ sym (ap (λ (x : Ran). x .forms) w);
             holder-is = ap holderLeft f ∙ sym (ap (λ (x : Ran). x .holder) w);
             tables-are = tables-left ∙ ap (λ (x : Given). tablesAfter x t) r ∙ sym (ap (λ (x : Ran). x .tables) w);
             memory-is = memory-left ∙ ap (λ (x : Given). memoryAfter x memory) r ∙ sym (ap (λ (x : Ran). x .memory) w);
@@ -315,12 +315,12 @@ module _ {c : Caller} {s first : List ℕ} {whole : Ran} {command at place just 
       end-kind (was-done k) stop =
           let d : perform c t memory (bodyMeant just (b .body)) (areaOf s b) (dataOf s b) ≡ done t′ memory′ (k .said) = meaning ∙ k .given t′ in
           let last : here .behind ≡ [] = here .ends (sym (k .next-is (b .next)) ∙ stop) in
-          let w : whole ≡ record { status = status 0 0; holder = Nobody; tables = t′; memory = memory′; blocks = g .written ++ block t′ memory′ (k .said) d } =
+          let w : whole ≡ record { forms = success; holder = Nobody; tables = t′; memory = memory′; blocks = g .written ++ block t′ memory′ (k .said) d } =
           done-whole t′ memory′ (k .said) d
           ∙ ap (λ (bs : List Block). after (g .written ++ block t′ memory′ (k .said) d) (run c s (openedBy (k .said)) bs (place + replySize (k .said)) t′ memory′)) last
-          ∙ ap (λ (x : List ℕ). record { status = status 0 0; holder = Nobody; tables = t′; memory = memory′; blocks = x }) (append-nil (g .written ++ block t′ memory′ (k .said) d)) in
+          ∙ ap (λ (x : List ℕ). record { forms = success; holder = Nobody; tables = t′; memory = memory′; blocks = x }) (append-nil (g .written ++ block t′ memory′ (k .said) d)) in
           record {
-            status-is = k .status-is ∙ sym (ap (λ (x : Ran). x .status) w);
+            forms-is = k .forms-is ∙ sym (ap (λ (x : Ran). x .forms) w);
             holder-is = k .nobody ∙ sym (ap (λ (x : Ran). x .holder) w);
             tables-are = sym (ap (λ (x : Ran). x .tables) w);
             memory-is = sym (ap (λ (x : Ran). x .memory) w);
@@ -351,7 +351,7 @@ module _ {c : Caller} {s first : List ℕ} {whole : Ran} {command at place just 
           }
 
       -- the chain ends here, with its last block or a refused one
-      pub turn-end : goesOn a (b .next) ≡ End → Finished first whole (statusAfter a) (holderLeft a) (place + answerSize a) t′ memory′ room′
+      pub turn-end : goesOn a (b .next) ≡ End → Finished first whole (formsAfter a) (holderLeft a) (place + answerSize a) t′ memory′ room′
       turn-end = end-kind (kind a memory′ within size)
 
       -- it goes on with the next block

@@ -3,24 +3,24 @@ use Prim.Native.Nat.{ℕ}
 use Rattle.chain.specs.declared.block.Next.{Next}
 use Rattle.chain.specs.declared.block.Next.the-variants.{End}
 use Rattle.message.specs.JustOpened.{NOBODY}
-use Rattle.message.specs.Refusal.{status, statusOf, holderOf}
-use Rattle.message.specs.declared.refusal.Status.{Status}
+use Rattle.message.specs.Refusal.{success, formsOf, holderOf}
+use Rattle.message.specs.declared.refusal.Forms.{Forms}
 use Rattle.message.specs.declared.refusal.HeldBy.{HeldBy}
 use Rattle.message.specs.declared.refusal.HeldBy.the-variants.{Nobody}
 use Rattle.message.specs.declared.answer.Answer.{Answer}
 use Rattle.message.specs.declared.answer.Answer.the-variants.{Refused, Locked, LoggedOff, Read, Wrote, Plain, CoreRead, CoreWrote, Opened}
 
--- the status that an answer leaves in the header, if it is the last
-unfoldable pub statusAfter : Answer → Status
-statusAfter (Refused why) = statusOf why
-statusAfter Locked = status 0 0
-statusAfter LoggedOff = status 0 0
-statusAfter (Read place count) = status 0 0
-statusAfter (Wrote count) = status 0 0
-statusAfter Plain = status 0 0
-statusAfter (CoreRead place count) = status 0 0
-statusAfter (CoreWrote count) = status 0 0
-statusAfter (Opened fid size access results) = status 0 0
+-- the status in both forms that an answer leaves for the header, if it is the last
+unfoldable pub formsAfter : Answer → Forms
+formsAfter (Refused why) = formsOf why
+formsAfter Locked = success
+formsAfter LoggedOff = success
+formsAfter (Read place count) = success
+formsAfter (Wrote count) = success
+formsAfter Plain = success
+formsAfter (CoreRead place count) = success
+formsAfter (CoreWrote count) = success
+formsAfter (Opened fid size access results) = success
 
 -- the holder that it names, if it is the last
 unfoldable pub holderLeft : Answer → HeldBy

@@ -25,9 +25,9 @@ use Rattle.invariants.specs.BlockParse.{parse-complete}
 use Rattle.invariants.specs.Chained.{Chained, chained-end, chained-more, read-chained}
 use Rattle.message.specs.declared.caller.Caller.{Caller}
 use Rattle.message.specs.Caller.{callerOf}
-use Rattle.message.specs.Refusal.{statusOf}
+use Rattle.message.specs.Refusal.{formsOf}
 use Rattle.message.specs.declared.refusal.Refusal.the-variants.{NotServed, NotSentence}
-use Rattle.message.specs.declared.refusal.Status.{Status}
+use Rattle.message.specs.declared.refusal.Forms.{Forms}
 use Rattle.message.specs.declared.refusal.HeldBy.{HeldBy}
 use Rattle.message.specs.declared.refusal.HeldBy.the-variants.{Nobody}
 use Rattle.message.specs.Reply.{replyHeader, refusedBlock}
@@ -45,7 +45,7 @@ use Rattle.message.specs.declared.link.Link.{Link}
 use Rattle.tables.specs.Words.{inUseFit}
 use Rattle.reply.specs.Links.{linkFor}
 use Rattle.reply.specs.BlockLaws.{length-of-block}
-use Rattle.server.specs.Step.{statusAfter, holderLeft, goesOn, justOpened}
+use Rattle.server.specs.Step.{formsAfter, holderLeft, goesOn, justOpened}
 use Rattle.server.specs.Going.{Going, going-start, going-length, here, turn-fits, turn-end, turn-more, Finished}
 
 -- a chain's first block is there
@@ -121,7 +121,7 @@ module _ {c : Caller} {s first : List ℕ} {t₀ : Tables} {memory₀ : List ℕ
         room-enough = let a = u .most in let d = u .enough in omega arith
 
         pub turn-ends : goesOn (p .answer) (b .next) ≡ End
-            → Finished first (wholeRun c s first t₀ memory₀) (statusAfter (p .answer)) (holderLeft (p .answer)) (place + answerSize (p .answer)) (p .tables) memory′ room′
+            → Finished first (wholeRun c s first t₀ memory₀) (formsAfter (p .answer)) (holderLeft (p .answer)) (place + answerSize (p .answer)) (p .tables) memory′ room′
         turn-ends stop = turn-end (u .going) b e (p .answer) (p .tables) memory′ (g .meaning) (g .tables-left) (g .memory-left) (g .within) size room′ room-enough laid stop
 
         pub turn-goes : (command′ at′ : ℕ) → goesOn (p .answer) (b .next) ≡ Follow command′ at′
@@ -155,23 +155,23 @@ block-laid room e memory place a link n size s l h i m fits =
     ∙ ap (λ (x : Link). put room place (blockOf a memory place x)) (l ∙ ap (λ (x : ℕ). linkFor n (place + x)) s)
 
 -- a message refused as a whole
-pub refused-finished : (room : List ℕ) (why : Status) (t : Tables) (memory : List ℕ) → Finished room (onlyStatus why t memory) why Nobody 35 t memory (put room 32 refusedBlock)
+pub refused-finished : (room : List ℕ) (why : Forms) (t : Tables) (memory : List ℕ) → Finished room (onlyStatus why t memory) why Nobody 35 t memory (put room 32 refusedBlock)
 unfolding onlyStatus refusedBlock
-refused-finished room why t memory = record { status-is = refl; holder-is = refl; tables-are = refl; memory-is = refl; room-is = refl; place-is = refl }
+refused-finished room why t memory = record { forms-is = refl; holder-is = refl; tables-are = refl; memory-is = refl; room-is = refl; place-is = refl }
 
 -- the header before the blocks completes the reply
-pub finish : (s room : List ℕ) (whole : Ran) (why : Status) (who : HeldBy) (place : ℕ) (t : Tables) (memory before after : List ℕ) → Finished room whole why who place t memory before
+pub finish : (s room : List ℕ) (whole : Ran) (why : Forms) (who : HeldBy) (place : ℕ) (t : Tables) (memory before after : List ℕ) → Finished room whole why who place t memory before
     → after ≡ put before 0 (replyHeader s why) → 32 ≤ length s → 32 + length (whole .blocks) ≤ length room
     → _≡_ {A = Taken} (record { number = 0; length = place; holder = who; tables = t; memory = memory; room = after }) (replied s room whole)
 unfolding replied replyOf
 finish s room whole why who place t memory before after f e long enough =
-    let h : length (replyHeader s (whole .status)) ≡ 32 = length-header s (whole .status) long in
-    let n : place ≡ length (replyHeader s (whole .status) ++ whole .blocks) = f .place-is ∙ rw (length-append, h) in
-    let r : after ≡ put room 0 (replyHeader s (whole .status) ++ whole .blocks) =
+    let h : length (replyHeader s (whole .forms)) ≡ 32 = length-header s (whole .forms) long in
+    let n : place ≡ length (replyHeader s (whole .forms) ++ whole .blocks) = f .place-is ∙ rw (length-append, h) in
+    let r : after ≡ put room 0 (replyHeader s (whole .forms) ++ whole .blocks) =
     e
     ∙ ap (λ (x : List ℕ). put x 0 (replyHeader s why)) (f .room-is)
-    ∙ ap (λ (x : Status). put (put room 32 (whole .blocks)) 0 (replyHeader s x)) (f .status-is)
-    ∙ put-before room (replyHeader s (whole .status)) (whole .blocks) 32 h enough in
+    ∙ ap (λ (x : Forms). put (put room 32 (whole .blocks)) 0 (replyHeader s x)) (f .forms-is)
+    ∙ put-before room (replyHeader s (whole .forms)) (whole .blocks) 32 h enough in
     rw (n, r, f .holder-is, f .tables-are, f .memory-is)
 
 -- ---- the three ways a message fit to be answered is answered
@@ -184,17 +184,17 @@ served-named command =
     (λ u. rw (u .no-locking, u .no-read, u .no-write, u .no-close, u .no-logoff, u .no-tree-disconnect, u .no-process-exit, u .no-core-read, u .no-core-write, u .no-lock-byte-range, u .no-unlock-byte-range, u .no-open))
 
 pub answered-not-served : (connection : ℕ) (s : List ℕ) (t : Tables) (memory : List ℕ) → served (headerCommand s) ≡ false
-    → answered connection s t memory ≡ onlyStatus (statusOf NotServed) t memory
+    → answered connection s t memory ≡ onlyStatus (formsOf NotServed) t memory
 unfolding answered
 answered-not-served connection s t memory e = rw e
 
-none-of : (c : Caller) (s : List ℕ) (o : Option (List Block)) (t : Tables) (memory : List ℕ) → readable o ≡ false → runChain c s o t memory ≡ onlyStatus (statusOf NotSentence) t memory
+none-of : (c : Caller) (s : List ℕ) (o : Option (List Block)) (t : Tables) (memory : List ℕ) → readable o ≡ false → runChain c s o t memory ≡ onlyStatus (formsOf NotSentence) t memory
 unfolding runChain readable
 none-of c s none t memory e = refl
 none-of c s (some bs) t memory e = absurd (false≢true (sym e))
 
 pub answered-none : (connection : ℕ) (s : List ℕ) (t : Tables) (memory : List ℕ) → served (headerCommand s) ≡ true → readable (blocksFrom s (headerCommand s) FIRST) ≡ false
-    → answered connection s t memory ≡ onlyStatus (statusOf NotSentence) t memory
+    → answered connection s t memory ≡ onlyStatus (formsOf NotSentence) t memory
 unfolding answered blocks
 answered-none connection s t memory e j = rw e (none-of (callerOf connection s) s (blocks s) t memory j)
 

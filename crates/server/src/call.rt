@@ -21,7 +21,7 @@ use message::caller::Caller;
 use message::link::Link;
 use message::refusal::HeldBy;
 use message::refusal::Refusal;
-use message::refusal::status_of;
+use message::refusal::forms_of;
 use reply::block::write_block;
 use reply::header::write_header;
 use soundness::whole::is_sound;
@@ -31,7 +31,7 @@ ghost use Rattle.message.specs.Caller.{callerOf};
 ghost use Prim.Native.Nat.{_≤_};
 ghost use lib.ListN.{length};
 ghost use Rattle.records.specs.declared.Tables.{Tables};
-ghost use Rattle.message.specs.Refusal.{statusOf};
+ghost use Rattle.message.specs.Refusal.{formsOf};
 ghost use Rattle.message.specs.Message.{onlyStatus, answered, replied};
 ghost use Rattle.invariants.specs.Sound.{Good};
 ghost use Rattle.tables.specs.Words.{tablesOf, inUseFit};
@@ -83,7 +83,7 @@ fn refuse_message(s: &[u8], why: Refusal, memory: &[u8], room: &mut [u8]) -> Tak
     requires { ⌜ 35 ≤ length (now s) ⌝ }
     requires { ⌜ length (now memory) ≡ 65536 ⌝ }
     requires { ⌜ 12292 ≤ length (now room) ⌝ }
-    ensures { λ r. ⌜ ((t : Tables) → takenOf r t (now (memory .entry)) (now (room .exit)) ≡ replied (now (s .entry)) (now (room .entry)) (onlyStatus (statusOf why) t (now (memory .entry)))) ⌝ }
+    ensures { λ r. ⌜ ((t : Tables) → takenOf r t (now (memory .entry)) (now (room .exit)) ≡ replied (now (s .entry)) (now (room .entry)) (onlyStatus (formsOf why) t (now (memory .entry)))) ⌝ }
 {
     write_block(
         Answer::Refused(why),
@@ -92,7 +92,7 @@ fn refuse_message(s: &[u8], why: Refusal, memory: &[u8], room: &mut [u8]) -> Tak
         memory,
         &mut room[FIRST..],
     );
-    write_header(s, status_of(why), room);
+    write_header(s, forms_of(why), room);
     Taken {
         number: DONE,
         length: SHORTEST,
@@ -125,7 +125,7 @@ fn answer_message(
         return refuse_message(s, Refusal::NotSentence, memory, room);
     }
     let ended = run_chain(caller_of(connection, s), s, words, memory, room);
-    write_header(s, ended.status, room);
+    write_header(s, ended.forms, room);
     let holder = ended.holder;
     Taken {
         number: DONE,

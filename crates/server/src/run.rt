@@ -1,18 +1,18 @@
 // The commands of a chain, carried out one after the other.
 
 use crate::step::NOBODY;
+use crate::step::forms_after;
 use crate::step::goes_on;
 use crate::step::holder_left;
 use crate::step::opened_by;
-use crate::step::status_after;
 use chain::block::Next;
 use chain::header::COMMAND;
 use chain::header::FIRST;
 use chain::parse::fields_at;
 use message::answer::Answer;
 use message::caller::Caller;
+use message::refusal::Forms;
 use message::refusal::HeldBy;
-use message::refusal::Status;
 use reply::block::block_size;
 use reply::block::link_to;
 use reply::block::write_block;
@@ -31,9 +31,9 @@ ghost use Rattle.tables.specs.Words.{tablesOf, inUseFit};
 ghost use Rattle.reply.specs.Links.{linkFor};
 ghost use Rattle.server.specs.Going.{Finished};
 
-// How a chain ended: the status for the header, the holder that its refused command names, and where the reply ends.
+// How a chain ended: the status for the header in both forms, the holder that its refused command names, and where the reply ends.
 pub(crate) struct Ended {
-    pub status: Status,
+    pub forms: Forms,
     pub holder: HeldBy,
     pub length: usize,
 }
@@ -75,7 +75,7 @@ pub(crate) fn run_chain(
     requires { ⌜ length (now s) ≤ 8192 ⌝ }
     requires { ⌜ 12292 ≤ length (now room) ⌝ }
     requires { ⌜ readable (blocks (now s)) ≡ true ⌝ }
-    ensures { λ r. ⌜ Finished (now (room .entry)) (runChain c (now (s .entry)) (blocks (now (s .entry))) (tablesOf (now (words .entry))) (now (memory .entry))) (r .status) (r .holder) (r .length) (tablesOf (now (words .exit))) (now (memory .exit)) (now (room .exit)) ⌝ }
+    ensures { λ r. ⌜ Finished (now (room .entry)) (runChain c (now (s .entry)) (blocks (now (s .entry))) (tablesOf (now (words .entry))) (now (memory .entry))) (r .forms) (r .holder) (r .length) (tablesOf (now (words .exit))) (now (memory .exit)) (now (room .exit)) ⌝ }
     ensures { λ _. ⌜ (inUseFit (now (words .entry)) ≡ true → inUseFit (now (words .exit)) ≡ true) ⌝ }
 {
     let mut command = wire::byte_at(s, COMMAND);
@@ -89,7 +89,7 @@ pub(crate) fn run_chain(
         place = add_block(answer, next, place, memory, room);
         let Next::Follow(then, from) = goes_on(answer, next) else {
             return Ended {
-                status: status_after(answer),
+                forms: forms_after(answer),
                 holder: holder_left(answer),
                 length: place,
             };

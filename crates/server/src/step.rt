@@ -2,20 +2,21 @@
 
 use chain::block::Next;
 use message::answer::Answer;
+use message::refusal::Forms;
 use message::refusal::HeldBy;
-use message::refusal::Status;
+use message::refusal::both_forms;
+use message::refusal::forms_of;
 use message::refusal::holder_of;
-use message::refusal::status_of;
 ghost use mathlib.Core.Path.{_≡_};
-ghost use Rattle.server.specs.Step.{statusAfter, holderLeft, goesOn, justOpened};
+ghost use Rattle.server.specs.Step.{formsAfter, holderLeft, goesOn, justOpened};
 
-// The status that an answer leaves in the header, if it is the last: 0/0 unless it is a refusal.
-pub(crate) fn status_after(a: Answer) -> Status
-    ensures { λ r. ⌜ r ≡ statusAfter a ⌝ }
+// The status, in both forms, that an answer leaves for the header, if it is the last: 0/0 and 0 unless it is a refusal.
+pub(crate) fn forms_after(a: Answer) -> Forms
+    ensures { λ r. ⌜ r ≡ formsAfter a ⌝ }
 {
     match a {
-        Answer::Refused(why) => status_of(why),
-        _ => Status { class: 0, code: 0 },
+        Answer::Refused(why) => forms_of(why),
+        _ => both_forms(0, 0, 0),
     }
 }
 

@@ -107,7 +107,7 @@ returns-3 c =
     let g = run-fits (callerOf (args .connection) (args .s .now)) (args .s .now) (tablesOf (args .words .now)) (args .memory .now) (pre .1 .0) (pre .1 .1 .1 .0) in
     let long : 35 ≤ length (args .s .now) = pre .1 .1 .0 in
     let enough : 12292 ≤ length (args .room .now) = pre .1 .1 .1 .1 .1 in (
-      finish (args .s .now) (args .room .now) (runChain (callerOf (args .connection) (args .s .now)) (args .s .now) (blocks (args .s .now)) (tablesOf (args .words .now)) (args .memory .now)) (run-chain .result .status) (run-chain .result .holder) (run-chain .result .length) (tablesOf (run-chain .last .1 .1 .0)) (run-chain .last .1 .1 .1 .0) (run-chain .last .1 .1 .1 .1 .0) (write-header .last .1 .1 .0) f
+      finish (args .s .now) (args .room .now) (runChain (callerOf (args .connection) (args .s .now)) (args .s .now) (blocks (args .s .now)) (tablesOf (args .words .now)) (args .memory .now)) (run-chain .result .forms) (run-chain .result .holder) (run-chain .result .length) (tablesOf (run-chain .last .1 .1 .0)) (run-chain .last .1 .1 .1 .0) (run-chain .last .1 .1 .1 .1 .0) (write-header .last .1 .1 .0) f
           (write-header .ensures) (omega arith) (omega arith)
           ∙ ap (replied (args .s .now) (args .room .now)) (sym (answered-run (args .connection) (args .s .now) (tablesOf (args .words .now)) (args .memory .now) (sym (is-served .ensures ∙ served-named (byte-at .result) ∙ ap served (byte-at .ensures)) ∙ not-false (is-served .result) (if1 .left)))),
       run-chain .ensures .1,

@@ -10,9 +10,9 @@ use native.Mathlib.Omega.{arith}
 use lib.ListN.{length, length-take, length-drop}
 use Rattle.lists.specs.Put.{put}
 use Rattle.lists.specs.PutLaws.{put-part}
-use Rattle.message.specs.declared.refusal.Status.{Status}
+use Rattle.message.specs.declared.refusal.Forms.{Forms}
 use Rattle.message.specs.declared.refusal.HeldBy.the-variants.{Nobody}
-use Rattle.message.specs.Refusal.{statusOf}
+use Rattle.message.specs.Refusal.{formsOf}
 use Rattle.message.specs.Reply.{replyHeader, refusedBlock}
 use Rattle.message.specs.Given.{inside, blockOf, answerSize}
 use Rattle.message.specs.Message.{onlyStatus}
@@ -35,8 +35,8 @@ write-block-requires c κs =
     let enough : 12292 ≤ length (c .before .before .before .before .args .room .now) = pre .1 .1 in
     (pre .1 .0, (refl, (rw (length-take, length-drop) (omega arith), omega arith)))
 
-status-of-requires : tie.Need-status-of-requires
-status-of-requires c κs = search needs
+forms-of-requires : tie.Need-forms-of-requires
+forms-of-requires c κs = search needs
 
 write-header-requires : tie.Need-write-header-requires
 write-header-requires c κs = search needs
@@ -51,15 +51,15 @@ returns c =
     let pre = c .before .before .before .before .before .before .before .before .before .before .before .before .pre in
     let args = c .before .before .before .before .before .before .before .before .before .before .before .before .args in
     let write-block = c .before .before .before .before .before .before .before .write-block in
-    let status-of = c .before .before .before .before .status-of in
+    let forms-of = c .before .before .before .before .forms-of in
     let write-header = c .before .before .write-header in
     let long : 35 ≤ length (args .s .now) = pre .0 in
     let enough : 12292 ≤ length (args .room .now) = pre .1 .1 in
-    finish (args .s .now) (args .room .now) (onlyStatus (statusOf (args .why)) t (args .memory .now)) (statusOf (args .why)) Nobody 35 t (args .memory .now) (put (args .room .now) 32 refusedBlock) (write-header .last .1 .1 .0) (refused-finished (args .room .now) (statusOf (args .why)) t (args .memory .now))
+    finish (args .s .now) (args .room .now) (onlyStatus (formsOf (args .why)) t (args .memory .now)) (formsOf (args .why)) Nobody 35 t (args .memory .now) (put (args .room .now) 32 refusedBlock) (write-header .last .1 .1 .0) (refused-finished (args .room .now) (formsOf (args .why)) t (args .memory .now))
     (write-header .ensures
-    ∙ ap (λ (x : List ℕ). put x 0 (replyHeader (args .s .now) (status-of .result)))
+    ∙ ap (λ (x : List ℕ). put x 0 (replyHeader (args .s .now) (forms-of .result)))
     (put-part (args .room .now) refusedBlock (write-block .last .1 .1 .1 .1 .0) 32 (length (args .room .now)) (omega arith) (omega arith) (write-block .ensures))
-    ∙ ap (λ (x : Status). put (put (args .room .now) 32 refusedBlock) 0 (replyHeader (args .s .now) x)) (status-of .ensures))
+    ∙ ap (λ (x : Forms). put (put (args .room .now) 32 refusedBlock) 0 (replyHeader (args .s .now) x)) (forms-of .ensures))
     (omega arith) (omega arith)
 
 pub refuse-message-spec : {M : Type 1} → statement M
@@ -70,7 +70,7 @@ refuse-message-spec =
     part-write-block-start
     part-write-block-end
     write-block-requires
-    status-of-requires
+    forms-of-requires
     write-header-requires
     same-length
     returns)

@@ -57,8 +57,8 @@ enum-known-then c = search needs
 enum-told : tie.Need-enum-told Inv-loop μ-loop
 enum-told c = search needs
 
-status-after-requires : tie.Need-status-after-requires Inv-loop μ-loop
-status-after-requires c κs = search needs
+forms-after-requires : tie.Need-forms-after-requires Inv-loop μ-loop
+forms-after-requires c κs = search needs
 
 holder-left-requires : tie.Need-holder-left-requires Inv-loop μ-loop
 holder-left-requires c κs = search needs
@@ -79,7 +79,7 @@ returns c =
     let done = c .before .before .before .before .before .before .before .before .before .before .before .before .before .before .perform-block in
     let size = done .kept .1 .1 .1 .1 .1 .0 ∙ inv .0 .going .memory-size in
     let add-block = c .before .before .before .before .before .before .before .add-block in (
-      rw (c .before .status-after .ensures, c .holder-left .ensures, add-block .ensures .0) (turn-ends (inv .0) (block .result) (sym (block .ensures)) (performed (done .result) (tablesOf (done .last .1 .0))) (done .last .1 .1 .1 .1 .1 .0) (done .ensures .0) size (add-block .last .1 .1 .1 .1 .0) (add-block .ensures .1) (sym (c .before .before .before .before .goes-on .ensures) ∙ c .before .before .enum-told .given .1)),
+      rw (c .before .forms-after .ensures, c .holder-left .ensures, add-block .ensures .0) (turn-ends (inv .0) (block .result) (sym (block .ensures)) (performed (done .result) (tablesOf (done .last .1 .0))) (done .last .1 .1 .1 .1 .1 .0) (done .ensures .0) size (add-block .last .1 .1 .1 .1 .0) (add-block .ensures .1) (sym (c .before .before .before .before .goes-on .ensures) ∙ c .before .before .enum-told .given .1)),
       λ f. done .ensures .1 (inv .1 .fit f),
     )
 
@@ -118,7 +118,7 @@ run-chain-spec =
     goes-on-requires
     enum-known-then
     enum-told
-    status-after-requires
+    forms-after-requires
     holder-left-requires
     same-length
     same-length-2
