@@ -22,7 +22,7 @@ use Rattle.records.specs.declared.Tables.{Tables}
 use Rattle.records.specs.Empty.{noFile}
 use Rattle.soundness.specs.File.{fileOf}
 use Rattle.soundness.specs.Lookup.{isTree}
-use Rattle.message.specs.Refusal.{status, statusOf}
+use Rattle.message.specs.Refusal.{status, formsOf, statusOf}
 use Rattle.message.specs.declared.refusal.Status.{Status}
 use Rattle.message.specs.Command.{Given, refused, done, isSession, withSession, withTree, isOpen, openAt, withOpen, lockingEnd, lockingAfter, askBy, unlessBarred, barring, endsPast, doWrite}
 
@@ -111,5 +111,5 @@ table =
 
 -- what the definitions give is what the document says, in every row
 pub cases : map (λ c. c .given) table ≡ map (λ c. c .said) table
-unfolding table message reading blocks blocksFrom blocksWithin afterParse afterBlock before parse parseLocking parseRead answer lockingFits readFits linkFits linkAt mayFollow shaped bare isLarge le16At rangeSize asking range held status statusOf settle stored request afterReleases afterGrants grantAll afterWalk releaseAll afterFind removeAt rangePasses askOf lockOf answers answersFor inWay bars named owns overlaps passesEnd any found foundFrom statusIn lockingAfter lockingEnd writing oneTerminal doWrite withOpen withTree withSession isSession isTree isOpen openAt unlessBarred barring askBy endsPast fileOf
+unfolding table message reading blocks blocksFrom blocksWithin afterParse afterBlock before parse parseLocking parseRead answer lockingFits readFits linkFits linkAt mayFollow shaped bare isLarge le16At rangeSize asking range held status formsOf settle stored request afterReleases afterGrants grantAll afterWalk releaseAll afterFind removeAt rangePasses askOf lockOf answers answersFor inWay bars named owns overlaps passesEnd any found foundFrom statusIn lockingAfter lockingEnd writing oneTerminal doWrite withOpen withTree withSession isSession isTree isOpen openAt unlessBarred barring askBy endsPast fileOf
 cases = refl

@@ -15,5 +15,6 @@ pub mod StreamStates
 pub mod StreamReasons
 pub mod StreamBack
 pub mod StreamCases
+pub mod StatusList
 pub mod YesOrNo
 pub mod BeforeHolder

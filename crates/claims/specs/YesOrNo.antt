@@ -1,13 +1,14 @@
--- What a message gives without CR 2 of document 02, where a conflict is yes or no, as in document 01: no holder, no place. What CR 2 moved is restated
--- here, all else is cited. Assumes nothing.
-use Prim.Native.Nat.{ℕ, _+_, _*_}
+-- What a message gives without CR 2 and CR 7 of document 02, where a conflict is yes or no, as in document 01: no holder, no place; and Status has one form. What they moved
+-- is restated here, all else is cited, the class and code of the other refusals too (literals/specs/Codes.antt has them spelled). Assumes nothing.
+use Prim.Native.Nat.{ℕ, _+_, _*_, _/_, _%_}
 use mathlib.Core.Bool.{Bool, cond, not, _||_}
 use mathlib.Core.List.{List, [], _∷_, _++_}
 use mathlib.Core.Option.{Option, none, some}
-use lib.ListN.{length, drop, getD}
+use lib.ListN.{length, take, drop, getD, replicate}
 use lib.Dec.{leb, ltb, eqb}
 use Rattle.lists.specs.Walk.{any, found}
 use Rattle.lists.specs.Put.{put}
+use Rattle.wire.specs.LittleEndian.{byteAt}
 use Rattle.lists.specs.declared.Found.{Found}
 use Rattle.lists.specs.declared.Found.the-variants.{At, Nothing}
 use Rattle.records.specs.declared.Lock.{Lock}
@@ -42,7 +43,7 @@ use Rattle.message.specs.declared.refusal.Status.{Status}
 use Rattle.message.specs.Command.{Said, locked, read, wrote, plain, coreWrote, Given, refused, done, isOpen, withOpen, servedType, requestOf, askBy, endsPast, coreSaid, rangeBy, oneRange, betweenSizes, perform}
 use Rattle.message.specs.JustOpened.{NOBODY, openedBy, bodyMeant}
 use Rattle.message.specs.Message.{areaOf, dataOf, linkTo, served}
-use Rattle.message.specs.Reply.{replyHeader, replyBlock, refusedBlock, replySize}
+use Rattle.message.specs.Reply.{two, replyBlock, refusedBlock, replySize}
 
 -- a command refused with a Status, or done: the tables and the file memory it leaves, and what it says
 pub data Gave : Type 0 where
@@ -205,9 +206,18 @@ pub record TakenBefore : Type 0 where
 unfoldable pub untaken : ℕ → Tables → List ℕ → List ℕ → TakenBefore
 untaken number t memory room = record { number = number; length = 0; tables = t; memory = memory; room = room }
 
+-- document 01: "A reply copies Command, PIDHigh, TID, PIDLow, UID and MID; Flags is 0x80 plus the request's 0x08; Flags2 keeps only 0x0001; the rest is 0 but for Status."
+-- "SMBSTATUS is class, 0, code."
+unfoldable pub header01 : List ℕ → Status → List ℕ
+header01 s status =
+    (0xFF ∷ 0x53 ∷ 0x4D ∷ 0x42 ∷ byteAt s 4 ∷ status .class ∷ 0 ∷ [])
+    ++ (two (status .code)
+    ++ (((128 + byteAt s 9 / 8 % 2 * 8) ∷ byteAt s 10 % 2 ∷ 0 ∷ byteAt s 12 ∷ byteAt s 13 ∷ [])
+    ++ (replicate 10 0 ++ take 8 (drop 24 s))))
+
 unfoldable pub repliedBefore : List ℕ → List ℕ → RanBefore → TakenBefore
 repliedBefore s room r =
-    let reply = replyHeader s (r .status) ++ r .blocks in
+    let reply = header01 s (r .status) ++ r .blocks in
     record { number = 0; length = length reply; tables = r .tables; memory = r .memory; room = put room 0 reply }
 
 -- 2 "reply room under 12,292 bytes, or file memory not 65,536", 4 "tables not sound", 1 "message dropped": "A refusal of this table writes nothing at all."
