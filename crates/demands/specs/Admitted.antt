@@ -26,7 +26,7 @@ use Rattle.invariants.specs.SoundParts.{sound-says}
 use Rattle.claims.specs.HostReasons.{HasTree, has-tree, tree-found, tree-missing}
 use Rattle.claims.specs.Cases.{statusIn}
 use Rattle.message.specs.declared.caller.Caller.{Caller}
-use Rattle.message.specs.Refusal.{status, statusOf}
+use Rattle.message.specs.Refusal.{status, formsOf}
 use Rattle.message.specs.declared.refusal.Status.{Status}
 use Rattle.message.specs.declared.refusal.Refusal.the-variants.{NoTree}
 use Rattle.message.specs.Command.{Given, refused, isSession, withSession, withTree, isOpen, openAt, withOpen}
@@ -177,16 +177,16 @@ module _ (c : Caller) (t : Tables) where
 
   -- or one of them is not
   pub session-given : {n : Status} (next : Given) → NoSessionFor c t n → statusIn (withSession c t next) ≡ n
-  unfolding withSession statusIn statusOf
+  unfolding withSession statusIn formsOf
   session-given next (no-session h) = rw (nowhere-session h)
 
   pub tree-given : {n : Status} (next : Given) → NoTreeFor c t n → statusIn (withTree c t next) ≡ n
-  unfolding withTree statusIn statusOf
+  unfolding withTree statusIn formsOf
   tree-given next (before-tree h) = session-given (cond (any (isTree (c .tid) (c .uid)) (treesOf t)) next (refused NoTree)) h
   tree-given next (no-tree s h) = rw (tree-missing t (c .tid) (c .uid) h, with-session (refused NoTree) s)
 
   pub open-given : {n : Status} (fid : ℕ) (next : Open → Given) → NoOpenFor c t fid n → statusIn (withOpen c t fid next) ≡ n
-  unfolding withOpen openAt statusIn statusOf
+  unfolding withOpen openAt statusIn formsOf
   open-given fid next (before-open h) = tree-given (openAt (found (isOpen c fid) (opensOf t)) (opensOf t) next) h
   open-given fid next (no-open s r h) =
       rw (with-tree (openAt (found (isOpen c fid) (opensOf t)) (opensOf t) next) s r, nowhere-open fid (found (isOpen c fid) (opensOf t)) refl h)

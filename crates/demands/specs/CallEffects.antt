@@ -27,7 +27,7 @@ use Rattle.invariants.specs.BlockParse.{blockAt}
 use Rattle.invariants.specs.Chained.{Chained, chained-end, read-chained}
 use Rattle.message.specs.Caller.{callerOf}
 use Rattle.message.specs.declared.caller.Caller.{Caller}
-use Rattle.message.specs.Refusal.{status}
+use Rattle.message.specs.Refusal.{status, success}
 use Rattle.message.specs.declared.link.Link.the-variants.{None as noLink}
 use Rattle.message.specs.Contents.{sizeOf, readBytes}
 use Rattle.message.specs.Command.{Said, read, wrote, plain, loggedOff, coreRead, coreWrote, Given, done, doRead, doWrite, asCore, doSetSize, doCoreWrite, perform}
@@ -36,7 +36,7 @@ use Rattle.message.specs.Reply.{replyHeader, replyBlock, replySize}
 use Rattle.message.specs.Message.{areaOf, dataOf, Taken, take-message}
 use Rattle.invariants.specs.Sound.{Good, size-most}
 use Rattle.invariants.specs.Fit.{Fit, take-message-good}
-use Rattle.demands.specs.Calls.{statusRead}
+use Rattle.demands.specs.StatusRead.{statusRead}
 use Rattle.invariants.specs.JustOpenedLaws.{meant-nobody}
 use Rattle.demands.specs.RefusedCall.{gives, Untouched}
 use Rattle.demands.specs.Admitted.{Admitted}
@@ -165,7 +165,7 @@ module _ (connection : ℕ) (s : List ℕ) (b : Block) (e : blocks s ≡ some (b
   write-count-call f is =
       let o = write-open f is in
       let w = write-says caller t memory (fit .memory-whole) g f (dataOf s b) (o .0) (o .1) (write-given f is) in
-      let r : call .room ≡ put room 0 (replyHeader s (status 0 0) ++ replyBlock (wrote (f .count)) FIRST noLink) = rw w at (the-command .reply) in
+      let r : call .room ≡ put room 0 (replyHeader s success ++ replyBlock (wrote (f .count)) FIRST noLink) = rw w at (the-command .reply) in
       rw r (write-count s long room (f .count) (few-written f (dataOf s b) (counted f is) (write-call f is)))
 
   -- ---- READ
@@ -187,7 +187,7 @@ module _ (connection : ℕ) (s : List ℕ) (b : Block) (e : blocks s ≡ some (b
       let bytes = readBytes t memory (o .0 .file) (f .offset) (f .max) in
       let d : doRead caller t memory f ≡ done (call .tables) (call .memory) (read bytes) = rw (l .2) at (read-given f is) in
       let y = read-yields caller t memory (fit .memory-whole) g f (o .0) (o .1) bytes d in
-      let r : call .room ≡ put room 0 (replyHeader s (status 0 0) ++ replyBlock (read bytes) FIRST noLink) = rw (l .2) at (the-command .reply) in
+      let r : call .room ≡ put room 0 (replyHeader s success ++ replyBlock (read bytes) FIRST noLink) = rw (l .2) at (the-command .reply) in
       let ends : call .length ≡ 32 + (27 + length bytes) = rw (l .2) at (the-command .reply-length) in
       let most : sizeOf t (o .0 .file) ≤ 4096 = size-most t (o .0 .file) (sound-says t (g .sound)) in
       let n : length bytes ≡ min (f .max) (sizeOf t (o .0 .file) - f .offset) = y .so-many in
@@ -219,7 +219,7 @@ module _ (connection : ℕ) (s : List ℕ) (b : Block) (e : blocks s ≡ some (b
       let bytes = readBytes t memory (o .0 .file) (f .offset) (f .max) in
       let d : asCore (doRead caller t memory f) ≡ done (call .tables) (call .memory) (coreRead bytes) = rw (l .2) at (core-read-given f is) in
       let y = core-read-yields caller t memory (fit .memory-whole) g f (o .0) (o .1) bytes d in
-      let r : call .room ≡ put room 0 (replyHeader s (status 0 0) ++ replyBlock (coreRead bytes) FIRST noLink) = rw (l .2) at (the-command .reply) in
+      let r : call .room ≡ put room 0 (replyHeader s success ++ replyBlock (coreRead bytes) FIRST noLink) = rw (l .2) at (the-command .reply) in
       let ends : call .length ≡ 32 + (16 + length bytes) = rw (l .2) at (the-command .reply-length) in
       let most : sizeOf t (o .0 .file) ≤ 4096 = size-most t (o .0 .file) (sound-says t (g .sound)) in
       let n : length bytes ≡ min (f .max) (sizeOf t (o .0 .file) - f .offset) = y .so-many in
@@ -267,7 +267,7 @@ module _ (connection : ℕ) (s : List ℕ) (b : Block) (e : blocks s ≡ some (b
   core-write-reply f is =
       let o = core-write-open f is in
       let w = core-write-says caller t memory (fit .memory-whole) g f (drop 3 (areaOf s b)) (o .0) (o .1) (core-write-done f is) in
-      let r : call .room ≡ put room 0 (replyHeader s (status 0 0) ++ replyBlock (coreWrote (f .count)) FIRST noLink) = rw w at (the-command .reply) in
+      let r : call .room ≡ put room 0 (replyHeader s success ++ replyBlock (coreWrote (f .count)) FIRST noLink) = rw w at (the-command .reply) in
       (rw r (core-write-block s long room (f .count) (few-written f (drop 3 (areaOf s b)) (core-filled f is) (core-write-call f is))), rw w at (the-command .reply-length))
 
   -- ---- the removals

@@ -9,7 +9,7 @@ use mathlib.Core.List.{List, map}
 use mathlib.Core.Option.{some}
 use lib.ListN.{length, length-append}
 use Rattle.lists.specs.Put.{put}
-use Rattle.wire.specs.LittleEndian.{byteAt, le16At}
+use Rattle.wire.specs.LittleEndian.{le32At}
 use Rattle.records.specs.declared.Tables.{Tables}
 use Rattle.chain.specs.Layout.{headerCommand, FIRST}
 use Rattle.chain.specs.Grammar.{Span, Reading, Sentence}
@@ -22,34 +22,32 @@ use Rattle.message.specs.Caller.{callerOf}
 use Rattle.message.specs.Refusal.{status}
 use Rattle.message.specs.declared.refusal.Status.{Status}
 use Rattle.message.specs.JustOpened.{NOBODY}
-use Rattle.message.specs.Reply.{two, replyHeader}
+use Rattle.message.specs.Reply.{statusNumber, replyHeader}
 use Rattle.message.specs.Message.{Ran, run, runChain, served, answered, replyOf, Taken, replied, take-message}
+use Rattle.claims.specs.StatusList.{answered-listed, listed-says}
+use Rattle.demands.specs.StatusRead.{statusRead, status-number-replied, status-replied}
 use Rattle.demands.specs.Malformed.{malformed}
 use Rattle.invariants.specs.ReplySize.{length-header}
 use Rattle.demands.specs.OneByOne.{chained-served}
 use Rattle.invariants.specs.Sound.{Good}
 use Rattle.invariants.specs.Fit.{Fit, fit-answered}
 use Rattle.demands.specs.Taken.{not-short}
-use Rattle.demands.specs.CallsOneByOne.{answered-small, callAll, comparedCall, calls-one-by-one}
+use Rattle.demands.specs.CallsOneByOne.{callAll, comparedCall, calls-one-by-one}
 
--- the SMBSTATUS that stands in a reply's header: class at 5, code at 7
-unfoldable pub statusRead : List ℕ → Status
-statusRead reply = status (byteAt reply 5) (le16At reply 7)
-
--- it is the status of what was answered
-status-replied : (s room : List ℕ) (r : Ran) → r .status .code < 65536 → statusRead (replied s room r .room) ≡ r .status
-unfolding statusRead replied replyOf replyHeader two put le16At status
-status-replied s room r small =
-    let e : r .status .code % 256 + 256 * (r .status .code / 256 % 256) ≡ r .status .code = omega arith in
-    ap (λ (n : ℕ). record { class = r .status .class; code = n }) e
-
--- so the call's reply has the status of what was answered
+-- the call's reply has the status of what was answered
 pub status-call : (connection : ℕ) (s : List ℕ) (t : Tables) (memory room : List ℕ) → Fit s t memory room
-    → statusRead (take-message connection s t memory room .room) ≡ answered connection s t memory .status
+    → statusRead (take-message connection s t memory room .room) ≡ answered connection s t memory .forms .status
 unfolding replied
 status-call connection s t memory room f =
     ap (λ (k : Taken). statusRead (k .room)) (fit-answered connection s t memory room f)
-    ∙ status-replied s room (answered connection s t memory) (answered-small connection s t memory)
+    ∙ status-replied s room (answered connection s t memory) (listed-says (answered-listed connection s t memory))
+
+-- and its number at 5, in the form asked for
+pub status-number-call : (connection : ℕ) (s : List ℕ) (t : Tables) (memory room : List ℕ) → Fit s t memory room
+    → le32At (take-message connection s t memory room .room) 5 ≡ statusNumber s (answered connection s t memory .forms)
+status-number-call connection s t memory room f =
+    ap (λ (k : Taken). le32At (k .room) 5) (fit-answered connection s t memory room f)
+    ∙ status-number-replied s room (answered connection s t memory) (listed-says (answered-listed connection s t memory))
 
 -- a sentence is answered by its commands in turn, and the reply's length is the header's and theirs
 module _ (connection : ℕ) (s : List ℕ) (t : Tables) (memory : List ℕ) where
@@ -61,9 +59,9 @@ module _ (connection : ℕ) (s : List ℕ) (t : Tables) (memory : List ℕ) wher
   unfolding replied replyOf
   length-call room fit =
       let m : 35 ≤ length s = not-short s (fit .not-dropped) in
-      let h : length (replyHeader s (answered connection s t memory .status)) ≡ 32 = length-header s (answered connection s t memory .status) (omega arith) in
+      let h : length (replyHeader s (answered connection s t memory .forms)) ≡ 32 = length-header s (answered connection s t memory .forms) (omega arith) in
       ap (λ (k : Taken). k .length) (fit-answered connection s t memory room fit)
-      ∙ rw (length-append (replyHeader s (answered connection s t memory .status)) (answered connection s t memory .blocks), h)
+      ∙ rw (length-append (replyHeader s (answered connection s t memory .forms)) (answered connection s t memory .blocks), h)
 
 -- "A message fit to be answered that begins with a known command is answered as malformed exactly if it is not a sentence": "Answered as malformed: 0,
 -- Status 2/1"
@@ -71,7 +69,7 @@ pub malformed-call : (connection : ℕ) (s : List ℕ) (t : Tables) (memory room
     → ((take-message connection s t memory room .number ≡ 0) × (statusRead (take-message connection s t memory room .room) ≡ status 2 1)) ↔ (Sentence s → ⊥)
 unfolding replied
 malformed-call connection s t memory room f e =
-    let same : statusRead (take-message connection s t memory room .room) ≡ answered connection s t memory .status = status-call connection s t memory room f in (
+    let same : statusRead (take-message connection s t memory room .room) ≡ answered connection s t memory .forms .status = status-call connection s t memory room f in (
       λ h. malformed connection s t memory e .0 (sym same ∙ h .1),
       λ n. (ap (λ (k : Taken). k .number) (fit-answered connection s t memory room f), same ∙ malformed connection s t memory e .1 n),
     )

@@ -18,8 +18,9 @@ use Rattle.chain.specs.Layout.{headerCommand, FIRST}
 use Rattle.chain.specs.Chain.{blocks}
 use Rattle.chain.specs.declared.block.Block.{Block}
 use Rattle.message.specs.Caller.{callerOf}
+use Rattle.message.specs.declared.refusal.Forms.{Forms}
 use Rattle.message.specs.declared.caller.Caller.{Caller}
-use Rattle.message.specs.Refusal.{status, statusOf}
+use Rattle.message.specs.Refusal.{status, success}
 use Rattle.message.specs.declared.refusal.Status.{Status}
 use Rattle.message.specs.declared.refusal.HeldBy.{HeldBy}
 use Rattle.message.specs.declared.refusal.HeldBy.the-variants.{Nobody}
@@ -27,12 +28,14 @@ use Rattle.message.specs.Command.{Given, refused, done, perform}
 use Rattle.message.specs.Reply.{two, replyHeader}
 use Rattle.message.specs.Message.{areaOf, dataOf, Ran, after, afterGiven, run, served, onlyStatus, runChain, answered, replyOf, Taken, replied, take-message}
 use Rattle.message.specs.declared.refusal.Refusal.{Refusal}
-use Rattle.message.specs.declared.refusal.Refusal.the-variants.{NotServed, NotSentence, NoSession, NoTree, NoOpen, NoAccess, LockType, NoSuchLock, PassesEnd, Conflict, NoRecord, NoSpace, OpenMode, BadAccess, NoSuchFile, BadShare, NoFids}
+use Rattle.message.specs.declared.refusal.Refusal.the-variants.{NotServed, NotSentence, NoSession, NoTree, NoOpen, NoAccess, LockType, NoSuchLock, PassesEnd, NoRecord, NoSpace, OpenMode, BadAccess, NoSuchFile, BadShare, NoFids}
 use Rattle.invariants.specs.GivenCases.{cond-case}
 use Rattle.message.specs.JustOpened.{NOBODY, bodyMeant}
+use Rattle.claims.specs.StatusList.{answered-listed, listed-says}
+use Rattle.demands.specs.StatusRead.{statusZero, succeeded, status-zero}
 use Rattle.demands.specs.Returned.{returnedFid}
 use Rattle.demands.specs.HolderBeside.{nobody-exact, answered-beside}
-use Rattle.demands.specs.OneByOne.{Sent, succeeded, replyThen, sendOn, own, sendAll, joined, compared, one-by-one}
+use Rattle.demands.specs.OneByOne.{Sent, replyThen, sendOn, own, sendAll, joined, compared, one-by-one}
 use Rattle.demands.specs.OneByOneReply.{lastReply, comparedReply, one-by-one-reply}
 use Rattle.invariants.specs.Sound.{Good}
 use Rattle.invariants.specs.Fit.{Fit, fit-answered}
@@ -49,10 +52,6 @@ pub record Calls : Type 0 where
 -- the reply that a call wrote, of its stated length
 unfoldable pub replyIn : Taken → List ℕ
 replyIn r = take (r .length) (r .room)
-
--- "refused (Status not 0)": Status is bytes 5 to 8
-unfoldable pub statusZero : List ℕ → Bool
-statusZero reply = eqb (byteAt reply 5) 0 && (eqb (byteAt reply 6) 0 && (eqb (byteAt reply 7) 0 && eqb (byteAt reply 8) 0))
 
 unfoldable pub lastCall : Taken → Calls
 lastCall r = record { number = r .number; holder = r .holder; tables = r .tables; memory = r .memory; replies = replyIn r ∷ [] }
@@ -94,78 +93,12 @@ comparedCall s room calls =
 
 -- ---- a reply and its status
 
--- codes fit in two bytes
-code-small : (why : Refusal) → statusOf why .code < 65536
-unfolding statusOf status
-code-small NotServed = omega arith
-code-small NotSentence = omega arith
-code-small NoSession = omega arith
-code-small NoTree = omega arith
-code-small NoOpen = omega arith
-code-small NoAccess = omega arith
-code-small LockType = omega arith
-code-small NoSuchLock = omega arith
-code-small PassesEnd = omega arith
-code-small (Conflict h) = omega arith
-code-small NoRecord = omega arith
-code-small NoSpace = omega arith
-code-small OpenMode = omega arith
-code-small BadAccess = omega arith
-code-small NoSuchFile = omega arith
-code-small BadShare = omega arith
-code-small NoFids = omega arith
-
-after-small : (g : Given) (bs : List Block) (place : ℕ) (t : Tables) (memory : List ℕ) (rest : ℕ → ℕ → Tables → List ℕ → Ran)
-    → ((j p : ℕ) (u : Tables) (m : List ℕ) → rest j p u m .status .code < 65536) → afterGiven g bs place t memory rest .status .code < 65536
-unfolding afterGiven after
-after-small (refused why) bs place t memory rest f = code-small why
-after-small (done u m said) bs place t memory rest f = f _ _ u m
-
-run-small : (c : Caller) (s : List ℕ) (just : ℕ) (bs : List Block) (place : ℕ) (t : Tables) (memory : List ℕ) → run c s just bs place t memory .status .code < 65536
-unfolding run status
-run-small c s just [] place t memory = omega arith
-run-small c s just (b ∷ bs) place t memory =
-    after-small (perform c t memory (bodyMeant just (b .body)) (areaOf s b) (dataOf s b)) bs place t memory _ (λ j p u m. run-small c s j bs p u m)
-
-chain-small : (c : Caller) (s : List ℕ) (o : Option (List Block)) (t : Tables) (memory : List ℕ) → runChain c s o t memory .status .code < 65536
-unfolding runChain onlyStatus
-chain-small c s none t memory = code-small NotSentence
-chain-small c s (some bs) t memory = run-small c s NOBODY bs FIRST t memory
-
-pub answered-small : (connection : ℕ) (s : List ℕ) (t : Tables) (memory : List ℕ) → answered connection s t memory .status .code < 65536
-unfolding answered onlyStatus
-answered-small connection s t memory =
-    cond-case (λ (r : Ran). r .status .code < 65536) (served (headerCommand s)) (runChain (callerOf connection s) s (blocks s) t memory)
-    (onlyStatus (statusOf NotServed) t memory) (λ _. chain-small (callerOf connection s) s (blocks s) t memory) (λ _. code-small NotServed)
-
 -- a message that succeeds has no holder
 pub answered-nobody : (connection : ℕ) (s : List ℕ) (t : Tables) (memory : List ℕ)
-    → succeeded (answered connection s t memory .status) ≡ true → answered connection s t memory .holder ≡ Nobody
+    → succeeded (answered connection s t memory .forms .status) ≡ true → answered connection s t memory .holder ≡ Nobody
 unfolding succeeded status
 answered-nobody connection s t memory e =
-    nobody-exact (answered-beside connection s t memory) .1 (λ (q : answered connection s t memory .status ≡ status 1 33). false≢true (sym (ap succeeded q) ∙ e))
-
--- a code's two bytes are 0 exactly if it is
-zero-code : (class code : ℕ) → code < 65536
-    → (eqb class 0 && (eqb 0 0 && (eqb (code % 256) 0 && eqb (code / 256 % 256) 0))) ≡ (eqb class 0 && eqb code 0)
-zero-code class code h =
-    same-truth (eqb class 0 && (eqb 0 0 && (eqb (code % 256) 0 && eqb (code / 256 % 256) 0))) (eqb class 0 && eqb code 0)
-    (λ e. let a = both-hold (eqb class 0) (eqb 0 0 && (eqb (code % 256) 0 && eqb (code / 256 % 256) 0)) e in
-    let b = both-hold (eqb 0 0) (eqb (code % 256) 0 && eqb (code / 256 % 256) 0) (a .1) in
-    let d = both-hold (eqb (code % 256) 0) (eqb (code / 256 % 256) 0) (b .1) in
-    let low : code % 256 ≡ 0 = eqb-true (code % 256) 0 (d .0) in
-    let high : code / 256 % 256 ≡ 0 = eqb-true (code / 256 % 256) 0 (d .1) in
-    hold-both (eqb class 0) (eqb code 0) (a .0) (eq-eqb code 0 (omega arith)))
-    (λ e. let a = both-hold (eqb class 0) (eqb code 0) e in
-    let z : code ≡ 0 = eqb-true code 0 (a .1) in
-    hold-both (eqb class 0) (eqb 0 0 && (eqb (code % 256) 0 && eqb (code / 256 % 256) 0)) (a .0)
-    (hold-both (eqb 0 0) (eqb (code % 256) 0 && eqb (code / 256 % 256) 0) refl
-    (hold-both (eqb (code % 256) 0) (eqb (code / 256 % 256) 0) (eq-eqb (code % 256) 0 (omega arith)) (eq-eqb (code / 256 % 256) 0 (omega arith)))))
-
--- "Status stands in the header"
-pub status-read : (message : List ℕ) (r : Ran) → r .status .code < 65536 → statusZero (replyOf message r) ≡ succeeded (r .status)
-unfolding statusZero replyOf replyHeader two succeeded
-status-read message r h = zero-code (r .status .class) (r .status .code) h
+    nobody-exact (answered-beside connection s t memory) .1 (λ (q : answered connection s t memory .forms .status ≡ status 1 33). false≢true (sym (ap succeeded q) ∙ e))
 
 -- the reply stands in the room
 pub reply-read : (message room : List ℕ) (r : Ran) → replyIn (replied message room r) ≡ replyOf message r
@@ -177,17 +110,17 @@ reply-read message room r = take-append-seam (replyOf message r) _
 unfoldable callsOf : Sent → Calls
 callsOf sent = record { number = 0; holder = sent .holder; tables = sent .tables; memory = sent .memory; replies = sent .replies }
 
-last-sent : (b : Bool) (reply : List ℕ) (h : HeldBy) (u : Tables) (m : List ℕ) (why : Status) → (b ≡ true → h ≡ Nobody)
+last-sent : (b : Bool) (reply : List ℕ) (h : HeldBy) (u : Tables) (m : List ℕ) (why : Forms) → (b ≡ true → h ≡ Nobody)
     → _≡_ {A = Calls} (record { number = 0; holder = h; tables = u; memory = m; replies = reply ∷ [] })
-    (callsOf (cond b (replyThen reply (record { status = status 0 0; holder = Nobody; tables = u; memory = m; replies = [] }))
-    (record { status = why; holder = h; tables = u; memory = m; replies = reply ∷ [] })))
+    (callsOf (cond b (replyThen reply (record { forms = success; holder = Nobody; tables = u; memory = m; replies = [] }))
+    (record { forms = why; holder = h; tables = u; memory = m; replies = reply ∷ [] })))
 unfolding callsOf replyThen
 last-sent true reply h u m why nobody = rw (nobody refl)
 last-sent false reply h u m why nobody = refl
 
-more-sent : (b : Bool) (reply : List ℕ) (calls : Calls) (sent : Sent) (h : HeldBy) (u : Tables) (m : List ℕ) (why : Status) → calls ≡ callsOf sent
+more-sent : (b : Bool) (reply : List ℕ) (calls : Calls) (sent : Sent) (h : HeldBy) (u : Tables) (m : List ℕ) (why : Forms) → calls ≡ callsOf sent
     → cond b (callThen reply calls) (record { number = 0; holder = h; tables = u; memory = m; replies = reply ∷ [] })
-    ≡ callsOf (cond b (replyThen reply sent) (record { status = why; holder = h; tables = u; memory = m; replies = reply ∷ [] }))
+    ≡ callsOf (cond b (replyThen reply sent) (record { forms = why; holder = h; tables = u; memory = m; replies = reply ∷ [] }))
 unfolding callsOf replyThen callThen
 more-sent true reply calls sent h u m why e = rw e
 more-sent false reply calls sent h u m why e = refl
@@ -195,7 +128,7 @@ more-sent false reply calls sent h u m why e = refl
 -- with no block, none is sent
 nothing-called : (t : Tables) (memory : List ℕ)
     → _≡_ {A = Calls} (record { number = 0; holder = Nobody; tables = t; memory = memory; replies = [] })
-    (callsOf (record { status = status 0 0; holder = Nobody; tables = t; memory = memory; replies = [] }))
+    (callsOf (record { forms = success; holder = Nobody; tables = t; memory = memory; replies = [] }))
 unfolding callsOf
 nothing-called t memory = refl
 
@@ -208,14 +141,14 @@ step : (connection : ℕ) (s room : List ℕ) (just : ℕ) (b : Block) (bs : Lis
 unfolding callOn carriedOut lastCall sendOn sendAll replied
 step connection s room just b [] t memory e =
     rw (reply-read (own s just b) room (answered connection (own s just b) t memory))
-    (last-sent (succeeded (answered connection (own s just b) t memory .status)) (replyOf (own s just b) (answered connection (own s just b) t memory)) _ _ _ _
+    (last-sent (succeeded (answered connection (own s just b) t memory .forms .status)) (replyOf (own s just b) (answered connection (own s just b) t memory)) _ _ _ _
     (answered-nobody connection (own s just b) t memory))
 step connection s room just b (d ∷ bs) t memory e =
     rw (
       reply-read (own s just b) room (answered connection (own s just b) t memory),
-      status-read (own s just b) (answered connection (own s just b) t memory) (answered-small connection (own s just b) t memory),
+      status-zero (own s just b) (answered connection (own s just b) t memory) (listed-says (answered-listed connection (own s just b) t memory)),
     )
-    (more-sent (succeeded (answered connection (own s just b) t memory .status)) (replyOf (own s just b) (answered connection (own s just b) t memory)) _ _ _ _ _ _ e)
+    (more-sent (succeeded (answered connection (own s just b) t memory .forms .status)) (replyOf (own s just b) (answered connection (own s just b) t memory)) _ _ _ _ _ _ e)
 
 -- all of them
 calls-sent : (connection : ℕ) (s room : List ℕ) → 12292 ≤ length room → {just : ℕ} {bs : List Block} {t : Tables} {memory : List ℕ} → AllFit connection s just bs t memory

@@ -28,10 +28,10 @@ use Rattle.message.specs.JustOpened.{NOBODY, openedBy, bodyMeant}
 use Rattle.message.specs.Reply.{replySize}
 use Rattle.message.specs.Message.{areaOf, dataOf, Ran, after, run, take-message}
 use Rattle.demands.specs.Malformed.{length-area}
-use Rattle.demands.specs.OneByOne.{succeeded, refusal-fails}
+use Rattle.demands.specs.OneByOne.{refusal-fails}
 use Rattle.invariants.specs.Sound.{Good, keeps-good, perform-keeps}
 use Rattle.invariants.specs.Fit.{Fit}
-use Rattle.demands.specs.Calls.{statusRead}
+use Rattle.demands.specs.StatusRead.{statusRead, succeeded}
 use Rattle.demands.specs.LockWords.{never}
 use Rattle.demands.specs.CommandReasons.{Reason, Announced, perform-reason, perform-given}
 use Rattle.demands.specs.ReasonCalls.{block-announced}
@@ -90,14 +90,14 @@ module _ (c : Caller) (s : List ℕ) where
   -- by what the first command gives
   first-ends : (just : ℕ) (b : Block) (bs : List Block) (place : ℕ) (t : Tables) (memory : List ℕ) (g : Given) → gives c s just b t memory ≡ g
       → Reason c t (areaOf s b) (bodyMeant just (b .body)) (statusIn g)
-      → ((u : Tables) (m : List ℕ) (said : Said) → g ≡ done u m said → Ends c s (openedBy said) bs u m (run c s (openedBy said) bs (place + replySize said) u m .status))
-      → Ends c s just (b ∷ bs) t memory (run c s just (b ∷ bs) place t memory .status)
+      → ((u : Tables) (m : List ℕ) (said : Said) → g ≡ done u m said → Ends c s (openedBy said) bs u m (run c s (openedBy said) bs (place + replySize said) u m .forms .status))
+      → Ends c s just (b ∷ bs) t memory (run c s just (b ∷ bs) place t memory .forms .status)
   unfolding statusIn after
   first-ends just b bs place t memory (refused why) e r f = rw (step-refused c s just b bs place t memory why e) (stops r (refusal-not-zero why))
   first-ends just b bs place t memory (done u m said) e r f = rw (step-done c s just b bs place t memory u m said e) (done-then r e (f u m said refl))
 
   -- the status that is given has its reason, command by command
-  run-ends : {bs : List Block} → AllAnnounced s bs → (just place : ℕ) (t : Tables) (memory : List ℕ) → Good t → Ends c s just bs t memory (run c s just bs place t memory .status)
+  run-ends : {bs : List Block} → AllAnnounced s bs → (just place : ℕ) (t : Tables) (memory : List ℕ) → Good t → Ends c s just bs t memory (run c s just bs place t memory .forms .status)
   unfolding run
   run-ends none-left just place t memory g = all-done
   run-ends (next-announced {b} {bs} h a) just place t memory g =
@@ -106,17 +106,17 @@ module _ (c : Caller) (s : List ℕ) where
 
   -- and where it ends so, its status is given
   stopped-run : (just : ℕ) (b : Block) (bs : List Block) (place : ℕ) (t : Tables) (memory : List ℕ) {n : Status} (g : Given) → gives c s just b t memory ≡ g → statusIn g ≡ n → (n ≡ status 0 0 → ⊥)
-      → run c s just (b ∷ bs) place t memory .status ≡ n
+      → run c s just (b ∷ bs) place t memory .forms .status ≡ n
   unfolding statusIn
-  stopped-run just b bs place t memory (refused why) e h nonzero = ap (λ (r : Ran). r .status) (step-refused c s just b bs place t memory why e) ∙ h
+  stopped-run just b bs place t memory (refused why) e h nonzero = ap (λ (r : Ran). r .forms .status) (step-refused c s just b bs place t memory why e) ∙ h
   stopped-run just b bs place t memory (done u m said) e h nonzero = absurd (nonzero (sym h))
 
   ends-run : {just : ℕ} {bs : List Block} {t : Tables} {memory : List ℕ} {n : Status} → Ends c s just bs t memory n → AllAnnounced s bs → (place : ℕ) → Good t
-      → run c s just bs place t memory .status ≡ n
+      → run c s just bs place t memory .forms .status ≡ n
   unfolding run after
   ends-run all-done a place g = refl
   ends-run (done-then {just} {b} {bs} {t} {u} {memory} {m} {said} r e h) (next-announced k a) place g =
-      ap (λ (x : Ran). x .status) (step-done c s just b bs place t memory u m said e)
+      ap (λ (x : Ran). x .forms .status) (step-done c s just b bs place t memory u m said e)
       ∙ ends-run h a (place + replySize said) (left-good just b t memory g u m said e)
   ends-run (stops {just} {b} {bs} {t} {memory} r nonzero) (next-announced k a) place g =
       stopped-run just b bs place t memory (gives c s just b t memory) refl (perform-given c t memory (g .sound) (bodyMeant just (b .body)) (areaOf s b) (dataOf s b) (meant-announced just (b .body) (areaOf s b) k) r) nonzero

@@ -38,12 +38,12 @@ use Rattle.chain.specs.declared.block.RangeFields.{RangeFields}
 use Rattle.chain.specs.declared.block.Body.{Body}
 use Rattle.chain.specs.declared.block.Body.the-variants.{Locking as LockingBody, Read as ReadBody, Write as WriteBody, Close, Logoff, TreeDisconnect, ProcessExit, CoreRead as CoreReadBody, CoreWrite as CoreWriteBody, LockByteRange, UnlockByteRange, Open as OpenBody}
 use Rattle.message.specs.declared.caller.Caller.{Caller}
-use Rattle.message.specs.Refusal.{status, statusOf}
+use Rattle.message.specs.Refusal.{status, formsOf}
 use Rattle.message.specs.declared.refusal.Status.{Status}
 use Rattle.message.specs.declared.refusal.Refusal.the-variants.{NoAccess, LockType}
 use Rattle.message.specs.Contents.{readBytes}
 use Rattle.message.specs.Command.{Given, refused, done, read, withSession, withTree, withOpen, servedType, requestOf, lockingEnd, lockingAfter, doLocking, askBy, unlessBarred, barring, doRead, endsPast, doWrite, asCore, rangeBy, oneRange, doRange, betweenSizes, doSetSize, doCoreWrite, nameAsked, perform}
-use Rattle.demands.specs.LoneLock.{May, InWay, Owner, BarsLock, lowerSize, sizesApart, BarsSize, BarsRange, read-conflict as read-exact, sharedIn, exclusive-way, range-back}
+use Rattle.demands.specs.LoneLock.{heldIn, May, InWay, Owner, BarsLock, lowerSize, sizesApart, BarsSize, BarsRange, read-conflict as read-exact, sharedIn, exclusive-way, range-back}
 use Rattle.demands.specs.Admitted.{SessionHere, Admitted, NoSessionFor, NoTreeFor, NoOpenFor, admitted-may, session-or, tree-or, open-or, with-session, with-tree, with-open, session-given, tree-given, open-given}
 use Rattle.demands.specs.LockWords.{Released, Unnamed, Releasing, all-released, one-unnamed, release-means, released-is, unnamed-is, released-was, PastEnd, past-means, past-is, one-past, AllGranted, OneBlocked, Opened, Granting, all-granted, one-blocked, grant-means, granted-is, blocked-is, none-to-release, none-released, none-unnamed, one-released, one-names-none, names-none, none-to-grant, grant-then, none-granted, blocked-here, none-blocked, one-barred, one-more, one-granted}
 use Rattle.demands.specs.WritingReasons.{WritingStatus, conflicts-status, other-status, writing-reason, writing-given}
@@ -237,8 +237,8 @@ module _ (c : Caller) (t : Tables) (memory : List ℕ) (ok : sound t ≡ true) w
       -- a lock is in the way, or the read is done
       read-ends : (x : Found) → doRead c t memory f ≡ unlessBarred t x read-end → (BarsRead c t f read-open × (statusIn (doRead c t memory f) ≡ status 1 33))
           ⊎ ((BarsRead c t f read-open → ⊥) × (statusIn (doRead c t memory f) ≡ status 0 0))
-      unfolding unlessBarred statusIn status
-      read-ends (At j) g = inl (read-exact c t memory k ok f may e .0 (_, g), conflicts-status (doRead c t memory f) (_, g))
+      unfolding unlessBarred statusIn heldIn status
+      read-ends (At j) g = inl (read-exact c t memory k ok f may e .0 (_, ap heldIn g), conflicts-status (doRead c t memory f) (_, ap heldIn g))
       read-ends Nothing g =
           inr (λ w. other-status (doRead c t memory f) (read-other g) (read-exact c t memory k ok f may e .1 w), ap statusIn g)
         where
@@ -251,7 +251,7 @@ module _ (c : Caller) (t : Tables) (memory : List ℕ) (ok : sound t ≡ true) w
 
   -- READ: the status has its reason
   read-reason : (f : ReadFields) → ReadStatus c t f (statusIn (doRead c t memory f))
-  unfolding statusIn statusOf
+  unfolding statusIn formsOf
   read-reason f =
       elim (open-or c t (f .fid)) [
         | inl h ↦ rw (read-given-open f (h .1)) (read-not (h .1))
@@ -266,7 +266,7 @@ module _ (c : Caller) (t : Tables) (memory : List ℕ) (ok : sound t ≡ true) w
 
   -- and where the reason holds, the status is given
   read-given : (f : ReadFields) {n : Status} → ReadStatus c t f n → statusIn (doRead c t memory f) ≡ n
-  unfolding statusIn statusOf
+  unfolding statusIn formsOf
   read-given f (read-not h) = read-given-open f h
   read-given f (read-access {o} a e) =
       let m = admitted-may c t (f .fid) ok o a in
@@ -325,7 +325,7 @@ module _ (c : Caller) (t : Tables) (memory : List ℕ) (ok : sound t ≡ true) w
     locking-given-open h = open-given c t (f .fid) _ h
 
     locking-refused : (k : ℕ) → May c t (f .fid) k → servedType (f .kind) ≡ false → statusIn (doLocking c t memory f area) ≡ status 2 65535
-    unfolding doLocking statusIn statusOf
+    unfolding doLocking statusIn formsOf
     locking-refused k may e =
         let g : doLocking c t memory f area ≡ refused LockType = with-open c t (f .fid) k _ may ∙ rw e in
         ap statusIn g
@@ -344,7 +344,7 @@ module _ (c : Caller) (t : Tables) (memory : List ℕ) (ok : sound t ≡ true) w
     module _ {o : Open} (a : Admitted c t (f .fid) o) (bits : OnlyTwoBits (f .kind)) where
       grants-reason : {left : List Lock} → Released (f .fid) (unlocksIn c f area) (locksOf t) left → (PastEnd (locksIn c f area) → ⊥)
           → (x : Grants) → Granting t o (f .fid) (sharedIn f) (locksIn c f area) left x → LockingStatus c t f area (ends (afterGrants x))
-      unfolding afterGrants settle lockingAfter lockingEnd statusIn statusOf
+      unfolding afterGrants settle lockingAfter lockingEnd statusIn formsOf
       grants-reason r low (granted last) (all-granted g) =
           elim (decided (leb (length last) 128)) [
             | inl e ↦ rw e (locking-done a bits r low g (leb-true (length last) 128 e))
@@ -353,7 +353,7 @@ module _ (c : Caller) (t : Tables) (memory : List ℕ) (ok : sound t ≡ true) w
       grants-reason r low (blocked h) (one-blocked b) = locking-blocked a bits r low b
 
       releases-reason : (x : Option (List Lock)) → Releasing (f .fid) (unlocksIn c f area) (locksOf t) x → LockingStatus c t f area (after-unlocks x)
-      unfolding afterReleases settle lockingAfter lockingEnd statusIn statusOf
+      unfolding afterReleases settle lockingAfter lockingEnd statusIn formsOf
       releases-reason none (one-unnamed u) = locking-unnamed a bits u
       releases-reason (some left) (all-released r) =
           elim (decided (any rangePasses (locksIn c f area))) [
@@ -394,7 +394,7 @@ module _ (c : Caller) (t : Tables) (memory : List ℕ) (ok : sound t ≡ true) w
 
     -- and where the reason holds, the status is given
     locking-given : {n : Status} → LockingStatus c t f area n → statusIn (doLocking c t memory f area) ≡ n
-    unfolding afterReleases afterGrants settle lockingAfter lockingEnd statusIn statusOf
+    unfolding afterReleases afterGrants settle lockingAfter lockingEnd statusIn formsOf
     locking-given (locking-not h) = locking-given-open h
     locking-given (locking-type {o} a h) =
         let m = admitted-may c t (f .fid) ok o a in

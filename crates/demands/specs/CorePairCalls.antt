@@ -31,6 +31,7 @@ use Rattle.invariants.specs.Fit.{Fit, fit-answered}
 use Rattle.invariants.specs.JustOpenedLaws.{run-first}
 use Rattle.readings.specs.MovedBytes.{part, areaAt}
 use Rattle.claims.specs.StreamKept.{Bytes}
+use Rattle.message.specs.declared.refusal.Forms.{Forms}
 use Rattle.message.specs.declared.caller.Caller.{Caller}
 use Rattle.message.specs.Caller.{callerOf}
 use Rattle.message.specs.Refusal.{status}
@@ -41,7 +42,8 @@ use Rattle.message.specs.JustOpened.{NOBODY, openedBy, bodyMeant}
 use Rattle.message.specs.Reply.{replyHeader, replyBlock, refusedBlock, replySize}
 use Rattle.message.specs.Message.{areaOf, dataOf, Ran, after, linkTo, afterGiven, run, answered, replyOf, Taken, replied, take-message}
 use Rattle.demands.specs.Malformed.{length-area}
-use Rattle.demands.specs.Calls.{statusRead, status-call, length-call, sentence-answered}
+use Rattle.demands.specs.StatusRead.{statusRead}
+use Rattle.demands.specs.Calls.{status-call, length-call, sentence-answered}
 use Rattle.demands.specs.ChainReasons.{refusal-not-zero}
 use Rattle.demands.specs.CommandReasons.{OnlyTwoBits}
 use Rattle.demands.specs.LoneCall.{lockingFields}
@@ -78,23 +80,23 @@ pub data BlocksAlike (place : ℕ) : Status → List ℕ → List ℕ → Type 0
   refused-blocks : {why : Status} → (why ≡ status 0 0 → ⊥) → BlocksAlike place why refusedBlock refusedBlock
   said-blocks : {said said′ : Said} → SaidAlike said said′ → BlocksAlike place (status 0 0) (replyBlock said place noLink) (replyBlock said′ place noLink)
 
--- two calls, with messages s and t, in the same room: the same number, holder, tables and file memory, the same Status, and reply blocks that are alike, with nothing
+-- two calls, with messages s and t, in the same room: the same number, holder, tables and file memory, the same Status, each in its form, and reply blocks that are alike, with nothing
 -- behind them
 pub record SameCalls (Blocks : Status → List ℕ → List ℕ → Type 0) (s t room : List ℕ) (one other : Taken) : Type 0 where
   pub same-number : one .number ≡ other .number
   pub same-holder : one .holder ≡ other .holder
   pub same-tables : one .tables ≡ other .tables
   pub same-memory : one .memory ≡ other .memory
-  pub why : Status
-  pub status-one : statusRead (one .room) ≡ why
-  pub status-other : statusRead (other .room) ≡ why
+  pub why : Forms
+  pub status-one : statusRead (one .room) ≡ why .status
+  pub status-other : statusRead (other .room) ≡ why .status
   pub blocks-one : List ℕ
   pub blocks-other : List ℕ
   pub reply-one : one .room ≡ put room 0 (replyHeader s why ++ blocks-one)
   pub reply-other : other .room ≡ put room 0 (replyHeader t why ++ blocks-other)
   pub length-one : one .length ≡ 32 + length blocks-one
   pub length-other : other .length ≡ 32 + length blocks-other
-  pub blocks-alike : Blocks why blocks-one blocks-other
+  pub blocks-alike : Blocks (why .status) blocks-one blocks-other
 
 -- ---- from the bytes to the fields
 
@@ -169,21 +171,21 @@ fields-pair (unlock-fields fid bits u l on) b h k same c of = unlock-pair fid bi
 
 -- what two chains leave: the same, with reply blocks that are alike
 record RunsAlike (Blocks : Status → List ℕ → List ℕ → Type 0) (one other : Ran) : Type 0 where
-  same-status : one .status ≡ other .status
+  same-forms : one .forms ≡ other .forms
   same-holder : one .holder ≡ other .holder
   same-tables : one .tables ≡ other .tables
   same-memory : one .memory ≡ other .memory
-  blocks-alike : Blocks (one .status) (one .blocks) (other .blocks)
+  blocks-alike : Blocks (one .forms .status) (one .blocks) (other .blocks)
 
 -- of the last command of each
 last-alike : {g h : Given} → Alike g h → (c d : Caller) (s t : List ℕ) (place : ℕ) (u : Tables) (memory : List ℕ)
     → RunsAlike (BlocksAlike place) (afterGiven g [] place u memory (λ j p v m. run c s j [] p v m)) (afterGiven h [] place u memory (λ j p v m. run d t j [] p v m))
 unfolding afterGiven after run linkTo
 last-alike (refused-alike why) c d s t place u memory =
-    record { same-status = refl; same-holder = refl; same-tables = refl; same-memory = refl; blocks-alike = refused-blocks (refusal-not-zero why) }
+    record { same-forms = refl; same-holder = refl; same-tables = refl; same-memory = refl; blocks-alike = refused-blocks (refusal-not-zero why) }
 last-alike (done-alike {said = said} {said′ = said′} says) c d s t place u memory =
     record {
-      same-status = refl;
+      same-forms = refl;
       same-holder = refl;
       same-tables = refl;
       same-memory = refl;
@@ -205,13 +207,13 @@ calls-alike connection s t u memory room f g alike =
       same-holder = ap (λ (k : Taken). k .holder) one ∙ alike .same-holder ∙ sym (ap (λ (k : Taken). k .holder) other);
       same-tables = ap (λ (k : Taken). k .tables) one ∙ alike .same-tables ∙ sym (ap (λ (k : Taken). k .tables) other);
       same-memory = ap (λ (k : Taken). k .memory) one ∙ alike .same-memory ∙ sym (ap (λ (k : Taken). k .memory) other);
-      why = r .status;
+      why = r .forms;
       status-one = status-call connection s u memory room f;
-      status-other = status-call connection t u memory room g ∙ sym (alike .same-status);
+      status-other = status-call connection t u memory room g ∙ ap (λ (f : Forms). f .status) (sym (alike .same-forms));
       blocks-one = r .blocks;
       blocks-other = q .blocks;
       reply-one = ap (λ (k : Taken). k .room) one;
-      reply-other = ap (λ (k : Taken). k .room) other ∙ ap (λ (n : Status). put room 0 (replyHeader t n ++ q .blocks)) (sym (alike .same-status));
+      reply-other = ap (λ (k : Taken). k .room) other ∙ ap (λ (f : Forms). put room 0 (replyHeader t f ++ q .blocks)) (sym (alike .same-forms));
       length-one = length-call connection s u memory room f;
       length-other = length-call connection t u memory room g;
       blocks-alike = alike .blocks-alike;
@@ -293,11 +295,11 @@ locking-before : {g : Given} → LockingSays g → (b d : Block) (u : Tables) (m
     → RunsAlike (ChainsAlike (b .command) (d .command)) (afterGiven g (b ∷ []) FIRST u memory one) (afterGiven g (d ∷ []) FIRST u memory other)
 unfolding afterGiven after linkTo replySize openedBy
 locking-before (locking-refused {why}) b d u memory one other alike =
-    record { same-status = refl; same-holder = refl; same-tables = refl; same-memory = refl; blocks-alike = locking-refused-alike (refusal-not-zero why) }
+    record { same-forms = refl; same-holder = refl; same-tables = refl; same-memory = refl; blocks-alike = locking-refused-alike (refusal-not-zero why) }
 locking-before (locking-done {t = v} {memory = m}) b d u memory one other alike =
     let k = alike 39 v m in
     record {
-      same-status = k .same-status;
+      same-forms = k .same-forms;
       same-holder = k .same-holder;
       same-tables = k .same-tables;
       same-memory = k .same-memory;

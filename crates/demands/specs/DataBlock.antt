@@ -14,7 +14,8 @@ use Rattle.invariants.specs.Fit.{Fit}
 use Rattle.message.specs.Refusal.{status}
 use Rattle.message.specs.declared.refusal.HeldBy.the-variants.{Nobody}
 use Rattle.message.specs.Message.{served, Taken, take-message}
-use Rattle.demands.specs.Calls.{statusRead, malformed-call}
+use Rattle.demands.specs.StatusRead.{statusRead}
+use Rattle.demands.specs.Calls.{malformed-call}
 use Rattle.demands.specs.RefusedCall.{Untouched}
 use Rattle.demands.specs.ReplyBytes.{PlainBlock}
 use Rattle.demands.specs.NoSentence.{no-sentence-taken}

@@ -20,11 +20,10 @@ use Rattle.chain.specs.Chain.{blocks}
 use Rattle.chain.specs.declared.block.Block.{Block}
 use Rattle.message.specs.Caller.{callerOf}
 use Rattle.message.specs.declared.caller.Caller.{Caller}
-use Rattle.message.specs.Refusal.{status, statusOf}
+use Rattle.message.specs.Refusal.{status, success, formsOf, statusOf}
 use Rattle.message.specs.declared.refusal.Status.{Status}
 use Rattle.message.specs.declared.refusal.HeldBy.the-variants.{Nobody}
 use Rattle.message.specs.declared.refusal.Refusal.{Refusal}
-use Rattle.message.specs.declared.refusal.Refusal.the-variants.{NotServed, NotSentence, NoSession, NoTree, NoOpen, NoAccess, LockType, NoSuchLock, PassesEnd, Conflict, NoRecord, NoSpace, OpenMode, BadAccess, NoSuchFile, BadShare, NoFids}
 use Rattle.message.specs.declared.link.Link.the-variants.{None as noLink}
 use Rattle.message.specs.Command.{Said, Given, refused, done, withSession, withTree, withOpen}
 use Rattle.message.specs.JustOpened.{NOBODY}
@@ -33,33 +32,15 @@ use Rattle.message.specs.Message.{after, linkTo, afterGiven, run, Taken, replyO
 use Rattle.invariants.specs.ReplySize.{length-header, length-block}
 use Rattle.invariants.specs.Fit.{Fit, fit-answered}
 use Rattle.demands.specs.Taken.{not-short}
-use Rattle.demands.specs.Calls.{statusRead, sentence-answered}
+use Rattle.claims.specs.StatusList.{none-zero}
+use Rattle.demands.specs.StatusRead.{statusRead}
+use Rattle.demands.specs.Calls.{sentence-answered}
 use Rattle.demands.specs.RefusedCall.{gives, first-refused}
 use Rattle.demands.specs.Admitted.{Admitted, NoSessionFor, no-session, NoTreeFor, before-tree, no-tree, NoOpenFor, before-open, no-open, session-or, tree-or, open-or, with-session, with-tree, with-open, session-given, tree-given, open-given}
 
 -- ---- from the call to its command
 
--- a refusal has a code, and 0/0 has none
-code-some : (why : Refusal) → 1 ≤ statusOf why .code
-unfolding statusOf status
-code-some NotServed = omega arith
-code-some NotSentence = omega arith
-code-some NoSession = omega arith
-code-some NoTree = omega arith
-code-some NoOpen = omega arith
-code-some NoAccess = omega arith
-code-some LockType = omega arith
-code-some NoSuchLock = omega arith
-code-some PassesEnd = omega arith
-code-some (Conflict place) = omega arith
-code-some NoRecord = omega arith
-code-some NoSpace = omega arith
-code-some OpenMode = omega arith
-code-some BadAccess = omega arith
-code-some NoSuchFile = omega arith
-code-some BadShare = omega arith
-code-some NoFids = omega arith
-
+-- 0/0 has no code
 coded-not-done : {P : Type 0} (n : Status) → 1 ≤ n .code → n ≡ status 0 0 → P
 unfolding status
 coded-not-done n h e = let z : n .code ≡ 0 = ap (λ (x : Status). x .code) e in absurd (omega arith)
@@ -72,23 +53,23 @@ long-enough s e = let n : 35 ≤ length s = not-short s e in omega arith
 pub record Carried (c : Caller) (s : List ℕ) (b : Block) (t : Tables) (memory room : List ℕ) (call : Taken) : Type 0 where
   pub said : Said
   pub given : gives c s NOBODY b t memory ≡ done (call .tables) (call .memory) said
-  pub reply : call .room ≡ put room 0 (replyHeader s (status 0 0) ++ replyBlock said FIRST noLink)
+  pub reply : call .room ≡ put room 0 (replyHeader s success ++ replyBlock said FIRST noLink)
   pub reply-length : call .length ≡ 32 + replySize said
   pub nobody-holds : call .holder ≡ Nobody
 
 -- commands of which the one was done
 run-one : (c : Caller) (s : List ℕ) (b : Block) (t : Tables) (memory : List ℕ) {u : Tables} {m : List ℕ} {said : Said} → gives c s NOBODY b t memory ≡ done u m said
-    → run c s NOBODY (b ∷ []) FIRST t memory ≡ record { status = status 0 0; holder = Nobody; tables = u; memory = m; blocks = replyBlock said FIRST noLink }
+    → run c s NOBODY (b ∷ []) FIRST t memory ≡ record { forms = success; holder = Nobody; tables = u; memory = m; blocks = replyBlock said FIRST noLink }
 unfolding run afterGiven after linkTo
 run-one c s b t memory {u} {m} {said} e =
-    rw e (ap (λ (l : List ℕ). record { status = status 0 0; holder = Nobody; tables = u; memory = m; blocks = l }) (append-nil (replyBlock said FIRST noLink)))
+    rw e (ap (λ (l : List ℕ). record { forms = success; holder = Nobody; tables = u; memory = m; blocks = l }) (append-nil (replyBlock said FIRST noLink)))
 
 module _ (connection : ℕ) (s : List ℕ) (b : Block) (e : blocks s ≡ some (b ∷ [])) (t : Tables) (memory room : List ℕ) (fit : Fit s t memory room) where
   carried-by : (g : Given) → gives (callerOf connection s) s NOBODY b t memory ≡ g → statusRead (take-message connection s t memory room .room) ≡ status 0 0
       → Carried (callerOf connection s) s b t memory room (take-message connection s t memory room)
   unfolding replied replyOf
   carried-by (refused why) g z =
-      coded-not-done (statusOf why) (code-some why) (sym (first-refused connection s t memory room fit b [] e why g .0) ∙ z)
+      absurd (none-zero why .0 (sym (first-refused connection s t memory room fit b [] e why g .0) ∙ z))
   carried-by (done u m said) g z =
       let k = fit-answered connection s t memory room fit ∙ ap (replied s room) (sentence-answered connection s t memory (b ∷ []) e ∙ run-one (callerOf connection s) s b t memory g) in
       let tables-left : take-message connection s t memory room .tables ≡ u = ap (λ (x : Taken). x .tables) k in
@@ -99,8 +80,8 @@ module _ (connection : ℕ) (s : List ℕ) (b : Block) (e : blocks s ≡ some (b
         reply = ap (λ (x : Taken). x .room) k;
         reply-length =
             ap (λ (x : Taken). x .length) k
-            ∙ length-append (replyHeader s (status 0 0)) (replyBlock said FIRST noLink)
-            ∙ rw (length-header s (status 0 0) (long-enough s (fit .not-dropped)), length-block said FIRST noLink) refl;
+            ∙ length-append (replyHeader s success) (replyBlock said FIRST noLink)
+            ∙ rw (length-header s success (long-enough s (fit .not-dropped)), length-block said FIRST noLink) refl;
         nobody-holds = ap (λ (x : Taken). x .holder) k;
       }
 

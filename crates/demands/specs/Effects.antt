@@ -21,7 +21,7 @@ use Rattle.message.specs.Caller.{callerOf}
 use Rattle.message.specs.Refusal.{status}
 use Rattle.message.specs.Contents.{sizeOf}
 use Rattle.message.specs.Message.{areaOf, dataOf, Taken, take-message}
-use Rattle.demands.specs.Calls.{statusRead}
+use Rattle.demands.specs.StatusRead.{statusRead}
 use Rattle.demands.specs.RefusedCall.{Untouched}
 use Rattle.demands.specs.Admitted.{Admitted}
 use Rattle.demands.specs.FileCommands.{WroteFile, write-leaves, write-nothing}

@@ -25,7 +25,7 @@ use Rattle.message.specs.declared.refusal.Status.{Status}
 use Rattle.message.specs.declared.caller.Caller.{Caller}
 use Rattle.message.specs.Command.{doRead, doWrite, doCoreWrite, nameAsked, perform}
 use Rattle.message.specs.Message.{areaOf, dataOf, take-message}
-use Rattle.demands.specs.Calls.{statusRead}
+use Rattle.demands.specs.StatusRead.{statusRead}
 use Rattle.demands.specs.LoneLock.{Conflicts, May, InWay, Owner, lowerSize, sizesApart, AnyLock, read-conflict, write-conflict, size-conflict, core-conflict, range-conflict}
 use Rattle.demands.specs.LoneCall.{FirstConflict, first-conflict, first-read-call, first-write-call, one-says, lockingFields, lockingArea}
 use Rattle.demands.specs.Admitted.{Admitted, admitted-may}

@@ -12,12 +12,12 @@ use Rattle.chain.specs.Chain.{blocks}
 use Rattle.chain.specs.declared.block.Block.{Block}
 use Rattle.message.specs.Caller.{callerOf}
 use Rattle.message.specs.declared.caller.Caller.{Caller}
-use Rattle.message.specs.Refusal.{status, statusOf, holderOf}
+use Rattle.message.specs.Refusal.{status, formsOf, statusOf, holderOf}
 use Rattle.message.specs.declared.refusal.Status.{Status}
 use Rattle.message.specs.declared.refusal.HeldBy.{HeldBy}
 use Rattle.message.specs.declared.refusal.HeldBy.the-variants.{Nobody, Holder as held-by}
 use Rattle.message.specs.declared.refusal.Refusal.{Refusal}
-use Rattle.message.specs.declared.refusal.Refusal.the-variants.{NotServed, NotSentence, NoSession, NoTree, NoOpen, NoAccess, LockType, NoSuchLock, PassesEnd, Conflict, NoRecord, NoSpace, OpenMode, BadAccess, NoSuchFile, BadShare, NoFids}
+use Rattle.message.specs.declared.refusal.Refusal.the-variants.{NotServed, NotSentence, NoSession, NoTree, NoOpen, NoAccess, LockType, NoSuchLock, PassesEnd, LockNotGranted, FileLockConflict, NoRecord, NoSpace, OpenMode, BadAccess, NoSuchFile, BadShare, NoFids}
 use Rattle.message.specs.Command.{Given, refused, done, perform}
 use Rattle.message.specs.JustOpened.{NOBODY, openedBy, bodyMeant}
 use Rattle.message.specs.Reply.{replySize}
@@ -44,7 +44,7 @@ unfolding status
 other-code n h = nobody (λ e. h (ap (λ (s : Status). s .code) e))
 
 refusal-beside : (why : Refusal) → Beside (statusOf why) (holderOf why)
-unfolding statusOf holderOf status
+unfolding formsOf holderOf status
 refusal-beside NotServed = other-code _ (λ q. omega arith)
 refusal-beside NotSentence = other-code _ (λ q. omega arith)
 refusal-beside NoSession = other-code _ (λ q. omega arith)
@@ -54,7 +54,8 @@ refusal-beside NoAccess = other-code _ (λ q. omega arith)
 refusal-beside LockType = other-code _ (λ q. omega arith)
 refusal-beside NoSuchLock = other-code _ (λ q. omega arith)
 refusal-beside PassesEnd = other-code _ (λ q. omega arith)
-refusal-beside (Conflict h) = somebody refl
+refusal-beside (LockNotGranted h) = somebody refl
+refusal-beside (FileLockConflict h) = somebody refl
 refusal-beside NoRecord = other-code _ (λ q. omega arith)
 refusal-beside NoSpace = other-code _ (λ q. omega arith)
 refusal-beside OpenMode = other-code _ (λ q. omega arith)
@@ -64,27 +65,27 @@ refusal-beside BadShare = other-code _ (λ q. omega arith)
 refusal-beside NoFids = other-code _ (λ q. omega arith)
 
 given-beside : (g : Given) (bs : List Block) (place : ℕ) (t : Tables) (memory : List ℕ) (rest : ℕ → ℕ → Tables → List ℕ → Ran)
-    → ((j p : ℕ) (u : Tables) (m : List ℕ) → Beside (rest j p u m .status) (rest j p u m .holder))
-    → Beside (afterGiven g bs place t memory rest .status) (afterGiven g bs place t memory rest .holder)
+    → ((j p : ℕ) (u : Tables) (m : List ℕ) → Beside (rest j p u m .forms .status) (rest j p u m .holder))
+    → Beside (afterGiven g bs place t memory rest .forms .status) (afterGiven g bs place t memory rest .holder)
 unfolding afterGiven after
 given-beside (refused why) bs place t memory rest f = refusal-beside why
 given-beside (done u m said) bs place t memory rest f = f (openedBy said) (place + replySize said) u m
 
 run-beside : (c : Caller) (s : List ℕ) (just : ℕ) (bs : List Block) (place : ℕ) (t : Tables) (memory : List ℕ)
-    → Beside (run c s just bs place t memory .status) (run c s just bs place t memory .holder)
+    → Beside (run c s just bs place t memory .forms .status) (run c s just bs place t memory .holder)
 unfolding run status
 run-beside c s just [] place t memory = other-code _ (λ q. omega arith)
 run-beside c s just (b ∷ bs) place t memory =
     given-beside (perform c t memory (bodyMeant just (b .body)) (areaOf s b) (dataOf s b)) bs place t memory (λ j p u m. run c s j bs p u m) (λ j p u m. run-beside c s j bs p u m)
 
-chain-beside : (c : Caller) (s : List ℕ) (o : Option (List Block)) (t : Tables) (memory : List ℕ) → Beside (runChain c s o t memory .status) (runChain c s o t memory .holder)
+chain-beside : (c : Caller) (s : List ℕ) (o : Option (List Block)) (t : Tables) (memory : List ℕ) → Beside (runChain c s o t memory .forms .status) (runChain c s o t memory .holder)
 unfolding runChain onlyStatus holderOf
 chain-beside c s none t memory = refusal-beside NotSentence
 chain-beside c s (some bs) t memory = run-beside c s NOBODY bs FIRST t memory
 
 pub answered-beside : (connection : ℕ) (s : List ℕ) (t : Tables) (memory : List ℕ)
-    → Beside (answered connection s t memory .status) (answered connection s t memory .holder)
+    → Beside (answered connection s t memory .forms .status) (answered connection s t memory .holder)
 unfolding answered onlyStatus holderOf
 answered-beside connection s t memory =
-    cond-case (λ (r : Ran). Beside (r .status) (r .holder)) (served (headerCommand s)) (runChain (callerOf connection s) s (blocks s) t memory) (onlyStatus (statusOf NotServed) t memory)
+    cond-case (λ (r : Ran). Beside (r .forms .status) (r .holder)) (served (headerCommand s)) (runChain (callerOf connection s) s (blocks s) t memory) (onlyStatus (formsOf NotServed) t memory)
     (λ _. chain-beside (callerOf connection s) s (blocks s) t memory) (λ _. refusal-beside NotServed)

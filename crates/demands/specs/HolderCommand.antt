@@ -39,13 +39,15 @@ use Rattle.chain.specs.declared.block.Body.{Body}
 use Rattle.chain.specs.declared.block.Body.the-variants.{Locking as LockingBody, Read as ReadBody, Write as WriteBody, Close, Logoff, TreeDisconnect, ProcessExit, CoreRead as CoreReadBody, CoreWrite as CoreWriteBody, LockByteRange, UnlockByteRange, Open as OpenBody}
 use Rattle.invariants.specs.GivenCases.{cond-case, session-case, tree-case, open-case, opening-case}
 use Rattle.message.specs.declared.caller.Caller.{Caller}
-use Rattle.message.specs.Refusal.{status, statusOf}
+use Rattle.message.specs.Refusal.{status, formsOf}
 use Rattle.message.specs.declared.refusal.Status.{Status}
-use Rattle.message.specs.declared.refusal.Refusal.the-variants.{NoAccess, NoSpace, Conflict}
+use Rattle.message.specs.declared.refusal.Refusal.the-variants.{NoAccess, NoSpace}
+use Rattle.message.specs.declared.refusal.HeldBy.the-variants.{Holder as held-by}
 use Rattle.message.specs.Command.{Given, refused, done, withOpen, servedType, requestOf, lockingEnd, lockingAfter, doLocking, askBy, unlessBarred, barring, doRead, writing, endsPast, doWrite, asCore, rangeBy, oneRange, doRange, betweenSizes, doSetSize, doCoreWrite, perform}
-use Rattle.demands.specs.LoneLock.{May, lowerSize, sizesApart, sharedIn, read-bars, write-bars}
+use Rattle.demands.specs.LoneLock.{heldIn, May, lowerSize, sizesApart, sharedIn, read-bars, write-bars}
 use Rattle.demands.specs.Admitted.{Admitted, no-session, before-tree, no-tree, NoOpenFor, before-open, no-open, admitted-may, open-or, with-open, open-given}
 use Rattle.demands.specs.LockWords.{never, Released, Releasing, all-released, one-unnamed, release-means, released-is, released-was, past-means, past-is, Opened}
+use Rattle.demands.specs.WritingReasons.{conflicts-status}
 use Rattle.demands.specs.CommandReasons.{Announced, OnlyTwoBits, served-exact, unlocksIn, locksIn}
 use Rattle.demands.specs.HolderWords.{TransferHeld, ReadHeld, WritingHeld, WriteHeld, SizeHeld, CoreWriteHeld, write-held, size-held, LockHeld, CommandHeld}
 use Rattle.demands.specs.HolderLone.{range-held}
@@ -53,7 +55,7 @@ use Rattle.demands.specs.HolderWalk.{Way, found-first, first-place, aske
 
 -- refused for conflict with that holder
 abbrev pub Names : Given → Holder → Type 0
-Names g h = g ≡ refused (Conflict h)
+Names g h = heldIn g ≡ held-by h
 
 -- one that is missing has another code
 open-code : {c : Caller} {t : Tables} {fid : ℕ} {n : Status} → NoOpenFor c t fid n → n .code ≡ 33 → ⊥
@@ -65,9 +67,9 @@ open-code (no-open s r h) e = omega arith
 module _ (c : Caller) (t : Tables) (memory : List ℕ) (ok : sound t ≡ true) where
   -- a caller that may not ask is not refused for conflict
   not-asked : {P : Type 0} (fid : ℕ) (next : Open → Given) {n : Status} → NoOpenFor c t fid n → (h : Holder) → Names (withOpen c t fid next) h → P
-  unfolding statusIn statusOf status
+  unfolding statusIn formsOf status
   not-asked fid next {n} no-one h e =
-      let same : n ≡ status 1 33 = sym (open-given c t fid next no-one) ∙ ap statusIn e in
+      let same : n ≡ status 1 33 = sym (open-given c t fid next no-one) ∙ conflicts-status (withOpen c t fid next) (h, e) in
       absurd (open-code no-one (ap (λ (s : Status). s .code) same))
 
   -- ---- reads and writes
@@ -80,7 +82,7 @@ module _ (c : Caller) (t : Tables) (memory : List ℕ) (ok : sound t ≡ true) w
   -- what the walk found decides
   barred-names : (q : Ask) (x : Found) (next : Given) (h : Holder) → (Names next h → ⊥) → barring t q ≡ x → Names (unlessBarred t x next) h
       → (j : ℕ) × (barring t q ≡ At j) × (holderAt (locksOf t) j ≡ h)
-  unfolding unlessBarred
+  unfolding unlessBarred heldIn
   barred-names q (At j) next h n e f = let same : holderAt (locksOf t) j ≡ h = cc in (j, e, same)
   barred-names q Nothing next h n e f = absurd (n f)
 
@@ -100,7 +102,7 @@ module _ (c : Caller) (t : Tables) (memory : List ℕ) (ok : sound t ≡ true) w
 
       transfer-may : (o : Open) → Admitted c t fid o → (b : Bool) → eqb (o .access) denied ≡ b → Names (cond b (refused NoAccess) (unlessBarred t (barring t (ask o)) (next o))) h
           → TransferHeld c t fid denied from size Clash h
-      unfolding barring
+      unfolding barring heldIn
       transfer-may o a true z e = never cc
       transfer-may o a false z e =
           let v = barred-names (ask o) (barring t (ask o)) (next o) h (others o) refl e in
@@ -112,34 +114,34 @@ module _ (c : Caller) (t : Tables) (memory : List ℕ) (ok : sound t ≡ true) w
           }
 
       transfer-exact : Names (withOpen c t fid transfer) h ↔ TransferHeld c t fid denied from size Clash h
-      unfolding barring unlessBarred
+      unfolding barring unlessBarred heldIn
       transfer-exact = (
         λ e. elim (open-or c t fid) [
           | inl no-one ↦ not-asked fid transfer (no-one .1) h e
           | inr (k, may, a) ↦
-              transfer-may (getD (opensOf t) k noOpen) a (eqb (getD (opensOf t) k noOpen .access) denied) refl (sym (with-open c t fid k transfer may) ∙ e)
+              transfer-may (getD (opensOf t) k noOpen) a (eqb (getD (opensOf t) k noOpen .access) denied) refl (sym (ap heldIn (with-open c t fid k transfer may)) ∙ e)
         ],
         λ r. let m = admitted-may c t fid ok (r .through) (r .admitted) in
             let p = first-place (answers (fileOf (opensOf t)) (ask (r .through))) (locksOf t) (way-exact (r .admitted)) (r .first) in
-            with-open c t fid (m .0) transfer (m .1)
-            ∙ rw (m .2, ne-eqb (r .through .access) denied (r .access), p .0) (ap (λ (x : Holder). refused (Conflict x)) (p .1)),
+            ap heldIn (with-open c t fid (m .0) transfer (m .1))
+            ∙ rw (m .2, ne-eqb (r .through .access) denied (r .access), p .0) (ap held-by (p .1)),
       )
 
   read-exact : (f : ReadFields) (h : Holder) → Names (doRead c t memory f) h ↔ ReadHeld c t f h
-  unfolding doRead askBy answers answersFor bars
+  unfolding doRead askBy answers answersFor bars heldIn
   read-exact f h =
       transfer-exact (f .fid) 1 (λ o. f .offset) (λ o. f .max) Reading h (λ o. read-bars (askBy c (f .fid) (f .offset) (f .max) Reading)) (λ o l. refl) _ (λ o e. never cc)
 
   -- a write, whatever it covers and comes to
   writing-exact : (fid : ℕ) (from size : Open → ℕ) (past : Bool) (next : Open → Given) (h : Holder) → ((o : Open) → Names (next o) h → ⊥)
       → Names (writing c t fid (λ o. askBy c fid (from o) (size o) Writing) past next) h ↔ WritingHeld c t fid from size h
-  unfolding askBy answers answersFor bars
+  unfolding askBy answers answersFor bars heldIn
   writing-exact fid from size past next h others =
       transfer-exact fid 0 from size Writing h (λ o. write-bars (askBy c fid (from o) (size o) Writing)) (λ o l. refl) (λ o. cond past (refused NoSpace) (next o))
       (λ o. cond-case (λ (g : Given). Names g h → ⊥) past (refused NoSpace) (next o) (λ _ e. never cc) (λ _. others o))
 
   write-exact : (f : WriteFields) (bytes : List ℕ) (h : Holder) → Names (doWrite c t memory f bytes) h ↔ WriteHeld c t f h
-  unfolding doWrite
+  unfolding doWrite heldIn
   write-exact f bytes h = writing-exact (f .fid) (λ o. f .offset) (λ o. f .count) (endsPast (f .offset) (f .count)) _ h (λ o e. never cc)
 
   -- ---- LOCKING
@@ -172,14 +174,14 @@ module _ (c : Caller) (t : Tables) (memory : List ℕ) (ok : sound t ≡ true) w
 
     -- the grants that have a holder are those blocked by it
     grants-name : (x : Grants) → Names (ends (afterGrants x)) h → x ≡ blocked h
-    unfolding afterGrants settle lockingAfter lockingEnd
+    unfolding afterGrants settle lockingAfter lockingEnd heldIn
     grants-name (granted list) e =
         cond-case (λ (r : Result). Names (ends r) h → granted list ≡ blocked h) (leb (length list) 128) _ _ (λ _ e. never cc) (λ _ e. never cc) e
     grants-name (blocked g) e = let same : g ≡ h = cc in ap blocked same
 
     releases-name : {o : Open} → Admitted c t (f .fid) o → OnlyTwoBits (f .kind) → (x : Option (List Lock)) → Releasing (f .fid) (unlocksIn c f area) (locksOf t) x
         → Names (after-unlocks x) h → LockHeld c t f area h
-    unfolding afterReleases settle lockingAfter lockingEnd
+    unfolding afterReleases settle lockingAfter lockingEnd heldIn
     releases-name a bits none (one-unnamed u) e = never cc
     releases-name {o} a bits (some left) (all-released r) e =
         elim (decided (any rangePasses (locksIn c f area))) [
@@ -197,23 +199,23 @@ module _ (c : Caller) (t : Tables) (memory : List ℕ) (ok : sound t ≡ true) w
         ]
 
     locking-may : (k : ℕ) → May c t (f .fid) k → Admitted c t (f .fid) (getD (opensOf t) k noOpen) → Names (doLocking c t memory f area) h → LockHeld c t f area h
-    unfolding doLocking
+    unfolding doLocking heldIn
     locking-may k may a e =
         elim (decided (servedType (f .kind))) [
           | inl b ↦ releases-name a (served-exact (f .kind) .0 b) (releaseAll files (f .fid) (unlocksIn c f area) (locksOf t))
-              (release-means files (f .fid) (unlocksIn c f area) (locksOf t)) (sym (locking-is k may b) ∙ e)
-          | inr b ↦ let w = sym (with-open c t (f .fid) k _ may) ∙ e in let z = rw b at w in never cc
+              (release-means files (f .fid) (unlocksIn c f area) (locksOf t)) (sym (ap heldIn (locking-is k may b)) ∙ e)
+          | inr b ↦ let w = sym (ap heldIn (with-open c t (f .fid) k _ may)) ∙ e in let z = rw b at w in never cc
         ]
 
     locking-exact : Names (doLocking c t memory f area) h ↔ LockHeld c t f area h
-    unfolding doLocking afterReleases afterGrants settle lockingAfter lockingEnd
+    unfolding doLocking afterReleases afterGrants settle lockingAfter lockingEnd heldIn
     locking-exact = (
       λ e. elim (open-or c t (f .fid)) [ inl no-one ↦ not-asked (f .fid) _ (no-one .1) h e | inr (k, may, a) ↦ locking-may k may a e ],
       λ r. let a = r .admitted in
           let m = admitted-may c t (f .fid) ok (r .through) a in
           let b = held-blocked t ok (r .through) (f .fid) (a .opened .listed) (a .opened .of-fid) (c .process / 65536) (sharedIn f) (eqb (f .kind / 16 % 2) 1) area (f .unlocks) (f .locks) (r .left)
           (left-opened (r .unlocked)) h (r .held) in
-          locking-is (m .0) (m .1) (served-exact (f .kind) .1 (r .served))
+          ap heldIn (locking-is (m .0) (m .1) (served-exact (f .kind) .1 (r .served)))
           ∙ rw (released-is files (f .fid) (r .unlocked), fails (any rangePasses (locksIn c f area)) (λ z. r .within (past-means (locksIn c f area) z)), b),
     )
 
@@ -221,12 +223,12 @@ module _ (c : Caller) (t : Tables) (memory : List ℕ) (ok : sound t ≡ true) w
 
   -- another reply block, and no other refusal
   core-names : (g : Given) (h : Holder) → Names (asCore g) h ↔ Names g h
-  unfolding asCore
+  unfolding asCore heldIn
   core-names (refused why) h = (λ e. e, λ e. e)
   core-names (done u m said) h = (λ e. never cc, λ e. never cc)
 
   size-exact : (f : WriteFields) (h : Holder) → Names (doSetSize c t memory f) h ↔ SizeHeld c t f h
-  unfolding doSetSize betweenSizes
+  unfolding doSetSize betweenSizes heldIn
   size-exact f h =
       writing-exact (f .fid) (lowerSize t (f .offset)) (sizesApart t (f .offset)) (ltb 4096 (f .offset)) _ h (λ o e. never cc)
 
@@ -252,7 +254,7 @@ module _ (c : Caller) (t : Tables) (memory : List ℕ) (ok : sound t ≡ true) w
 
   -- the commands that ask the list for nothing have no holder
   pub perform-held : (b : Body) (area bytes : List ℕ) → Announced b area → (h : Holder) → Names (perform c t memory b area bytes) h ↔ CommandHeld c t area b h
-  unfolding perform Announced CommandHeld oneRange
+  unfolding perform Announced CommandHeld oneRange heldIn
   perform-held (LockingBody f) area bytes k h = locking-exact f area (k f refl) h
   perform-held (ReadBody f) area bytes k h = read-exact f h
   perform-held (WriteBody f) area bytes k h = write-exact f bytes h

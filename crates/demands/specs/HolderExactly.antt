@@ -19,7 +19,8 @@ use Rattle.message.specs.declared.refusal.HeldBy.the-variants.{Nobody, Holder a
 use Rattle.message.specs.Message.{answered, Taken, notTaken, replied, take-message}
 use Rattle.invariants.specs.GivenCases.{cond-case}
 use Rattle.invariants.specs.Fit.{Fit, fit-answered}
-use Rattle.demands.specs.Calls.{statusRead, status-call}
+use Rattle.demands.specs.StatusRead.{statusRead}
+use Rattle.demands.specs.Calls.{status-call}
 use Rattle.demands.specs.MessageReasons.{done-exact}
 use Rattle.demands.specs.HolderBeside.{Beside, somebody-exact, nobody-exact, answered-beside}
 

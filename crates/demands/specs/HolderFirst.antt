@@ -23,14 +23,14 @@ use Rattle.message.specs.Caller.{callerOf}
 use Rattle.message.specs.Refusal.{status, holderOf}
 use Rattle.message.specs.declared.refusal.Status.{Status}
 use Rattle.message.specs.declared.refusal.HeldBy.the-variants.{Holder as held-by}
-use Rattle.message.specs.declared.refusal.Refusal.the-variants.{Conflict}
+use Rattle.message.specs.declared.refusal.Refusal.the-variants.{}
 use Rattle.message.specs.Command.{Given, refused}
 use Rattle.message.specs.JustOpened.{NOBODY}
 use Rattle.message.specs.Message.{areaOf, dataOf, Ran, Taken}
 use Rattle.invariants.specs.JustOpenedLaws.{meant-nobody}
 use Rattle.demands.specs.Calls.{sentence-answered}
 use Rattle.demands.specs.MessageReasons.{done-exact}
-use Rattle.demands.specs.LoneLock.{Conflicts, Owner, lowerSize, sizesApart, AnyLock}
+use Rattle.demands.specs.LoneLock.{held-refused, Conflicts, Owner, lowerSize, sizesApart, AnyLock}
 use Rattle.demands.specs.LoneCall.{WithinRange, first-given, first-conflict, alone-conflict, lockingFields, lockingArea}
 use Rattle.demands.specs.Admitted.{Admitted}
 use Rattle.demands.specs.CommandReasons.{Announced, OnlyTwoBits}
@@ -60,15 +60,17 @@ module _ (connection : ℕ) (s : List ℕ) (t : Tables) (memory room : List ℕ)
     named-given : (g : Holder) → Names given g → call connection s t memory room .holder ≡ held-by g
     unfolding holderOf
     named-given g n =
+        let w = held-refused given g n in
         holder-answered connection s t memory room fit
         ∙ ap (λ (r : Ran). r .holder) (sentence-answered connection s t memory (b ∷ bs) e
-        ∙ step-refused (callerOf connection s) s NOBODY b bs FIRST t memory (Conflict g) (rw (meant-nobody (b .body)) n))
+        ∙ step-refused (callerOf connection s) s NOBODY b bs FIRST t memory (w .0) (rw (meant-nobody (b .body)) (w .1)))
+        ∙ w .2
 
     conflict-names : Conflicts given → call connection s t memory room .holder ≡ held-by h → Names given h
     conflict-names w n =
         let two : held-by (w .0) ≡ held-by h = sym (named-given (w .0) (w .1)) ∙ n in
         let same : w .0 ≡ h = cc in
-        w .1 ∙ ap (λ (x : Holder). refused (Conflict x)) same
+        w .1 ∙ ap held-by same
 
     held-given : Names given h ↔ CommandHeld (callerOf connection s) t (areaOf s b) (b .body) h
     unfolding blocks

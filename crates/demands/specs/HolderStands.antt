@@ -19,7 +19,7 @@ use Rattle.message.specs.declared.caller.Caller.{Caller}
 use Rattle.message.specs.Refusal.{status, holderOf}
 use Rattle.message.specs.declared.refusal.HeldBy.the-variants.{Holder as held-by}
 use Rattle.message.specs.declared.refusal.Refusal.{Refusal}
-use Rattle.message.specs.declared.refusal.Refusal.the-variants.{NotServed, NotSentence, NoSession, NoTree, NoOpen, NoAccess, LockType, NoSuchLock, PassesEnd, Conflict, NoRecord, NoSpace, OpenMode, BadAccess, NoSuchFile, BadShare, NoFids}
+use Rattle.message.specs.declared.refusal.Refusal.the-variants.{NotServed, NotSentence, NoSession, NoTree, NoOpen, NoAccess, LockType, NoSuchLock, PassesEnd, NoRecord, NoSpace, OpenMode, BadAccess, NoSuchFile, BadShare, NoFids}
 use Rattle.message.specs.Command.{Said, Given, refused, done}
 use Rattle.message.specs.JustOpened.{NOBODY, openedBy, bodyMeant}
 use Rattle.message.specs.Reply.{replySize}
@@ -28,30 +28,10 @@ use Rattle.demands.specs.Calls.{sentence-answered}
 use Rattle.demands.specs.RefusedCall.{gives, meantAfter, step-done, step-refused, meant-done}
 use Rattle.demands.specs.ChainReasons.{AllAnnounced, none-left, next-announced, chained-announced, refusal-not-zero, left-good, meant-announced}
 use Rattle.demands.specs.HolderExactly.{call, holder-answered}
+use Rattle.demands.specs.LoneLock.{heldIn, held-refused}
 use Rattle.demands.specs.LockWords.{never}
 use Rattle.demands.specs.HolderWords.{CommandHeld, HeldWhere, held-where}
 use Rattle.demands.specs.HolderCommand.{Names, perform-held}
-
--- only a conflict has a holder
-names-conflict : (why : Refusal) (h : Holder) → holderOf why ≡ held-by h → why ≡ Conflict h
-unfolding holderOf
-names-conflict NotServed h e = never cc
-names-conflict NotSentence h e = never cc
-names-conflict NoSession h e = never cc
-names-conflict NoTree h e = never cc
-names-conflict NoOpen h e = never cc
-names-conflict NoAccess h e = never cc
-names-conflict LockType h e = never cc
-names-conflict NoSuchLock h e = never cc
-names-conflict PassesEnd h e = never cc
-names-conflict (Conflict g) h e = let same : g ≡ h = cc in ap Conflict same
-names-conflict NoRecord h e = never cc
-names-conflict NoSpace h e = never cc
-names-conflict OpenMode h e = never cc
-names-conflict BadAccess h e = never cc
-names-conflict NoSuchFile h e = never cc
-names-conflict BadShare h e = never cc
-names-conflict NoFids h e = never cc
 
 -- ---- commands one behind the other
 
@@ -61,7 +41,7 @@ record MetFrom (c : Caller) (s : List ℕ) (just : ℕ) (bs : List Block) (place
   command : Block
   later : List Block
   split : bs ≡ front ++ (command ∷ later)
-  front-done : run c s just front place t memory .status ≡ status 0 0
+  front-done : run c s just front place t memory .forms .status ≡ status 0 0
   held : CommandHeld c (run c s just front place t memory .tables) (areaOf s command) (bodyMeant (meantAfter c s just front t memory) (command .body)) h
 
 module _ (c : Caller) (s : List ℕ) where
@@ -71,11 +51,10 @@ module _ (c : Caller) (s : List ℕ) where
       → ((u : Tables) (m : List ℕ) (said : Said) → g ≡ done u m said → run c s (openedBy said) bs (place + replySize said) u m .holder ≡ held-by h
       → MetFrom c s (openedBy said) bs (place + replySize said) u m h)
       → run c s just (b ∷ bs) place t memory .holder ≡ held-by h → MetFrom c s just (b ∷ bs) place t memory h
-  unfolding run after meantAfter
+  unfolding run after meantAfter heldIn
   met-by just b bs place t memory h (refused why) e k f n =
       let r = step-refused c s just b bs place t memory why e in
-      let w = names-conflict why h (sym (ap (λ (x : Ran). x .holder) r) ∙ n) in
-      record { front = []; command = b; later = bs; split = refl; front-done = refl; held = k (ap refused w) }
+      record { front = []; command = b; later = bs; split = refl; front-done = refl; held = k (sym (ap (λ (x : Ran). x .holder) r) ∙ n) }
   met-by just b bs place t memory h (done u m said) e k f n =
       let q = f u m said refl (sym (ap (λ (x : Ran). x .holder) (step-done c s just b bs place t memory u m said e)) ∙ n) in
       let part = step-done c s just b (q .front) place t memory u m said e in
@@ -84,7 +63,7 @@ module _ (c : Caller) (s : List ℕ) where
         command = q .command;
         later = q .later;
         split = ap (λ (l : List Block). b ∷ l) (q .split);
-        front-done = ap (λ (x : Ran). x .status) part ∙ q .front-done;
+        front-done = ap (λ (x : Ran). x .forms .status) part ∙ q .front-done;
         held = rw (part, meant-done c s just b (q .front) place t memory u m said e) (q .held);
       }
 
@@ -103,31 +82,32 @@ module _ (c : Caller) (s : List ℕ) where
     tables-left : run c s just bs place t memory .tables ≡ run c s just front place t memory .tables
 
   named-by : (just : ℕ) (b : Block) (bs front : List Block) (place : ℕ) (t : Tables) (memory : List ℕ) (h : Holder) (g : Given) → gives c s just b t memory ≡ g
-      → run c s just (b ∷ front) place t memory .status ≡ status 0 0
+      → run c s just (b ∷ front) place t memory .forms .status ≡ status 0 0
       → ((u : Tables) (m : List ℕ) (said : Said) → g ≡ done u m said → run c s just (b ∷ front) place t memory .tables ≡ run c s (openedBy said) front (place + replySize said) u m .tables
-      → run c s (openedBy said) front (place + replySize said) u m .status ≡ status 0 0 → PassedUp (openedBy said) bs front (place + replySize said) u m h)
+      → run c s (openedBy said) front (place + replySize said) u m .forms .status ≡ status 0 0 → PassedUp (openedBy said) bs front (place + replySize said) u m h)
       → PassedUp just (b ∷ bs) (b ∷ front) place t memory h
   unfolding after
   named-by just b bs front place t memory h (refused why) e zero f =
-      absurd (refusal-not-zero why (sym (ap (λ (x : Ran). x .status) (step-refused c s just b front place t memory why e)) ∙ zero))
+      absurd (refusal-not-zero why (sym (ap (λ (x : Ran). x .forms .status) (step-refused c s just b front place t memory why e)) ∙ zero))
   named-by just b bs front place t memory h (done u m said) e zero f =
       let whole = step-done c s just b bs place t memory u m said e in
       let part = step-done c s just b front place t memory u m said e in
       let same = ap (λ (x : Ran). x .tables) part in
-      let q = f u m said refl same (sym (ap (λ (x : Ran). x .status) part) ∙ zero) in
+      let q = f u m said refl same (sym (ap (λ (x : Ran). x .forms .status) part) ∙ zero) in
       record {
         holder-named = ap (λ (x : Ran). x .holder) whole ∙ q .holder-named;
         tables-left = ap (λ (x : Ran). x .tables) whole ∙ q .tables-left ∙ sym same;
       }
 
   met-run : (just : ℕ) (front : List Block) (command : Block) (later : List Block) (place : ℕ) (t : Tables) (memory : List ℕ) (h : Holder) → AllAnnounced s (front ++ (command ∷ later)) → Good t
-      → run c s just front place t memory .status ≡ status 0 0 → CommandHeld c (run c s just front place t memory .tables) (areaOf s command)
+      → run c s just front place t memory .forms .status ≡ status 0 0 → CommandHeld c (run c s just front place t memory .tables) (areaOf s command)
       (bodyMeant (meantAfter c s just front t memory) (command .body)) h → PassedUp just (front ++ (command ∷ later)) front place t memory h
   unfolding run holderOf meantAfter
   met-run just [] command later place t memory h (next-announced a more) g zero held =
-      let r = step-refused c s just command later place t memory (Conflict h)
+      let w = held-refused (gives c s just command t memory) h
       (perform-held c t memory (g .sound) (bodyMeant just (command .body)) (areaOf s command) (dataOf s command) (meant-announced just (command .body) (areaOf s command) a) h .1 held) in
-      record { holder-named = ap (λ (x : Ran). x .holder) r; tables-left = ap (λ (x : Ran). x .tables) r }
+      let r = step-refused c s just command later place t memory (w .0) (w .1) in
+      record { holder-named = ap (λ (x : Ran). x .holder) r ∙ w .2; tables-left = ap (λ (x : Ran). x .tables) r }
   met-run just (b ∷ front) command later place t memory h (next-announced a more) g zero held =
       named-by just b (front ++ (command ∷ later)) front place t memory h (gives c s just b t memory) refl zero
       (λ u m said d same z. met-run (openedBy said) front command later (place + replySize said) u m h more (left-good c s just b t memory g u m said d) z
@@ -142,7 +122,7 @@ pub record Met (connection : ℕ) (s : List ℕ) (t : Tables) (memory : List ℕ
   pub later : List Block
   pub read : blocks s ≡ some (front ++ (command ∷ later))
   -- "Commands before it in the chain stand": carried out alone they are done
-  pub front-done : run (callerOf connection s) s NOBODY front FIRST t memory .status ≡ status 0 0
+  pub front-done : run (callerOf connection s) s NOBODY front FIRST t memory .forms .status ≡ status 0 0
   -- its FID 0xFFFF is what the last of them opened (document 02, CR 6)
   pub held : CommandHeld (callerOf connection s) (run (callerOf connection s) s NOBODY front FIRST t memory .tables) (areaOf s command)
       (bodyMeant (meantAfter (callerOf connection s) s NOBODY front t memory) (command .body)) h

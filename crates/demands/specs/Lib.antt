@@ -1,3 +1,4 @@
+pub mod StatusRead
 pub mod HolderBeside
 pub mod Malformed
 pub mod PerformMoved
@@ -8,10 +9,12 @@ pub mod Carrying
 pub mod OneByOne
 pub mod OneByOneReply
 pub mod LoneLock
+pub mod ConflictCodes
 pub mod MemorySize
 pub mod Taken
 pub mod CallsOneByOne
 pub mod Calls
+pub mod NtStatus
 pub mod RefusedCall
 pub mod MessageReasons
 pub mod NotServed

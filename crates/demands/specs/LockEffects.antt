@@ -35,12 +35,12 @@ use Rattle.invariants.specs.Fit.{Fit}
 use Rattle.readings.specs.SameNumbers.{same-16, same-32}
 use Rattle.message.specs.Caller.{callerOf}
 use Rattle.message.specs.declared.caller.Caller.{Caller}
-use Rattle.message.specs.Refusal.{status}
+use Rattle.message.specs.Refusal.{status, success}
 use Rattle.message.specs.declared.link.Link.the-variants.{None as noLink}
 use Rattle.message.specs.Command.{Said, plain, done, withLockList, doLocking, oneRange, doRange, perform}
 use Rattle.message.specs.Reply.{replyHeader, replyBlock, replySize}
 use Rattle.message.specs.Message.{areaOf, Taken, take-message}
-use Rattle.demands.specs.Calls.{statusRead}
+use Rattle.demands.specs.StatusRead.{statusRead}
 use Rattle.demands.specs.Admitted.{Admitted}
 use Rattle.demands.specs.LoneLock.{InWay, AnyLock, coreRange, sharedIn}
 use Rattle.demands.specs.LoneCall.{area-first, lockingFields, lockingArea}
@@ -295,7 +295,7 @@ module _ (connection : ℕ) (s : List ℕ) {span : Span} (r : Reading s (span �
   plain-reply : ran .said ≡ plain → PlainBlock (call .room) × (call .length ≡ 35)
   unfolding replySize
   plain-reply e =
-      let w : call .room ≡ put room 0 (replyHeader s (status 0 0) ++ replyBlock plain FIRST noLink) = rw e at (ran .reply) in
+      let w : call .room ≡ put room 0 (replyHeader s success ++ replyBlock plain FIRST noLink) = rw e at (ran .reply) in
       (rw w (plain-block s (long-enough s (fit .not-dropped)) room), rw e at (ran .reply-length))
 
   pub lock-reading : headerCommand s ≡ LOCK_BYTE_RANGE → LockRangeDone connection s t memory call

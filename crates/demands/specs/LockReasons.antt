@@ -24,7 +24,7 @@ use Rattle.message.specs.Caller.{callerOf}
 use Rattle.message.specs.Refusal.{status}
 use Rattle.message.specs.declared.refusal.Status.{Status}
 use Rattle.message.specs.Message.{take-message}
-use Rattle.demands.specs.Calls.{statusRead}
+use Rattle.demands.specs.StatusRead.{statusRead}
 use Rattle.demands.specs.Admitted.{Admitted, NoOpenFor}
 use Rattle.demands.specs.LoneLock.{sharedIn}
 use Rattle.demands.specs.LoneCall.{FirstConflict, lockingFields, lone-lock-reading}

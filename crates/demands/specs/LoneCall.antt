@@ -32,10 +32,10 @@ use Rattle.invariants.specs.BlockParse.{bodyAt, blockAt}
 use Rattle.readings.specs.ReaderComplete.{reader-complete}
 use Rattle.invariants.specs.Chained.{Chained, chained-end, chained-more, read-chained}
 use Rattle.message.specs.Caller.{callerOf}
-use Rattle.message.specs.Refusal.{status, statusOf}
+use Rattle.message.specs.Refusal.{status, formsOf, statusOf}
 use Rattle.message.specs.declared.refusal.Status.{Status}
 use Rattle.message.specs.declared.refusal.Refusal.{Refusal}
-use Rattle.message.specs.declared.refusal.Refusal.the-variants.{NotServed, NotSentence, NoSession, NoTree, NoOpen, NoAccess, LockType, NoSuchLock, PassesEnd, Conflict, NoRecord, NoSpace, OpenMode, BadAccess, NoSuchFile, BadShare, NoFids}
+use Rattle.message.specs.declared.refusal.Refusal.the-variants.{NotServed, NotSentence, NoSession, NoTree, NoOpen, NoAccess, LockType, NoSuchLock, PassesEnd, LockNotGranted, FileLockConflict, NoRecord, NoSpace, OpenMode, BadAccess, NoSuchFile, BadShare, NoFids}
 use Rattle.message.specs.declared.caller.Caller.{Caller}
 use Rattle.message.specs.Command.{Said, locked, loggedOff, read, wrote, plain, coreRead, coreWrote, opened, Given, refused, done, doLocking, doRead, doWrite, perform}
 use Rattle.message.specs.JustOpened.{openedBy, bodyMeant}
@@ -44,11 +44,12 @@ use Rattle.message.specs.Message.{areaOf, dataOf, Ran, after, linkTo, afterGive
 use Rattle.invariants.specs.JustOpenedLaws.{run-first}
 use Rattle.demands.specs.Malformed.{length-area}
 use Rattle.invariants.specs.ReplySize.{length-block}
-use Rattle.demands.specs.LoneLock.{Conflicts, BarsLock, read-conflict, write-conflict, loneRange, sharedIn, lock-conflict}
+use Rattle.demands.specs.LoneLock.{heldIn, held-status, Conflicts, BarsLock, read-conflict, write-conflict, loneRange, sharedIn, lock-conflict}
 use Rattle.demands.specs.Admitted.{Admitted, admitted-may}
 use Rattle.demands.specs.CommandReasons.{BarsRead, BarsWrite, OnlyTwoBits, served-exact}
 use Rattle.invariants.specs.Fit.{Fit}
-use Rattle.demands.specs.Calls.{statusRead, status-call, sentence-answered, length-call}
+use Rattle.demands.specs.StatusRead.{statusRead}
+use Rattle.demands.specs.Calls.{status-call, sentence-answered, length-call}
 
 -- the call's reply says that the first command is refused for conflict: Status 1/33 in a reply of 35 bytes, the header and one refused block. (Where a later
 -- command is refused, the reply has the first one's block too.)
@@ -68,7 +69,7 @@ never : {P : Type 0} (x y : Status) → x ≡ y → (x .code ≡ y .code → ⊥
 never x y e n = absurd (n (ap (λ (s : Status). s .code) e))
 
 conflict-status : (why : Refusal) → statusOf why ≡ status 1 33 → Conflicts (refused why)
-unfolding statusOf status
+unfolding formsOf status heldIn
 conflict-status NotServed e = never _ _ e (λ q. omega arith)
 conflict-status NotSentence e = never _ _ e (λ q. omega arith)
 conflict-status NoSession e = never _ _ e (λ q. omega arith)
@@ -78,7 +79,8 @@ conflict-status NoAccess e = never _ _ e (λ q. omega arith)
 conflict-status LockType e = never _ _ e (λ q. omega arith)
 conflict-status NoSuchLock e = never _ _ e (λ q. omega arith)
 conflict-status PassesEnd e = never _ _ e (λ q. omega arith)
-conflict-status (Conflict h) e = (h, refl)
+conflict-status (LockNotGranted h) e = (h, refl)
+conflict-status (FileLockConflict h) e = (h, refl)
 conflict-status NoRecord e = never _ _ e (λ q. omega arith)
 conflict-status NoSpace e = never _ _ e (λ q. omega arith)
 conflict-status OpenMode e = never _ _ e (λ q. omega arith)
@@ -89,6 +91,7 @@ conflict-status NoFids e = never _ _ e (λ q. omega arith)
 
 -- a command that is done is not refused for conflict
 done-conflict : (u : Tables) (m : List ℕ) (said : Said) → Conflicts (done u m said) → ⊥
+unfolding heldIn
 done-conflict u m said k = let e = k .1 in let z : _≡_ {A = ℕ} 0 1 = cc in omega arith
 
 -- no reply block is shorter than 3
@@ -114,7 +117,7 @@ given-least (done u m said) bs place t memory rest =
     rw (length-append (replyBlock said place (linkTo bs (place + replySize said))) (rest (openedBy said) (place + replySize said) u m .blocks)) (omega arith)
 
 -- commands that end with 1/33 give a block
-run-least : (c : Caller) (s : List ℕ) (bs : List Block) (just place : ℕ) (t : Tables) (memory : List ℕ) → run c s just bs place t memory .status ≡ status 1 33
+run-least : (c : Caller) (s : List ℕ) (bs : List Block) (just place : ℕ) (t : Tables) (memory : List ℕ) → run c s just bs place t memory .forms .status ≡ status 1 33
     → 3 ≤ length (run c s just bs place t memory .blocks)
 unfolding run status
 run-least c s [] just place t memory e = never _ _ e (λ q. omega arith)
@@ -123,12 +126,12 @@ run-least c s (b ∷ bs) just place t memory e =
 
 -- the first command is refused for conflict exactly if the status is 1/33 and there is one block: a later one's stands behind the first one's
 given-conflict : (g : Given) (bs : List Block) (place : ℕ) (t : Tables) (memory : List ℕ) (rest : ℕ → ℕ → Tables → List ℕ → Ran)
-    → ((j p : ℕ) (u : Tables) (m : List ℕ) → rest j p u m .status ≡ status 1 33 → 3 ≤ length (rest j p u m .blocks))
-    → ((afterGiven g bs place t memory rest .status ≡ status 1 33) × (length (afterGiven g bs place t memory rest .blocks) ≡ 3)) ↔ Conflicts g
-unfolding afterGiven after statusOf refusedBlock
+    → ((j p : ℕ) (u : Tables) (m : List ℕ) → rest j p u m .forms .status ≡ status 1 33 → 3 ≤ length (rest j p u m .blocks))
+    → ((afterGiven g bs place t memory rest .forms .status ≡ status 1 33) × (length (afterGiven g bs place t memory rest .blocks) ≡ 3)) ↔ Conflicts g
+unfolding afterGiven after refusedBlock heldIn
 given-conflict (refused why) bs place t memory rest h = (
   λ e. conflict-status why (e .0),
-  λ k. (ap (λ (x : Given). afterGiven x bs place t memory rest .status) (k .1), refl),
+  λ k. (held-status why (k .0) (k .1), refl),
 )
 given-conflict (done u m said) bs place t memory rest h = (
   λ e. let a : 3 ≤ length (rest (openedBy said) (place + replySize said) u m .blocks) = h _ _ u m (e .0) in
@@ -188,7 +191,7 @@ module _ (connection : ℕ) (s : List ℕ) (b : Block) (bs : List Block) (e : bl
   pub first-conflict : FirstConflict (take-message connection s t memory room) ↔ Conflicts first-given
   first-conflict =
       let a = sentence-answered connection s t memory (b ∷ bs) e ∙ run-first (callerOf connection s) s b bs FIRST t memory in
-      let same : statusRead (take-message connection s t memory room .room) ≡ first-ran .status = status-call connection s t memory room fit ∙ ap (λ (r : Ran). r .status) a in
+      let same : statusRead (take-message connection s t memory room .room) ≡ first-ran .forms .status = status-call connection s t memory room fit ∙ ap (λ (r : Ran). r .forms .status) a in
       let long : take-message connection s t memory room .length ≡ 32 + length (first-ran .blocks) =
       length-call connection s t memory room fit ∙ ap (λ (r : Ran). 32 + length (r .blocks)) a in
       let exact = given-conflict first-given bs FIRST t memory (λ j p u m. run (callerOf connection s) s j bs p u m) (λ j p. run-least (callerOf connection s) s bs j p) in (
@@ -200,8 +203,8 @@ module _ (connection : ℕ) (s : List ℕ) (b : Block) (bs : List Block) (e : bl
   -- so whatever a conflict of the first command comes to, the reply says
   first-says : {P : Type 0} (g : Given) → first-given ≡ g → Conflicts g ↔ P → FirstConflict (take-message connection s t memory room) ↔ P
   first-says g same exact = (
-    λ h. let q = first-conflict .0 h in exact .0 (q .0, sym same ∙ q .1),
-    λ p. let q = exact .1 p in first-conflict .1 (q .0, same ∙ q .1),
+    λ h. let q = first-conflict .0 h in exact .0 (q .0, sym (ap heldIn same) ∙ q .1),
+    λ p. let q = exact .1 p in first-conflict .1 (q .0, ap heldIn same ∙ q .1),
   )
 
   -- the open o that the command names
@@ -243,19 +246,19 @@ module _ (connection : ℕ) (s : List ℕ) (b : Block) (bs : List Block) (e : bl
 
 -- ---- a message of one command: every reply with 1/33 is 35 bytes long
 
-one-length : (g : Given) (place : ℕ) (t : Tables) (memory : List ℕ) (rest : ℕ → ℕ → Tables → List ℕ → Ran) → ((j p : ℕ) (u : Tables) (m : List ℕ) → rest j p u m .status ≡ status 0 0)
-    → afterGiven g [] place t memory rest .status ≡ status 1 33 → length (afterGiven g [] place t memory rest .blocks) ≡ 3
+one-length : (g : Given) (place : ℕ) (t : Tables) (memory : List ℕ) (rest : ℕ → ℕ → Tables → List ℕ → Ran) → ((j p : ℕ) (u : Tables) (m : List ℕ) → rest j p u m .forms .status ≡ status 0 0)
+    → afterGiven g [] place t memory rest .forms .status ≡ status 1 33 → length (afterGiven g [] place t memory rest .blocks) ≡ 3
 unfolding afterGiven after status refusedBlock
 one-length (refused why) place t memory rest h e = refl
 one-length (done u m said) place t memory rest h e = never _ _ (sym (h _ _ u m) ∙ e) (λ q. omega arith)
 
 module _ (connection : ℕ) (s : List ℕ) (b : Block) (e : blocks s ≡ some (b ∷ [])) (t : Tables) (memory room : List ℕ) (fit : Fit s t memory room) where
-  one-reply : statusRead (take-message connection s t memory room .room) ≡ status 1 33 → take-message connection s t memory room .length ≡ 35
+  pub one-reply : statusRead (take-message connection s t memory room .room) ≡ status 1 33 → take-message connection s t memory room .length ≡ 35
   unfolding run
   one-reply h =
       let a = sentence-answered connection s t memory (b ∷ []) e ∙ run-first (callerOf connection s) s b [] FIRST t memory in
-      let same : first-ran connection s b [] e t memory room fit .status ≡ status 1 33 =
-      sym (ap (λ (r : Ran). r .status) a) ∙ sym (status-call connection s t memory room fit) ∙ h in
+      let same : first-ran connection s b [] e t memory room fit .forms .status ≡ status 1 33 =
+      sym (ap (λ (r : Ran). r .forms .status) a) ∙ sym (status-call connection s t memory room fit) ∙ h in
       length-call connection s t memory room fit
       ∙ ap (λ (r : Ran). 32 + length (r .blocks)) a
       ∙ ap (λ (n : ℕ). 32 + n) (one-length (first-given connection s b [] e t memory room fit) FIRST t memory (λ j p u m. run (callerOf connection s) s j [] p u m) (λ j p u m. refl) same)

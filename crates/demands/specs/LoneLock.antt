@@ -38,14 +38,55 @@ use Rattle.chain.specs.declared.block.RangeFields.{RangeFields}
 use Rattle.message.specs.declared.caller.Caller.{Caller}
 use Rattle.message.specs.Contents.{sizeOf, grown, withSize}
 use Rattle.message.specs.Command.{Given, Said, coreWrote, refused, done, isSession, withSession, withTree, isOpen, openAt, withOpen, servedType, requestOf, lockingEnd, lockingAfter, doLocking, askBy, unlessBarred, barring, doRead, writing, endsPast, doWrite, asCore, rangeBy, oneRange, doRange, betweenSizes, doSetSize}
-use Rattle.message.specs.declared.refusal.Refusal.the-variants.{Conflict, NoSpace}
+use Rattle.message.specs.Refusal.{status, formsOf, statusOf, holderOf}
+use Rattle.message.specs.declared.refusal.HeldBy.{HeldBy}
+use Rattle.message.specs.declared.refusal.HeldBy.the-variants.{Nobody, Holder as held-by}
+use Rattle.message.specs.declared.refusal.Refusal.{Refusal}
+use Rattle.message.specs.declared.refusal.Refusal.the-variants.{NotServed, NotSentence, NoSession, NoTree, NoOpen, NoAccess, LockType, NoSuchLock, PassesEnd, LockNotGranted, FileLockConflict, NoRecord, NoSpace, OpenMode, BadAccess, NoSuchFile, BadShare, NoFids}
 use Rattle.invariants.specs.GivenCases.{cond-case}
 use Rattle.invariants.specs.FoundFacts.{found-hit, found-miss}
 use Rattle.invariants.specs.Sound.{open-hit, open-fid}
 
--- the command's refusal is 1/33
+-- the holder that a command's refusal names: of a conflict, and of nothing else
+unfoldable pub heldIn : Given → HeldBy
+unfolding holderOf
+heldIn (refused why) = holderOf why
+heldIn (done t memory said) = Nobody
+
+-- the command is refused for conflict: a lock, a read or a write
 abbrev pub Conflicts : Given → Type 0
-Conflicts g = (h : Holder) × (g ≡ refused (Conflict h))
+Conflicts g = (h : Holder) × (heldIn g ≡ held-by h)
+
+pub nobody-holds : {h : Holder} → Nobody ≡ held-by h → ⊥
+nobody-holds e = let z : _≡_ {A = ℕ} 0 1 = cc in omega arith
+
+-- the refusals that name a holder are those of 1/33
+pub held-status : (why : Refusal) (h : Holder) → holderOf why ≡ held-by h → statusOf why ≡ status 1 33
+unfolding holderOf formsOf status
+held-status NotServed h e = absurd (nobody-holds e)
+held-status NotSentence h e = absurd (nobody-holds e)
+held-status NoSession h e = absurd (nobody-holds e)
+held-status NoTree h e = absurd (nobody-holds e)
+held-status NoOpen h e = absurd (nobody-holds e)
+held-status NoAccess h e = absurd (nobody-holds e)
+held-status LockType h e = absurd (nobody-holds e)
+held-status NoSuchLock h e = absurd (nobody-holds e)
+held-status PassesEnd h e = absurd (nobody-holds e)
+held-status (LockNotGranted g) h e = refl
+held-status (FileLockConflict g) h e = refl
+held-status NoRecord h e = absurd (nobody-holds e)
+held-status NoSpace h e = absurd (nobody-holds e)
+held-status OpenMode h e = absurd (nobody-holds e)
+held-status BadAccess h e = absurd (nobody-holds e)
+held-status NoSuchFile h e = absurd (nobody-holds e)
+held-status BadShare h e = absurd (nobody-holds e)
+held-status NoFids h e = absurd (nobody-holds e)
+
+-- a command that names a holder is refused by one of them
+pub held-refused : (g : Given) (h : Holder) → heldIn g ≡ held-by h → (why : Refusal) × (g ≡ refused why) × (holderOf why ≡ held-by h)
+unfolding heldIn
+held-refused (refused why) h e = (why, refl, e)
+held-refused (done t memory said) h e = absurd (nobody-holds e)
 
 -- the caller has a session, a tree and the open that stands k-th
 pub record May (c : Caller) (t : Tables) (fid k : ℕ) : Type 0 where
@@ -189,15 +230,17 @@ module _ (c : Caller) (t : Tables) (fid k : ℕ) (may : May c t fid k) where
 -- ---- reading and writing
 
 unless-exact : (t : Tables) (f : Found) (next : Given) → (Conflicts next → ⊥) → Conflicts (unlessBarred t f next) ↔ ((k : ℕ) × (f ≡ At k))
-unfolding unlessBarred
+unfolding unlessBarred heldIn
 unless-exact t (At k) next n = (λ h. (k, refl), λ h. (_, refl))
 unless-exact t Nothing next n = (λ h. absurd (n h), λ h. let f = h .1 in let z : _≡_ {A = ℕ} 0 1 = cc in absurd (omega arith))
 
 done-not : (u : Tables) (m : List ℕ) (said : Said) → Conflicts (done u m said) → ⊥
-done-not u m said h = let e = h .1 in let z : _≡_ {A = ℕ} 0 1 = cc in omega arith
+unfolding heldIn
+done-not u m said h = nobody-holds (h .1)
 
 space-not : Conflicts (refused NoSpace) → ⊥
-space-not h = let e = h .1 in let z : _≡_ {A = ℕ} 0 1 = cc in omega arith
+unfolding heldIn
+space-not h = nobody-holds (h .1)
 
 module _ (c : Caller) (t : Tables) (memory : List ℕ) (k : ℕ) (ok : sound t ≡ true) where
   -- "A read is refused 1/33 exactly if an exclusive lock of another owner overlaps offset and max."
@@ -248,11 +291,11 @@ module _ (c : Caller) (t : Tables) (memory : List ℕ) (k : ℕ) (ok : sound t �
 -- what a lone range's walk found decides
 lone-exact : (t : Tables) (memory : List ℕ) (f : Found) (before list : List Lock)
     → Conflicts (lockingAfter t memory (settle (t .locks) (t .nlocks) (afterGrants (afterWalk f before (granted list))))) ↔ ((k : ℕ) × (f ≡ At k))
-unfolding afterGrants afterWalk settle lockingAfter lockingEnd
+unfolding afterGrants afterWalk settle lockingAfter lockingEnd heldIn
 lone-exact t memory (At k) before list = (λ h. (k, refl), λ h. (_, refl))
 lone-exact t memory Nothing before list = (
   λ h. absurd (cond-case (λ (r : Result). Conflicts (lockingAfter t memory (settle (t .locks) (t .nlocks) r)) → ⊥) (leb (length list) 128) (doneWith list) (refusedBy NoRoom)
-      (λ _. done-not _ _ _) (λ _ h. let e = h .1 in let z : _≡_ {A = ℕ} 0 1 = cc in omega arith) h),
+      (λ _ h. nobody-holds (h .1)) (λ _ h. nobody-holds (h .1)) h),
   λ h. let f = h .1 in let z : _≡_ {A = ℕ} 0 1 = cc in absurd (omega arith),
 )
 
@@ -291,9 +334,9 @@ module _ (c : Caller) (t : Tables) (memory : List ℕ) (k : ℕ) (ok : sound t �
 
 -- the core command's reply block is another; its refusal is the counterpart's
 pub core-conflict : (g : Given) → Conflicts (asCore g) ↔ Conflicts g
-unfolding asCore
+unfolding asCore heldIn
 core-conflict (refused why) = (λ h. h, λ h. h)
-core-conflict (done u m said) = (λ h. absurd (done-not _ _ _ h), λ h. absurd (done-not _ _ _ h))
+core-conflict (done u m said) = (λ h. absurd (nobody-holds (h .1)), λ h. absurd (nobody-holds (h .1)))
 
 -- what is read of the one range of a core command is the range that it has
 pub range-back : (c : Caller) (f : RangeFields) → ofHeader (c .process / 65536) (rangeAt false (smallForm (rangeBy c f)) 0) ≡ coreRange c f

@@ -34,13 +34,13 @@ use Rattle.invariants.specs.Chained.{Chained, chained-end, chained-more, read-c
 use Rattle.readings.specs.ReaderComplete.{no-sentence}
 use Rattle.message.specs.Caller.{callerOf}
 use Rattle.message.specs.declared.caller.Caller.{Caller}
-use Rattle.message.specs.Refusal.{status, statusOf}
+use Rattle.message.specs.Refusal.{status, forms, formsOf, statusOf}
 use Rattle.message.specs.declared.refusal.Status.{Status}
 use Rattle.message.specs.Command.{Given, Said, refused, done, servedType, requestOf, lockingEnd, lockingAfter, doLocking, doRead, doWrite, endsPast, asCore, oneRange, doRange, doSetSize, doCoreWrite, doOpen, perform}
 use Rattle.message.specs.JustOpened.{NOBODY, bodyMeant}
 use Rattle.message.specs.Message.{areaOf, Ran, after, afterGiven, run, served, onlyStatus, runChain, answered}
 use Rattle.message.specs.declared.refusal.Refusal.{Refusal}
-use Rattle.message.specs.declared.refusal.Refusal.the-variants.{NoSession, NoTree, NoOpen, NoAccess, LockType, NoSuchLock, PassesEnd, Conflict, NoRecord, NoSpace, OpenMode, BadAccess, NoSuchFile, BadShare, NoFids}
+use Rattle.message.specs.declared.refusal.Refusal.the-variants.{NoSession, NoTree, NoOpen, NoAccess, LockType, NoSuchLock, PassesEnd, LockNotGranted, FileLockConflict, NoRecord, NoSpace, OpenMode, BadAccess, NoSuchFile, BadShare, NoFids, NotServed, NotSentence}
 use Rattle.invariants.specs.GivenCases.{cond-case, request-case, session-case, tree-case, open-case, barred-case, writing-case, opening-case}
 
 -- a command is done, or refused with another status than 2/1
@@ -55,63 +55,67 @@ other-code why n = other-refusal (λ e. n (ap (λ (x : Status). x .code) e))
 
 -- the refusals that a command can end with
 other-session : Other (refused NoSession)
-unfolding statusOf status
+unfolding formsOf status
 other-session = other-code NoSession (λ e. omega arith)
 
 other-tree : Other (refused NoTree)
-unfolding statusOf status
+unfolding formsOf status
 other-tree = other-code NoTree (λ e. omega arith)
 
 other-open : Other (refused NoOpen)
-unfolding statusOf status
+unfolding formsOf status
 other-open = other-code NoOpen (λ e. omega arith)
 
 other-access : Other (refused NoAccess)
-unfolding statusOf status
+unfolding formsOf status
 other-access = other-code NoAccess (λ e. omega arith)
 
 other-type : Other (refused LockType)
-unfolding statusOf status
+unfolding formsOf status
 other-type = other-code LockType (λ e. omega arith)
 
 other-lock : Other (refused NoSuchLock)
-unfolding statusOf status
+unfolding formsOf status
 other-lock = other-code NoSuchLock (λ e. omega arith)
 
 other-past : Other (refused PassesEnd)
-unfolding statusOf status
+unfolding formsOf status
 other-past = other-code PassesEnd (λ e. omega arith)
 
-other-conflict : (h : Holder) → Other (refused (Conflict h))
-unfolding statusOf status
-other-conflict h = other-code (Conflict h) (λ e. omega arith)
+other-granted : (h : Holder) → Other (refused (LockNotGranted h))
+unfolding formsOf status
+other-granted h = other-code (LockNotGranted h) (λ e. omega arith)
+
+other-conflict : (h : Holder) → Other (refused (FileLockConflict h))
+unfolding formsOf status
+other-conflict h = other-code (FileLockConflict h) (λ e. omega arith)
 
 other-record : Other (refused NoRecord)
-unfolding statusOf status
+unfolding formsOf status
 other-record = other-code NoRecord (λ e. omega arith)
 
 other-space : Other (refused NoSpace)
-unfolding statusOf status
+unfolding formsOf status
 other-space = other-code NoSpace (λ e. omega arith)
 
 other-mode : Other (refused OpenMode)
-unfolding statusOf status
+unfolding formsOf status
 other-mode = other-code OpenMode (λ e. omega arith)
 
 other-codes : Other (refused BadAccess)
-unfolding statusOf status
+unfolding formsOf status
 other-codes = other-code BadAccess (λ e. omega arith)
 
 other-file : Other (refused NoSuchFile)
-unfolding statusOf status
+unfolding formsOf status
 other-file = other-code NoSuchFile (λ e. omega arith)
 
 other-share : Other (refused BadShare)
-unfolding statusOf status
+unfolding formsOf status
 other-share = other-code BadShare (λ e. omega arith)
 
 other-fids : Other (refused NoFids)
-unfolding statusOf status
+unfolding formsOf status
 other-fids = other-code NoFids (λ e. omega arith)
 
 -- a core command is refused as its counterpart
@@ -126,7 +130,7 @@ locking-other : (t : Tables) (memory : List ℕ) (file : ℕ → ℕ) (q : Reque
 unfolding locking settle lockingAfter lockingEnd
 locking-other t memory file q area e =
     rw (eq-eqb (length area) ((q .unlocks + q .locks) * rangeSize (q .large)) e)
-    (request-case (λ (r : Result). Other (lockingAfter t memory (settle (t .locks) (t .nlocks) r))) other-lock other-past other-conflict other-record file
+    (request-case (λ (r : Result). Other (lockingAfter t memory (settle (t .locks) (t .nlocks) r))) other-lock other-past other-granted other-record file
     (q .fid) (q .shared) (rangesOf q area (q .unlocks) (q .locks)) (rangesOf q area 0 (q .unlocks)) (take (t .nlocks) (t .locks))
     (λ left list _ _ _ _. no-refusal))
 
@@ -196,7 +200,7 @@ block-other c t memory (open-15 h) area bytes e just = do-open-other c t memory 
 
 -- a status other than 2/1, before a chain whose status is another too
 after-other : {g : Given} → Other g → (bs : List Block) (place : ℕ) (t : Tables) (memory : List ℕ) (rest : ℕ → ℕ → Tables → List ℕ → Ran)
-    → ((j p : ℕ) (t′ : Tables) (m : List ℕ) → rest j p t′ m .status ≡ status 2 1 → ⊥) → afterGiven g bs place t memory rest .status ≡ status 2 1 → ⊥
+    → ((j p : ℕ) (t′ : Tables) (m : List ℕ) → rest j p t′ m .forms .status ≡ status 2 1 → ⊥) → afterGiven g bs place t memory rest .forms .status ≡ status 2 1 → ⊥
 unfolding afterGiven after
 after-other (other-refusal n) bs place t memory rest f = n
 after-other no-refusal bs place t memory rest f = f _ _ _ _
@@ -207,7 +211,7 @@ done-other e = let n : _≡_ {A = ℕ} 0 1 = ap (λ (x : Status). x .code) e in 
 
 -- the blocks of a reading never end with 2/1
 pub run-other : {s : List ℕ} {command at : ℕ} {bs : List Block} (c : Caller) → Chained s command at bs → (just place : ℕ) (t : Tables) (memory : List ℕ)
-    → run c s just bs place t memory .status ≡ status 2 1 → ⊥
+    → run c s just bs place t memory .forms .status ≡ status 2 1 → ⊥
 unfolding run blockAt
 run-other {s} c (chained-end {command} {at} h l) just place t memory =
     after-other (block-other c t memory h _ _ (length-area h _) just) _ place t memory _ (λ _ _ _ _. done-other)
@@ -216,19 +220,19 @@ run-other {s} c (chained-more {command} {at} h l r) just place t memory =
 
 module _ (c : Caller) (s : List ℕ) (t : Tables) (memory : List ℕ) where
   -- of what the reader answers, only that there is no reading ends with 2/1
-  chain-malformed : (o : Option (List Block)) → blocks s ≡ o → runChain c s o t memory .status ≡ status 2 1 → o ≡ none
+  chain-malformed : (o : Option (List Block)) → blocks s ≡ o → runChain c s o t memory .forms .status ≡ status 2 1 → o ≡ none
   unfolding runChain blocks
   chain-malformed none e f = refl
   chain-malformed (some bs) e f = absurd (run-other c (read-chained s (headerCommand s) FIRST bs e) NOBODY FIRST t memory f)
 
-  chain-unread : blocks s ≡ none → runChain c s (blocks s) t memory .status ≡ status 2 1
-  unfolding runChain onlyStatus statusOf
+  chain-unread : blocks s ≡ none → runChain c s (blocks s) t memory .forms .status ≡ status 2 1
+  unfolding runChain onlyStatus formsOf
   chain-unread e = rw e
 
 -- "Answered as malformed: 0, Status 2/1" and "2/1 not a sentence": a message with a served command is so answered exactly if
 -- it is no sentence
 pub malformed : (connection : ℕ) (s : List ℕ) (t : Tables) (memory : List ℕ) → served (headerCommand s) ≡ true
-    → (answered connection s t memory .status ≡ status 2 1) ↔ (Sentence s → ⊥)
+    → (answered connection s t memory .forms .status ≡ status 2 1) ↔ (Sentence s → ⊥)
 unfolding answered
 malformed connection s t memory e = rw e (
   λ f. no-sentence s .0 (chain-malformed (callerOf connection s) s t memory (blocks s) refl f),
@@ -237,12 +241,12 @@ malformed connection s t memory e = rw e (
 
 -- and then "2/22 and 2/1 come before anything is carried out"
 pub malformed-nothing : (connection : ℕ) (s : List ℕ) (t : Tables) (memory : List ℕ) → served (headerCommand s) ≡ true → (Sentence s → ⊥)
-    → answered connection s t memory ≡ onlyStatus (status 2 1) t memory
-unfolding answered runChain statusOf
+    → answered connection s t memory ≡ onlyStatus (forms 2 1 0x00010002) t memory
+unfolding answered runChain formsOf status
 malformed-nothing connection s t memory e n = rw (e, no-sentence s .1 n)
 
 -- "2/22 header command not served", and nothing is carried out
 pub not-served : (connection : ℕ) (s : List ℕ) (t : Tables) (memory : List ℕ) → served (headerCommand s) ≡ false
-    → answered connection s t memory ≡ onlyStatus (status 2 22) t memory
-unfolding answered statusOf
+    → answered connection s t memory ≡ onlyStatus (forms 2 22 0x00160002) t memory
+unfolding answered formsOf status
 not-served connection s t memory e = rw e

@@ -32,7 +32,7 @@ use Rattle.invariants.specs.BlockParse.{bodyAt, blockAt}
 use Rattle.invariants.specs.Chained.{Chained, chained-end, chained-more, read-chained}
 use Rattle.message.specs.Caller.{callerOf}
 use Rattle.message.specs.declared.caller.Caller.{Caller}
-use Rattle.message.specs.Refusal.{statusOf}
+use Rattle.message.specs.Refusal.{formsOf}
 use Rattle.message.specs.Contents.{sizeOf, grown, written}
 use Rattle.message.specs.Command.{Said, Given, refused, done, servedType, requestOf, lockingEnd, lockingAfter, doLocking, doRead, doWrite, endsPast, asCore, oneRange, doRange, doSetSize, doCoreWrite, doOpen, perform}
 use Rattle.message.specs.JustOpened.{NOBODY, bodyMeant}
@@ -197,4 +197,4 @@ pub answered-memory : (connection : ℕ) (s : List ℕ) (t : Tables) (memory : L
 unfolding answered onlyStatus
 answered-memory connection s t memory g full =
     cond-case (λ (r : Ran). length (r .memory) ≡ 65536) (served (headerCommand s)) (runChain (callerOf connection s) s (blocks s) t memory)
-    (onlyStatus (statusOf NotServed) t memory) (λ _. chain-leaves (callerOf connection s) s (blocks s) refl t memory g full) (λ _. full)
+    (onlyStatus (formsOf NotServed) t memory) (λ _. chain-leaves (callerOf connection s) s (blocks s) refl t memory g full) (λ _. full)

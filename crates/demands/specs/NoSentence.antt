@@ -11,8 +11,9 @@ use Rattle.lists.specs.Truth.{decided}
 use Rattle.records.specs.declared.Tables.{Tables}
 use Rattle.chain.specs.Layout.{headerCommand}
 use Rattle.chain.specs.Grammar.{Sentence}
+use Rattle.message.specs.Refusal.{status}
 use Rattle.message.specs.Reply.{refusedBlock}
-use Rattle.message.specs.declared.refusal.Status.{Status}
+use Rattle.message.specs.declared.refusal.Forms.{Forms}
 use Rattle.message.specs.declared.refusal.HeldBy.the-variants.{Nobody}
 use Rattle.message.specs.Message.{Ran, served, onlyStatus, answered, replyOf, Taken, replied, take-message}
 use Rattle.invariants.specs.Fit.{Fit, fit-answered}
@@ -24,7 +25,7 @@ use Rattle.demands.specs.RefusedCall.{Untouched}
 
 module _ (connection : ℕ) (s : List ℕ) (t : Tables) (memory room : List ℕ) (fit : Fit s t memory room) where
   -- the message is answered with a status alone
-  only-status : (n : Status) → answered connection s t memory ≡ onlyStatus n t memory
+  only-status : (n : Forms) → answered connection s t memory ≡ onlyStatus n t memory
       → Untouched t memory (take-message connection s t memory room) × (take-message connection s t memory room .length ≡ 35)
       × (take-message connection s t memory room .holder ≡ Nobody) × PlainBlock (take-message connection s t memory room .room)
   unfolding replied replyOf onlyStatus refusedBlock

@@ -31,7 +31,7 @@ use Rattle.chain.specs.declared.block.Body.the-variants.{Locking as LockingBody
 use Rattle.chain.specs.declared.block.Block.{Block}
 use Rattle.message.specs.Caller.{callerOf}
 use Rattle.message.specs.declared.caller.Caller.{Caller}
-use Rattle.message.specs.Refusal.{status, statusOf}
+use Rattle.message.specs.Refusal.{status, formsOf, statusOf}
 use Rattle.message.specs.declared.refusal.Status.{Status}
 use Rattle.message.specs.declared.refusal.Refusal.the-variants.{NoAccess, LockType, NoSpace}
 use Rattle.message.specs.Command.{Given, refused, done, servedType, requestOf, lockingEnd, lockingAfter, doLocking, doRead, endsPast, doWrite, asCore, oneRange, doRange, doSetSize, doCoreWrite, doOpen, perform}
@@ -40,7 +40,8 @@ use Rattle.message.specs.Message.{areaOf, dataOf, Ran, after, afterGiven, run, 
 use Rattle.invariants.specs.GivenCases.{cond-case, request-case, session-case, tree-case, open-case, barred-case, writing-case, opening-case}
 use Rattle.demands.specs.Malformed.{not-served}
 use Rattle.invariants.specs.Fit.{Fit}
-use Rattle.demands.specs.Calls.{statusRead, status-call}
+use Rattle.demands.specs.StatusRead.{statusRead}
+use Rattle.demands.specs.Calls.{status-call}
 
 -- "Known: a request served": "CLOSE 0x04, PROCESS_EXIT 0x11, LOCKING_ANDX 0x24, READ_ANDX 0x2E, WRITE_ANDX 0x2F, TREE_DISCONNECT 0x71, LOGOFF_ANDX 0x74", and document
 -- 02, CR 3: "READ 0x0A, WRITE 0x0B, LOCK_BYTE_RANGE 0x0C and UNLOCK_BYTE_RANGE 0x0D"; CR 6: "OPEN_ANDX 0x2D"
@@ -129,7 +130,7 @@ Begun g = codeOf g ≡ 22 → ⊥
 
 module _ (c : Caller) (t : Tables) (memory : List ℕ) where
   request-begun : (q : Request) (area : List ℕ) → Begun (lockingAfter t memory (locking (fileOf (opensOf t)) (t .locks) (t .nlocks) q area))
-  unfolding locking settle lockingAfter lockingEnd codeOf statusOf status
+  unfolding locking settle lockingAfter lockingEnd codeOf formsOf status
   request-begun q area =
       cond-case (λ (r : Result). Begun (lockingAfter t memory (settle (t .locks) (t .nlocks) r))) (eqb (length area) ((q .unlocks + q .locks) * rangeSize (q .large)))
       (request (fileOf (opensOf t)) (q .fid) (q .shared) (rangesOf q area 0 (q .unlocks)) (rangesOf q area (q .unlocks) (q .locks)) (locksOf t))
@@ -140,20 +141,20 @@ module _ (c : Caller) (t : Tables) (memory : List ℕ) where
       (λ _ e. omega arith)
 
   locking-begun : (f : LockingFields) (area : List ℕ) → Begun (doLocking c t memory f area)
-  unfolding doLocking codeOf statusOf status
+  unfolding doLocking codeOf formsOf status
   locking-begun f area =
       open-case Begun c t (f .fid) _ (λ e. omega arith) (λ e. omega arith) (λ e. omega arith)
       (λ k _. cond-case Begun (servedType (f .kind)) _ (refused LockType) (λ _. request-begun (requestOf c f) area) (λ _ e. omega arith))
 
   read-begun : (f : ReadFields) → Begun (doRead c t memory f)
-  unfolding doRead codeOf statusOf status
+  unfolding doRead codeOf formsOf status
   read-begun f =
       open-case Begun c t (f .fid) _ (λ e. omega arith) (λ e. omega arith) (λ e. omega arith)
       (λ k _. cond-case Begun (eqb (getD (opensOf t) k noOpen .access) 1) (refused NoAccess) _ (λ _ e. omega arith)
       (λ _. barred-case Begun t _ _ (λ h e. omega arith) (λ _ e. omega arith)))
 
   write-begun : (f : WriteFields) (bytes : List ℕ) → Begun (doWrite c t memory f bytes)
-  unfolding doWrite codeOf statusOf status
+  unfolding doWrite codeOf formsOf status
   write-begun f bytes =
       writing-case Begun c t (f .fid) _ (endsPast (f .offset) (f .count)) _ (λ e. omega arith) (λ e. omega arith) (λ e. omega arith) (λ e. omega arith) (λ h e. omega arith)
       (λ e. omega arith) (λ k _ _ e. omega arith)
@@ -164,7 +165,7 @@ module _ (c : Caller) (t : Tables) (memory : List ℕ) where
   core-begun (done u m said) h = h
 
   core-write-begun : (f : WriteFields) (bytes : List ℕ) → Begun (doCoreWrite c t memory f bytes)
-  unfolding doCoreWrite doSetSize codeOf statusOf status
+  unfolding doCoreWrite doSetSize codeOf formsOf status
   core-write-begun f bytes =
       cond-case Begun (eqb (f .count) 0) _ _
       (λ _. writing-case Begun c t (f .fid) _ (ltb 4096 (f .offset)) _ (λ e. omega arith) (λ e. omega arith) (λ e. omega arith) (λ e. omega arith) (λ h e. omega arith)
@@ -176,14 +177,14 @@ module _ (c : Caller) (t : Tables) (memory : List ℕ) where
   range-begun f unlocks locks = core-begun _ (locking-begun (oneRange f unlocks locks) _)
 
   open-begun : (f : OpenFields) (name : List ℕ) → Begun (doOpen c t memory f name)
-  unfolding codeOf statusOf status
+  unfolding codeOf formsOf status
   open-begun f name =
       opening-case Begun c t memory f name (λ e. omega arith) (λ e. omega arith) (λ e. omega arith) (λ e. omega arith) (λ e. omega arith) (λ e. omega arith) (λ e. omega arith)
       (λ e. omega arith) (λ k _ e. omega arith)
 
   -- no command ends with 2/22
   perform-begun : (b : Body) (area bytes : List ℕ) → Begun (perform c t memory b area bytes)
-  unfolding perform codeOf statusOf status
+  unfolding perform codeOf formsOf status
   perform-begun (LockingBody f) area bytes = locking-begun f area
   perform-begun (ReadBody f) area bytes = read-begun f
   perform-begun (WriteBody f) area bytes = write-begun f bytes
@@ -198,25 +199,25 @@ module _ (c : Caller) (t : Tables) (memory : List ℕ) where
   perform-begun (OpenBody f) area bytes = open-begun f _
 
 after-begun : (g : Given) → Begun g → (bs : List Block) (place : ℕ) (t : Tables) (memory : List ℕ) (rest : ℕ → ℕ → Tables → List ℕ → Ran)
-    → ((j p : ℕ) (u : Tables) (m : List ℕ) → rest j p u m .status .code ≡ 22 → ⊥) → afterGiven g bs place t memory rest .status .code ≡ 22 → ⊥
+    → ((j p : ℕ) (u : Tables) (m : List ℕ) → rest j p u m .forms .status .code ≡ 22 → ⊥) → afterGiven g bs place t memory rest .forms .status .code ≡ 22 → ⊥
 unfolding afterGiven after codeOf
 after-begun (refused why) h bs place t memory rest f = h
 after-begun (done u m said) h bs place t memory rest f = f _ _ u m
 
-run-begun : (c : Caller) (s : List ℕ) (just : ℕ) (bs : List Block) (place : ℕ) (t : Tables) (memory : List ℕ) → run c s just bs place t memory .status .code ≡ 22 → ⊥
+run-begun : (c : Caller) (s : List ℕ) (just : ℕ) (bs : List Block) (place : ℕ) (t : Tables) (memory : List ℕ) → run c s just bs place t memory .forms .status .code ≡ 22 → ⊥
 unfolding run status
 run-begun c s just [] place t memory = λ e. omega arith
 run-begun c s just (b ∷ bs) place t memory =
     after-begun (perform c t memory (bodyMeant just (b .body)) (areaOf s b) (dataOf s b)) (perform-begun c t memory (bodyMeant just (b .body)) (areaOf s b) (dataOf s b)) bs place t memory _
     (λ j p u m. run-begun c s j bs p u m)
 
-chain-begun : (c : Caller) (s : List ℕ) (o : Option (List Block)) (t : Tables) (memory : List ℕ) → runChain c s o t memory .status .code ≡ 22 → ⊥
-unfolding runChain onlyStatus statusOf status
+chain-begun : (c : Caller) (s : List ℕ) (o : Option (List Block)) (t : Tables) (memory : List ℕ) → runChain c s o t memory .forms .status .code ≡ 22 → ⊥
+unfolding runChain onlyStatus formsOf status
 chain-begun c s none t memory = λ e. omega arith
 chain-begun c s (some bs) t memory = run-begun c s NOBODY bs FIRST t memory
 
 -- a message with a served command is not answered 2/22
-served-begun : (connection : ℕ) (s : List ℕ) (t : Tables) (memory : List ℕ) → served (headerCommand s) ≡ true → answered connection s t memory .status ≡ status 2 22 → ⊥
+served-begun : (connection : ℕ) (s : List ℕ) (t : Tables) (memory : List ℕ) → served (headerCommand s) ≡ true → answered connection s t memory .forms .status ≡ status 2 22 → ⊥
 unfolding answered status
 served-begun connection s t memory e =
     rw e (λ h. chain-begun (callerOf connection s) s (blocks s) t memory (ap (λ (x : Status). x .code) h))
@@ -224,9 +225,9 @@ served-begun connection s t memory e =
 -- "2/22 header command not served": a message fit to be answered is so answered exactly if the header's command is none of the twelve
 pub not-served-exact : (connection : ℕ) (s : List ℕ) (t : Tables) (memory room : List ℕ) → Fit s t memory room
     → (statusRead (take-message connection s t memory room .room) ≡ status 2 22) ↔ (Known (headerCommand s) → ⊥)
-unfolding onlyStatus
+unfolding onlyStatus formsOf
 not-served-exact connection s t memory room f =
     let same = status-call connection s t memory room f in (
       λ h k. served-begun connection s t memory (known-served k) (sym same ∙ h),
-      λ n. same ∙ ap (λ (r : Ran). r .status) (not-served connection s t memory (fails (served (headerCommand s)) (λ e. n (served-known (headerCommand s) e)))),
+      λ n. same ∙ ap (λ (r : Ran). r .forms .status) (not-served connection s t memory (fails (served (headerCommand s)) (λ e. n (served-known (headerCommand s) e)))),
     )

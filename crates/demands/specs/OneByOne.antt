@@ -24,9 +24,9 @@ use Rattle.invariants.specs.ReaderSound.{spanOf}
 use Rattle.readings.specs.ReaderComplete.{reader-complete}
 use Rattle.invariants.specs.Chained.{Chained, chained-end, chained-more, read-chained}
 use Rattle.message.specs.Caller.{callerOf}
+use Rattle.message.specs.declared.refusal.Forms.{Forms}
 use Rattle.message.specs.declared.caller.Caller.{Caller}
-use Rattle.message.specs.Refusal.{status, statusOf, holderOf}
-use Rattle.message.specs.declared.refusal.Status.{Status}
+use Rattle.message.specs.Refusal.{status, success, formsOf, statusOf, holderOf}
 use Rattle.message.specs.declared.refusal.HeldBy.{HeldBy}
 use Rattle.message.specs.declared.refusal.HeldBy.the-variants.{Nobody}
 use Rattle.message.specs.Command.{Said, locked, loggedOff, read, wrote, plain, coreRead, coreWrote, opened, Given, refused, done, perform}
@@ -35,8 +35,10 @@ use Rattle.message.specs.declared.link.Link.{Link}
 use Rattle.message.specs.declared.link.Link.the-variants.{None as none, Next as next}
 use Rattle.message.specs.Message.{areaOf, dataOf, Ran, after, linkTo, afterGiven, run, served, runChain, answered, replyOf}
 use Rattle.message.specs.declared.refusal.Refusal.{Refusal}
-use Rattle.message.specs.declared.refusal.Refusal.the-variants.{NotServed, NotSentence, NoSession, NoTree, NoOpen, NoAccess, LockType, NoSuchLock, PassesEnd, Conflict, NoRecord, NoSpace, OpenMode, BadAccess, NoSuchFile, BadShare, NoFids}
 use Rattle.message.specs.JustOpened.{NOBODY, openedBy, bodyMeant}
+use Rattle.lists.specs.Truth.{fails}
+use Rattle.claims.specs.StatusList.{none-zero}
+use Rattle.demands.specs.StatusRead.{succeeded, zero-succeeded}
 use Rattle.demands.specs.PerformMoved.{meant-moved, perform-body, perform-bytes}
 use Rattle.demands.specs.Returned.{returnedFid, reply-returned, reply-none, Small, small-said, perform-small}
 use Rattle.demands.specs.Carrying.{carrying, carrying-header, length-carrying, served-true, carried-gives}
@@ -45,28 +47,24 @@ use Rattle.demands.specs.Alone.{alone, alone-command, alone-header, leng
 
 -- ---- sending
 
--- what the messages sent leave: the last one's status, holder, tables and file memory, and the replies, each whole, in turn
+-- what the messages sent leave: the last one's status in both forms, holder, tables and file memory, and the replies, each whole, in turn
 pub record Sent : Type 0 where
-  pub status : Status
+  pub forms : Forms
   pub holder : HeldBy
   pub tables : Tables
   pub memory : List ℕ
   pub replies : List (List ℕ)
 
--- "refused (Status not 0)"
-unfoldable pub succeeded : Status → Bool
-succeeded s = eqb (s .class) 0 && eqb (s .code) 0
-
 -- a reply before those of the messages sent after it
 unfoldable pub replyThen : List ℕ → Sent → Sent
-replyThen reply sent = record { status = sent .status; holder = sent .holder; tables = sent .tables; memory = sent .memory; replies = reply ∷ sent .replies }
+replyThen reply sent = record { forms = sent .forms; holder = sent .holder; tables = sent .tables; memory = sent .memory; replies = reply ∷ sent .replies }
 
 -- a message and what it gave: "It stops after the first one refused", else "each next" gets "those the last one left", and the FID that its reply returned (document 02,
 -- CR 6)
 unfoldable pub sendOn : List ℕ → Ran → (ℕ → Tables → List ℕ → Sent) → Sent
 sendOn message r rest =
-    cond (succeeded (r .status)) (replyThen (replyOf message r) (rest (returnedFid (replyOf message r)) (r .tables) (r .memory)))
-    (record { status = r .status; holder = r .holder; tables = r .tables; memory = r .memory; replies = replyOf message r ∷ [] })
+    cond (succeeded (r .forms .status)) (replyThen (replyOf message r) (rest (returnedFid (replyOf message r)) (r .tables) (r .memory)))
+    (record { forms = r .forms; holder = r .holder; tables = r .tables; memory = r .memory; replies = replyOf message r ∷ [] })
 
 -- the message that a block makes of its own; "for 0xFFFF, and only then, demand 3's separate READ carries the FID returned"
 unfoldable pub own : List ℕ → ℕ → Block → List ℕ
@@ -74,7 +72,7 @@ own s just b = carrying just (alone s b)
 
 -- "each block in turn makes a message": the messages of these blocks, taken by the definition, on the same connection; `just` is what 0xFFFF means in the first
 unfoldable pub sendAll : ℕ → List ℕ → ℕ → List Block → Tables → List ℕ → Sent
-sendAll connection s just [] t memory = record { status = status 0 0; holder = Nobody; tables = t; memory = memory; replies = [] }
+sendAll connection s just [] t memory = record { forms = success; holder = Nobody; tables = t; memory = memory; replies = [] }
 sendAll connection s just (b ∷ bs) t memory =
     sendOn (own s just b) (answered connection (own s just b) t memory) (λ j t′ m. sendAll connection s j bs t′ m)
 
@@ -105,30 +103,13 @@ joined place (reply ∷ replies) =
 
 -- what the chain is compared with
 unfoldable pub compared : ℕ → Sent → Ran
-compared place sent = record { status = sent .status; holder = sent .holder; tables = sent .tables; memory = sent .memory; blocks = joined place (sent .replies) }
+compared place sent = record { forms = sent .forms; holder = sent .holder; tables = sent .tables; memory = sent .memory; blocks = joined place (sent .replies) }
 
 -- ---- one step
 
 -- no refusal has status 0
 pub refusal-fails : (why : Refusal) → succeeded (statusOf why) ≡ false
-unfolding succeeded statusOf status
-refusal-fails NotServed = refl
-refusal-fails NotSentence = refl
-refusal-fails NoSession = refl
-refusal-fails NoTree = refl
-refusal-fails NoOpen = refl
-refusal-fails NoAccess = refl
-refusal-fails LockType = refl
-refusal-fails NoSuchLock = refl
-refusal-fails PassesEnd = refl
-refusal-fails (Conflict h) = refl
-refusal-fails NoRecord = refl
-refusal-fails NoSpace = refl
-refusal-fails OpenMode = refl
-refusal-fails BadAccess = refl
-refusal-fails NoSuchFile = refl
-refusal-fails BadShare = refl
-refusal-fails NoFids = refl
+refusal-fails why = fails (succeeded (statusOf why)) (λ e. none-zero why .0 (zero-succeeded (statusOf why) e))
 
 -- a reply block of a message of its own, set for its place in the chain's reply
 relinked-block : (said : Said) (place p : ℕ) (link : Link) → relinked place link (replyBlock said p none) ≡ replyBlock said place link
@@ -154,7 +135,7 @@ relinked-refused place link = refl
 -- the block of a reply
 reply-block : (message : List ℕ) (r : Ran) → 32 ≤ length message → drop 32 (replyOf message r) ≡ r .blocks
 unfolding replyOf
-reply-block message r h = drop-at (replyHeader message (r .status)) (r .blocks) 32 (length-header message (r .status) h)
+reply-block message r h = drop-at (replyHeader message (r .forms)) (r .blocks) 32 (length-header message (r .forms) h)
 
 module _ (message : List ℕ) (long : 32 ≤ length message) where
   -- one reply, joined with the rest
@@ -165,24 +146,24 @@ module _ (message : List ℕ) (long : 32 ≤ length message) where
 
   -- a command given in a message of its own, and in the chain
   step : (g : Given) → Small g → (bs : List Block) (place : ℕ) (t : Tables) (memory : List ℕ) (rest : ℕ → Tables → List ℕ → Sent) (chain only : ℕ → ℕ → Tables → List ℕ → Ran)
-      → ((j p : ℕ) (u : Tables) (m : List ℕ) → only j p u m ≡ record { status = status 0 0; holder = Nobody; tables = u; memory = m; blocks = [] })
+      → ((j p : ℕ) (u : Tables) (m : List ℕ) → only j p u m ≡ record { forms = success; holder = Nobody; tables = u; memory = m; blocks = [] })
       → ((j p : ℕ) (u : Tables) (m : List ℕ) → linkOf (rest j u m .replies) p ≡ linkTo bs p)
       → ((j p : ℕ) (u : Tables) (m : List ℕ) → j < 65536 → chain j p u m ≡ compared p (rest j u m))
       → afterGiven g bs place t memory chain ≡ compared place (sendOn message (afterGiven g [] FIRST t memory only) rest)
   unfolding afterGiven after sendOn compared refusedBlock linkTo status succeeded replyThen joined
   step (refused why) small bs place t memory rest chain only ends links same =
-      let e : joined place (replyOf message (record { status = statusOf why; holder = holderOf why; tables = t; memory = memory; blocks = refusedBlock }) ∷ []) ≡ refusedBlock =
-      joined-one place (record { status = statusOf why; holder = holderOf why; tables = t; memory = memory; blocks = refusedBlock }) [] refusedBlock refl
+      let e : joined place (replyOf message (record { forms = formsOf why; holder = holderOf why; tables = t; memory = memory; blocks = refusedBlock }) ∷ []) ≡ refusedBlock =
+      joined-one place (record { forms = formsOf why; holder = holderOf why; tables = t; memory = memory; blocks = refusedBlock }) [] refusedBlock refl
       ∙ rw (relinked-refused place (linkOf [] (place + length refusedBlock))) refl in
       rw (refusal-fails why, e)
   step (done u m said) small bs place t memory rest chain only ends links same =
       let b : replyBlock said FIRST none ++ [] ≡ replyBlock said FIRST none = append-nil (replyBlock said FIRST none) in
       let n : length (replyBlock said FIRST none) ≡ replySize said = length-block said FIRST none in
-      let j : returnedFid (replyOf message (record { status = status 0 0; holder = Nobody; tables = u; memory = m; blocks = replyBlock said FIRST none ++ [] })) ≡ openedBy said =
-      reply-returned message (record { status = status 0 0; holder = Nobody; tables = u; memory = m; blocks = replyBlock said FIRST none ++ [] }) said FIRST long refl (small-said small) in
-      let e : joined place (replyOf message (record { status = status 0 0; holder = Nobody; tables = u; memory = m; blocks = replyBlock said FIRST none ++ [] }) ∷ rest (openedBy said) u m .replies)
+      let j : returnedFid (replyOf message (record { forms = success; holder = Nobody; tables = u; memory = m; blocks = replyBlock said FIRST none ++ [] })) ≡ openedBy said =
+      reply-returned message (record { forms = success; holder = Nobody; tables = u; memory = m; blocks = replyBlock said FIRST none ++ [] }) said FIRST long refl (small-said small) in
+      let e : joined place (replyOf message (record { forms = success; holder = Nobody; tables = u; memory = m; blocks = replyBlock said FIRST none ++ [] }) ∷ rest (openedBy said) u m .replies)
       ≡ replyBlock said place (linkTo bs (place + replySize said)) ++ joined (place + replySize said) (rest (openedBy said) u m .replies) =
-      joined-one place (record { status = status 0 0; holder = Nobody; tables = u; memory = m; blocks = replyBlock said FIRST none ++ [] }) (rest (openedBy said) u m .replies) (replyBlock said FIRST none) b
+      joined-one place (record { forms = success; holder = Nobody; tables = u; memory = m; blocks = replyBlock said FIRST none ++ [] }) (rest (openedBy said) u m .replies) (replyBlock said FIRST none) b
       ∙ rw (n, links (openedBy said) (place + replySize said) u m, relinked-block said place FIRST (linkTo bs (place + replySize said))) in
       rw (ends (openedBy said) (FIRST + replySize said) u m, j, same (openedBy said) (place + replySize said) u m (small-said small), e)
 
@@ -196,7 +177,7 @@ alone-caller connection s b long =
     rw (n 28 (omega arith) (omega arith), n 29 (omega arith) (omega arith), n 24 (omega arith) (omega arith), n 25 (omega arith) (omega arith), n 12 (omega arith) (omega arith), n 13 (omega arith) (omega arith), n 26 (omega arith) (omega arith), n 27 (omega arith) (omega arith))
 
 -- nothing follows
-only-ends : (c : Caller) (s : List ℕ) (j p : ℕ) (u : Tables) (m : List ℕ) → run c s j [] p u m ≡ record { status = status 0 0; holder = Nobody; tables = u; memory = m; blocks = [] }
+only-ends : (c : Caller) (s : List ℕ) (j p : ℕ) (u : Tables) (m : List ℕ) → run c s j [] p u m ≡ record { forms = success; holder = Nobody; tables = u; memory = m; blocks = [] }
 unfolding run
 only-ends c s j p u m = refl
 
@@ -222,8 +203,8 @@ alone-answered {s} {command} {at} connection just nx t memory h from small fits 
 -- ---- the whole list of blocks
 
 -- the head of the replies is the first message's
-send-head : (t : Bool) (reply : List ℕ) (sent : Sent) (why : Status) (h : HeldBy) (u : Tables) (m : List ℕ) (p : ℕ)
-    → linkOf (cond t (replyThen reply sent) (record { status = why; holder = h; tables = u; memory = m; replies = reply ∷ [] }) .replies) p ≡ next (byteAt reply 4) p
+send-head : (t : Bool) (reply : List ℕ) (sent : Sent) (why : Forms) (h : HeldBy) (u : Tables) (m : List ℕ) (p : ℕ)
+    → linkOf (cond t (replyThen reply sent) (record { forms = why; holder = h; tables = u; memory = m; replies = reply ∷ [] }) .replies) p ≡ next (byteAt reply 4) p
 unfolding linkOf replyThen
 send-head true reply sent why h u m p = refl
 send-head false reply sent why h u m p = refl
@@ -252,7 +233,7 @@ links-same : (connection : ℕ) (s : List ℕ) → 32 ≤ length s → (bs : Lis
 unfolding sendAll linkTo sendOn linkOf
 links-same connection s long [] j p t memory = refl
 links-same connection s long (b ∷ bs) j p t memory =
-    send-head (succeeded (answered connection (own s j b) t memory .status)) (replyOf (own s j b) (answered connection (own s j b) t memory)) _ _ _ _ _ p
+    send-head (succeeded (answered connection (own s j b) t memory .forms .status)) (replyOf (own s j b) (answered connection (own s j b) t memory)) _ _ _ _ _ p
     ∙ ap (λ (c : ℕ). next c p) (reply-command (own s j b) (answered connection (own s j b) t memory) ∙ own-command s j b long)
 
 -- the message of a block of the table has a header
@@ -265,15 +246,15 @@ own-long {s} {command} {at} just nx h from =
 
 -- the FID that its reply returns fits in 16 bits
 given-returned : (message : List ℕ) → 32 ≤ length message → (g : Given) → Small g → (t : Tables) (memory : List ℕ) (only : ℕ → ℕ → Tables → List ℕ → Ran)
-    → ((j p : ℕ) (u : Tables) (m : List ℕ) → only j p u m ≡ record { status = status 0 0; holder = Nobody; tables = u; memory = m; blocks = [] })
+    → ((j p : ℕ) (u : Tables) (m : List ℕ) → only j p u m ≡ record { forms = success; holder = Nobody; tables = u; memory = m; blocks = [] })
     → returnedFid (replyOf message (afterGiven g [] FIRST t memory only)) < 65536
 unfolding afterGiven after linkTo
 given-returned message long (refused why) small t memory only ends =
-    rw (reply-none message (record { status = statusOf why; holder = holderOf why; tables = t; memory = memory; blocks = refusedBlock }) long refl) (omega arith)
+    rw (reply-none message (record { forms = formsOf why; holder = holderOf why; tables = t; memory = memory; blocks = refusedBlock }) long refl) (omega arith)
 given-returned message long (done u m said) small t memory only ends =
     rw (
       ends (openedBy said) (FIRST + replySize said) u m,
-      reply-returned message (record { status = status 0 0; holder = Nobody; tables = u; memory = m; blocks = replyBlock said FIRST none ++ [] }) said FIRST long refl (small-said small),
+      reply-returned message (record { forms = success; holder = Nobody; tables = u; memory = m; blocks = replyBlock said FIRST none ++ [] }) said FIRST long refl (small-said small),
     )
     (small-said small)
 
@@ -286,7 +267,7 @@ own-returned {s} {command} {at} connection just nx t memory h from small fits =
 
 -- with no blocks left, nothing is sent
 nothing-sent : (j p : ℕ) (u : Tables) (m : List ℕ) → j < 65536
-    → _≡_ {A = Ran} (record { status = status 0 0; holder = Nobody; tables = u; memory = m; blocks = [] }) (compared p (record { status = status 0 0; holder = Nobody; tables = u; memory = m; replies = [] }))
+    → _≡_ {A = Ran} (record { forms = success; holder = Nobody; tables = u; memory = m; blocks = [] }) (compared p (record { forms = success; holder = Nobody; tables = u; memory = m; replies = [] }))
 unfolding compared joined
 nothing-sent j p u m h = refl
 

@@ -12,8 +12,8 @@ use borrow.Author.Tests.{eqb-true}
 use Rattle.lists.specs.Truth.{both-hold}
 use Rattle.wire.specs.LittleEndian.{byteAt}
 use Rattle.records.specs.declared.Tables.{Tables}
-use Rattle.message.specs.Refusal.{status}
-use Rattle.message.specs.declared.refusal.Status.{Status}
+use Rattle.message.specs.Refusal.{status, success}
+use Rattle.message.specs.declared.refusal.Forms.{Forms}
 use Rattle.message.specs.declared.refusal.HeldBy.{HeldBy}
 use Rattle.chain.specs.Layout.{headerCommand, FIRST, blockEnd}
 use Rattle.chain.specs.Chain.{blocks}
@@ -21,13 +21,15 @@ use Rattle.chain.specs.declared.block.Block.{Block}
 use Rattle.invariants.specs.BlockParse.{block-inside}
 use Rattle.readings.specs.MovedBytes.{part-same}
 use Rattle.invariants.specs.Chained.{Chained, chained-end, chained-more, read-chained}
-use Rattle.message.specs.Reply.{two, replyHeader}
+use Rattle.message.specs.Reply.{two, four, ntBit, statusNumber, replyHeader}
 use Rattle.message.specs.Message.{Ran, answered, replyOf}
 use Rattle.invariants.specs.ReplySize.{length-header}
 use Rattle.message.specs.JustOpened.{NOBODY}
+use Rattle.claims.specs.StatusList.{DoneOrListed, answered-listed, listed-says}
+use Rattle.demands.specs.StatusRead.{succeeded, zero-succeeded}
 use Rattle.demands.specs.Alone.{length-alone-more}
 use Rattle.demands.specs.Returned.{returnedFid}
-use Rattle.demands.specs.OneByOne.{Sent, succeeded, replyThen, sendOn, own, own-header, length-own, sendAll, joined, compared, one-by-one}
+use Rattle.demands.specs.OneByOne.{Sent, replyThen, sendOn, own, own-header, length-own, sendAll, joined, compared, one-by-one}
 
 -- the last of the replies
 unfoldable pub lastReply : List (List ℕ) → List ℕ
@@ -50,43 +52,38 @@ module _ (s : List ℕ) (just : ℕ) (b : Block) (long : 32 ≤ length s) where
       part-same s (own s just b) 24 24 8 (omega arith) (omega arith) (λ k h. own-header s just b long (24 + k) (omega arith) (λ e. omega arith))
 
   -- so the reply's header is the chain's but for the command
-  header-again : (why : Status) → set (replyHeader (own s just b) why) 4 (headerCommand s) ≡ replyHeader s why
-  unfolding replyHeader two
+  header-again : (why : Forms) → set (replyHeader (own s just b) why) 4 (headerCommand s) ≡ replyHeader s why
+  unfolding replyHeader two four statusNumber ntBit
   header-again why =
       let n : (k : ℕ) → 4 < k → k < 32 → byteAt (own s just b) k ≡ byteAt s k = λ k l h. own-header s just b long k h (λ e. omega arith) in
-      rw (n 9 (omega arith) (omega arith), n 10 (omega arith) (omega arith), n 12 (omega arith) (omega arith), n 13 (omega arith) (omega arith), last-bytes)
+      rw (n 9 (omega arith) (omega arith), n 10 (omega arith) (omega arith), n 11 (omega arith) (omega arith), n 12 (omega arith) (omega arith), n 13 (omega arith) (omega arith), last-bytes)
 
-  header-of : (r : Ran) → set (take 32 (replyOf (own s just b) r)) 4 (headerCommand s) ≡ replyHeader s (r .status)
+  header-of : (r : Ran) → set (take 32 (replyOf (own s just b) r)) 4 (headerCommand s) ≡ replyHeader s (r .forms)
   unfolding replyOf
   header-of r =
       ap (λ (l : List ℕ). set l 4 (headerCommand s))
-      (take-at (replyHeader (own s just b) (r .status)) (r .blocks) 32 (length-header (own s just b) (r .status) own-more))
-      ∙ header-again (r .status)
+      (take-at (replyHeader (own s just b) (r .forms)) (r .blocks) 32 (length-header (own s just b) (r .forms) own-more))
+      ∙ header-again (r .forms)
 
--- status 0
-status-done : (x : Status) → succeeded x ≡ true → x ≡ status 0 0
-unfolding succeeded status
-status-done x e =
-    let h = both-hold (eqb (x .class) 0) (eqb (x .code) 0) e in
-    let a : x .class ≡ 0 = eqb-true (x .class) 0 (h .0) in
-    let c : x .code ≡ 0 = eqb-true (x .code) 0 (h .1) in
-    ap (λ (k : ℕ). record { class = k; code = x .code }) a ∙ ap (λ (k : ℕ). record { class = 0; code = k }) c
+-- status 0 is success in both forms
+status-done : {f : Forms} → DoneOrListed f → succeeded (f .status) ≡ true → f ≡ success
+status-done {f} listed e = listed-says listed .zero-old (zero-succeeded (f .status) e)
 
 -- a reply before others is not the last
-last-more : (t : Bool) (first reply : List ℕ) (sent : Sent) (why : Status) (h : HeldBy) (u : Tables) (m : List ℕ)
-    → lastReply (first ∷ cond t (replyThen reply sent) (record { status = why; holder = h; tables = u; memory = m; replies = reply ∷ [] }) .replies)
-    ≡ lastReply (cond t (replyThen reply sent) (record { status = why; holder = h; tables = u; memory = m; replies = reply ∷ [] }) .replies)
+last-more : (t : Bool) (first reply : List ℕ) (sent : Sent) (why : Forms) (h : HeldBy) (u : Tables) (m : List ℕ)
+    → lastReply (first ∷ cond t (replyThen reply sent) (record { forms = why; holder = h; tables = u; memory = m; replies = reply ∷ [] }) .replies)
+    ≡ lastReply (cond t (replyThen reply sent) (record { forms = why; holder = h; tables = u; memory = m; replies = reply ∷ [] }) .replies)
 unfolding lastReply replyThen
 last-more true first reply sent why h u m = refl
 last-more false first reply sent why h u m = refl
 
 -- the last header of what is sent, where something is
 abbrev LastHeader : List ℕ → Sent → Type 0
-LastHeader s sent = set (take 32 (lastReply (sent .replies))) 4 (headerCommand s) ≡ replyHeader s (sent .status)
+LastHeader s sent = set (take 32 (lastReply (sent .replies))) 4 (headerCommand s) ≡ replyHeader s (sent .forms)
 
-send-last : (t : Bool) (s reply : List ℕ) (sent : Sent) (why : Status) (h : HeldBy) (u : Tables) (m : List ℕ)
-    → (t ≡ true → LastHeader s (replyThen reply sent)) → (t ≡ false → LastHeader s (record { status = why; holder = h; tables = u; memory = m; replies = reply ∷ [] }))
-    → LastHeader s (cond t (replyThen reply sent) (record { status = why; holder = h; tables = u; memory = m; replies = reply ∷ [] }))
+send-last : (t : Bool) (s reply : List ℕ) (sent : Sent) (why : Forms) (h : HeldBy) (u : Tables) (m : List ℕ)
+    → (t ≡ true → LastHeader s (replyThen reply sent)) → (t ≡ false → LastHeader s (record { forms = why; holder = h; tables = u; memory = m; replies = reply ∷ [] }))
+    → LastHeader s (cond t (replyThen reply sent) (record { forms = why; holder = h; tables = u; memory = m; replies = reply ∷ [] }))
 send-last true s reply sent why h u m f g = f refl
 send-last false s reply sent why h u m f g = g refl
 
@@ -94,15 +91,15 @@ last-header : (connection : ℕ) (s : List ℕ) → 32 ≤ length s → (just : 
     → LastHeader s (sendAll connection s just (b ∷ bs) t memory)
 unfolding sendAll sendOn lastReply replyThen
 last-header connection s long just b [] t memory =
-    send-last (succeeded (answered connection (own s just b) t memory .status)) s (replyOf (own s just b) (answered connection (own s just b) t memory)) _ _ _ _ _
-    (λ e. header-of s just b long (answered connection (own s just b) t memory) ∙ ap (replyHeader s) (status-done (answered connection (own s just b) t memory .status) e))
+    send-last (succeeded (answered connection (own s just b) t memory .forms .status)) s (replyOf (own s just b) (answered connection (own s just b) t memory)) _ _ _ _ _
+    (λ e. header-of s just b long (answered connection (own s just b) t memory) ∙ ap (replyHeader s) (status-done (answered-listed connection (own s just b) t memory) e))
     (λ e. header-of s just b long (answered connection (own s just b) t memory))
 last-header connection s long just b (d ∷ bs) t memory =
     let r : Ran = answered connection (own s just b) t memory in
     let j : ℕ = returnedFid (replyOf (own s just b) r) in
-    send-last (succeeded (answered connection (own s just b) t memory .status)) s (replyOf (own s just b) (answered connection (own s just b) t memory)) _ _ _ _ _
+    send-last (succeeded (answered connection (own s just b) t memory .forms .status)) s (replyOf (own s just b) (answered connection (own s just b) t memory)) _ _ _ _ _
     (λ e. ap (λ (l : List ℕ). set (take 32 l) 4 (headerCommand s))
-    (last-more (succeeded (answered connection (own s j d) (r .tables) (r .memory) .status)) (replyOf (own s just b) r) (replyOf (own s j d) (answered connection (own s j d) (r .tables) (r .memory))) _ _ _ _ _)
+    (last-more (succeeded (answered connection (own s j d) (r .tables) (r .memory) .forms .status)) (replyOf (own s just b) r) (replyOf (own s j d) (answered connection (own s j d) (r .tables) (r .memory))) _ _ _ _ _)
     ∙ last-header connection s long j d bs (r .tables) (r .memory))
     (λ e. header-of s just b long (answered connection (own s just b) t memory))
 

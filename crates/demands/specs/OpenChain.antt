@@ -29,7 +29,7 @@ use Rattle.invariants.specs.Sound.{Good}
 use Rattle.readings.specs.Moved.{Moved, moved-fid}
 use Rattle.invariants.specs.Numbered.{numbered-within}
 use Rattle.invariants.specs.SoundParts.{sound-says}
-use Rattle.message.specs.Refusal.{status, statusOf, holderOf}
+use Rattle.message.specs.Refusal.{success, formsOf, holderOf}
 use Rattle.message.specs.declared.caller.Caller.{Caller}
 use Rattle.message.specs.Caller.{callerOf}
 use Rattle.message.specs.Command.{Given, refused, done}
@@ -43,7 +43,7 @@ use Rattle.demands.specs.Alone.{alone, alone-command, alone-moved, lengt
 use Rattle.demands.specs.Carrying.{carrying, carrying-byte, carried-fid, asks-opened, carrying-named, carrying-other, lone-gives}
 use Rattle.demands.specs.Returned.{returnedFid, reply-returned, reply-none, Silent, silent-said, other-silent}
 use Rattle.demands.specs.CallsOneByOne.{replyIn, reply-read}
-use Rattle.demands.specs.Calls.{statusRead}
+use Rattle.demands.specs.StatusRead.{statusRead}
 use Rattle.demands.specs.CoreMoved.{Stands, stands-in}
 use Rattle.demands.specs.OpenEffects.{OpenDone}
 use Rattle.demands.specs.SpansOneByOne.{aloneSpan, alone-span, ownSpan}
@@ -107,21 +107,21 @@ one-alone (plain-end h p) last = (h, λ a. absurd (plain-not-andx p a))
 one-alone (andx-end h a e) last = (h, λ _. e)
 one-alone (andx-next h m g r) last = let more = some-block r in absurd (omega arith)
 
-no-more : (c : Caller) (s : List ℕ) (j p : ℕ) (u : Tables) (m : List ℕ) → run c s j [] p u m ≡ record { status = status 0 0; holder = Nobody; tables = u; memory = m; blocks = [] }
+no-more : (c : Caller) (s : List ℕ) (j p : ℕ) (u : Tables) (m : List ℕ) → run c s j [] p u m ≡ record { forms = success; holder = Nobody; tables = u; memory = m; blocks = [] }
 unfolding run
 no-more c s j p u m = refl
 
 -- of a message of one command that is no OPEN_ANDX, none
 given-silent : (message : List ℕ) → 32 ≤ length message → (g : Given) → Silent g → (t : Tables) (memory : List ℕ) (only : ℕ → ℕ → Tables → List ℕ → Ran)
-    → ((j p : ℕ) (u : Tables) (m : List ℕ) → only j p u m ≡ record { status = status 0 0; holder = Nobody; tables = u; memory = m; blocks = [] })
+    → ((j p : ℕ) (u : Tables) (m : List ℕ) → only j p u m ≡ record { forms = success; holder = Nobody; tables = u; memory = m; blocks = [] })
     → returnedFid (replyOf message (afterGiven g [] FIRST t memory only)) ≡ NOBODY
 unfolding afterGiven after linkTo
 given-silent message long (refused why) silent t memory only ends =
-    reply-none message (record { status = statusOf why; holder = holderOf why; tables = t; memory = memory; blocks = refusedBlock }) long refl
+    reply-none message (record { forms = formsOf why; holder = holderOf why; tables = t; memory = memory; blocks = refusedBlock }) long refl
 given-silent message long (done u m said) silent t memory only ends =
     let e = silent-said silent in
     rw (ends (openedBy said) (FIRST + replySize said) u m)
-    (reply-returned message (record { status = status 0 0; holder = Nobody; tables = u; memory = m; blocks = replyBlock said FIRST none ++ [] }) said FIRST long refl (omega arith) ∙ e)
+    (reply-returned message (record { forms = success; holder = Nobody; tables = u; memory = m; blocks = replyBlock said FIRST none ++ [] }) said FIRST long refl (omega arith) ∙ e)
 
 one-returned : (connection : ℕ) (s : List ℕ) {span : Span} → Reading s (span ∷ []) → (t : Tables) (memory : List ℕ) → 35 ≤ length s → (headerCommand s ≡ OPEN → ⊥)
     → returnedFid (replyOf s (answered connection s t memory)) ≡ NOBODY

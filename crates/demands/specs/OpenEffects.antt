@@ -30,13 +30,13 @@ use Rattle.chain.specs.declared.block.OpenFields.{OpenFields}
 use Rattle.chain.specs.declared.block.Body.the-variants.{Open as OpenBody}
 use Rattle.message.specs.Caller.{callerOf}
 use Rattle.message.specs.declared.caller.Caller.{Caller}
-use Rattle.message.specs.Refusal.{status}
+use Rattle.message.specs.Refusal.{status, success}
 use Rattle.message.specs.declared.link.Link.the-variants.{None as noLink}
 use Rattle.message.specs.Contents.{sizeOf}
 use Rattle.message.specs.Command.{Said, done, nameAsked, openBy, openedSaid, doOpen, perform}
 use Rattle.message.specs.Reply.{replyHeader, replyBlock, replySize}
 use Rattle.message.specs.Message.{areaOf, Taken, take-message}
-use Rattle.demands.specs.Calls.{statusRead}
+use Rattle.demands.specs.StatusRead.{statusRead}
 use Rattle.demands.specs.Sharing.{KeptOut}
 use Rattle.demands.specs.OpenReasons.{OpenPermitted, opened-passed, passed-is}
 use Rattle.demands.specs.ReplyBytes.{OpenBlock, open-block}
@@ -135,12 +135,12 @@ said-size false fid size access = refl
 -- its block, by Flags' bit 0
 module _ (s : List ℕ) (long : 32 ≤ length s) (room : List ℕ) (full : Bool) where
   short-block : full ≡ false → (fid size access : ℕ) → fid < 65536
-      → OpenBlock fid 0 0 0 (put room 0 (replyHeader s (status 0 0) ++ replyBlock (openedSaid full fid size access) FIRST noLink))
+      → OpenBlock fid 0 0 0 (put room 0 (replyHeader s success ++ replyBlock (openedSaid full fid size access) FIRST noLink))
   unfolding openedSaid
   short-block e fid size access few = rw e (open-block s long room fid 0 0 0 few (omega arith) (omega arith) (omega arith))
 
   full-block : full ≡ true → (fid size access : ℕ) → fid < 65536 → size < 65536 → access < 65536
-      → OpenBlock fid size access 1 (put room 0 (replyHeader s (status 0 0) ++ replyBlock (openedSaid full fid size access) FIRST noLink))
+      → OpenBlock fid size access 1 (put room 0 (replyHeader s success ++ replyBlock (openedSaid full fid size access) FIRST noLink))
   unfolding openedSaid
   full-block e fid size access few small low = rw e (open-block s long room fid size access 1 few small low (omega arith))
 
@@ -170,7 +170,7 @@ module _ (connection : ℕ) (s : List ℕ) {span : Span} (r : Reading s (span �
       let long = long-enough s (fit .not-dropped) in
       let low : l .new .fid ≤ 64 = l .added .given-out .high in
       let most : sizeOf t (l .file) ≤ 4096 = size-most t (l .file) (sound-says t (g .sound)) in
-      let reply : call .room ≡ put room 0 (replyHeader s (status 0 0) ++ replyBlock (openedSaid (f .full) (l .new .fid) (sizeOf t (l .file)) (f .access)) FIRST noLink) =
+      let reply : call .room ≡ put room 0 (replyHeader s success ++ replyBlock (openedSaid (f .full) (l .new .fid) (sizeOf t (l .file)) (f .access)) FIRST noLink) =
       rw (l .says) at (ran .reply) in
       record {
         file = l .file;

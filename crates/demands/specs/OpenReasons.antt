@@ -36,7 +36,7 @@ use Rattle.claims.specs.HostReasons.{HasTree, HasPermitting, HasReadOnly}
 use Rattle.claims.specs.Cases.{statusIn}
 use Rattle.chain.specs.declared.block.OpenFields.{OpenFields}
 use Rattle.message.specs.declared.caller.Caller.{Caller}
-use Rattle.message.specs.Refusal.{status, statusOf}
+use Rattle.message.specs.Refusal.{status, formsOf}
 use Rattle.message.specs.declared.refusal.Status.{Status}
 use Rattle.message.specs.declared.refusal.Refusal.the-variants.{NoAccess, OpenMode, BadAccess, BadShare, NoFids}
 use Rattle.message.specs.Contents.{sizeOf}
@@ -218,7 +218,7 @@ module _ (c : Caller) (t : Tables) (memory : List ℕ) (ok : sound t ≡ true) (
   all-used h = let k = sound-says t ok .room .opens-fit in omega arith
 
   file-reason : (file : ℕ) → OpenServed c t f → NamesFile t name file → Its (openFile c t memory f file)
-  unfolding openFile statusIn statusOf
+  unfolding openFile statusIn formsOf
   file-reason file served named =
       cond-case Its (any (itsTree c t f file) (treesOf t)) _ (refused NoAccess)
       (λ h. let passed : OpenPermitted c t f name file = record { served = served; named = named; permitted = tree-permits c t f file h } in
@@ -230,13 +230,13 @@ module _ (c : Caller) (t : Tables) (memory : List ℕ) (ok : sound t ≡ true) (
       (λ h. let w = tree-exceeded c t f file (served .tree) h in open-right served named (w .0) (w .1))
 
   named-reason : OpenServed c t f → (o : Found) → found (isNamed name) (namesOf t) ≡ o → Its (openNamed c t memory f o)
-  unfolding openNamed statusIn statusOf
+  unfolding openNamed statusIn formsOf
   named-reason served (At k) e = file-reason (getD (namesOf t) k noName .file) served (found-names t name k e)
   named-reason served Nothing e = open-unnamed served (none-found t name e)
 
   -- the status is given only for its reason
   pub opening-reason : OpenStatus c t f name (statusIn (doOpen c t memory f name))
-  unfolding doOpen statusIn statusOf
+  unfolding doOpen statusIn formsOf
   opening-reason =
       elim (tree-or c t) [
         | inl h ↦ rw (tree-given c t _ (h .1)) (open-not (h .1))
@@ -277,7 +277,7 @@ module _ (c : Caller) (t : Tables) (memory : List ℕ) (ok : sound t ≡ true) (
       ∙ rw (fails (any (keptOut file (f .access) (f .sharing)) (opensOf t)) (λ e. n (kept-out-plain t file (f .access) (f .sharing) .0 e)))
 
   pub opening-given : {n : Status} → OpenStatus c t f name n → statusIn (doOpen c t memory f name) ≡ n
-  unfolding doOpen openNamed openFile statusIn statusOf
+  unfolding doOpen openNamed openFile statusIn formsOf
   opening-given (open-not h) = tree-given c t _ h
   opening-given (open-mode s r n) = ap statusIn (with-tree c t _ s r) ∙ rw (ne-eqb (f .mode) 1 n)
   opening-given (open-codes s r m k) =

@@ -37,7 +37,7 @@ use Rattle.message.specs.Refusal.{status}
 use Rattle.message.specs.Message.{Taken, take-message}
 use Rattle.claims.specs.StreamKept.{Bytes}
 use Rattle.claims.specs.RemovalPlain.{Exited}
-use Rattle.demands.specs.Calls.{statusRead}
+use Rattle.demands.specs.StatusRead.{statusRead}
 use Rattle.demands.specs.Admitted.{Admitted}
 use Rattle.demands.specs.OneByOne.{alone-caller}
 use Rattle.demands.specs.Carrying.{carrying-caller}

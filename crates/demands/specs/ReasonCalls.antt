@@ -28,7 +28,8 @@ use Rattle.invariants.specs.JustOpenedLaws.{run-first}
 use Rattle.demands.specs.Malformed.{length-area}
 use Rattle.demands.specs.OneByOne.{chained-served}
 use Rattle.invariants.specs.Fit.{Fit}
-use Rattle.demands.specs.Calls.{statusRead, status-call}
+use Rattle.demands.specs.StatusRead.{statusRead}
+use Rattle.demands.specs.Calls.{status-call}
 use Rattle.demands.specs.LockWords.{never}
 use Rattle.demands.specs.CommandReasons.{Reason, Announced, perform-exact}
 
@@ -62,8 +63,8 @@ block-announced (unlock-byte-range h) area e f same = never cc
 block-announced (open-15 h) area e f same = never cc
 
 -- the status of a message of one command
-given-status : (g : Given) (place : ℕ) (t : Tables) (memory : List ℕ) (rest : ℕ → ℕ → Tables → List ℕ → Ran) → ((j p : ℕ) (u : Tables) (m : List ℕ) → rest j p u m .status ≡ status 0 0)
-    → afterGiven g [] place t memory rest .status ≡ statusIn g
+given-status : (g : Given) (place : ℕ) (t : Tables) (memory : List ℕ) (rest : ℕ → ℕ → Tables → List ℕ → Ran) → ((j p : ℕ) (u : Tables) (m : List ℕ) → rest j p u m .forms .status ≡ status 0 0)
+    → afterGiven g [] place t memory rest .forms .status ≡ statusIn g
 unfolding afterGiven after statusIn
 given-status (refused why) place t memory rest h = refl
 given-status (done u m said) place t memory rest h = h _ _ u m
@@ -79,8 +80,8 @@ module _ (connection : ℕ) (s : List ℕ) (b : Block) (e : blocks s ≡ some (b
   unfolding answered runChain blocks run
   call-exact n =
       let chain = read-chained s (headerCommand s) FIRST (b ∷ []) e in
-      let g : answered connection s t memory .status ≡ run (callerOf connection s) s NOBODY (b ∷ []) FIRST t memory .status = rw (chained-served chain, e) in
-      let same = status-call connection s t memory room fit ∙ g ∙ ap (λ (r : Ran). r .status) (run-first (callerOf connection s) s b [] FIRST t memory)
+      let g : answered connection s t memory .forms .status ≡ run (callerOf connection s) s NOBODY (b ∷ []) FIRST t memory .forms .status = rw (chained-served chain, e) in
+      let same = status-call connection s t memory room fit ∙ g ∙ ap (λ (r : Ran). r .forms .status) (run-first (callerOf connection s) s b [] FIRST t memory)
       ∙ given-status (perform (callerOf connection s) t memory (b .body) (areaOf s b) (dataOf s b)) FIRST t memory (λ j p u m. run (callerOf connection s) s j [] p u m) (λ j p u m. refl) in
       let exact = perform-exact (callerOf connection s) t memory (fit .tables-sound) (b .body) (areaOf s b) (dataOf s b) (one-announced chain) n in
       (λ h. exact .0 (sym same ∙ h), λ r. same ∙ exact .1 r)

@@ -18,7 +18,7 @@ use Rattle.chain.specs.declared.block.Block.{Block}
 use Rattle.readings.specs.ReaderComplete.{no-sentence}
 use Rattle.message.specs.Caller.{callerOf}
 use Rattle.message.specs.declared.caller.Caller.{Caller}
-use Rattle.message.specs.Refusal.{status, statusOf, holderOf}
+use Rattle.message.specs.Refusal.{status, formsOf, statusOf, holderOf}
 use Rattle.message.specs.declared.refusal.Refusal.{Refusal}
 use Rattle.message.specs.Command.{Said, Given, refused, done, perform}
 use Rattle.message.specs.JustOpened.{NOBODY, openedBy, bodyMeant}
@@ -27,7 +27,8 @@ use Rattle.message.specs.Message.{areaOf, dataOf, Ran, after, linkTo, afterGive
 use Rattle.invariants.specs.ReplySize.{length-block, length-header}
 use Rattle.invariants.specs.Fit.{Fit, fit-answered}
 use Rattle.demands.specs.Taken.{not-short, malformed-taken, not-served-taken}
-use Rattle.demands.specs.Calls.{statusRead, status-call, sentence-answered, length-call}
+use Rattle.demands.specs.StatusRead.{statusRead}
+use Rattle.demands.specs.Calls.{status-call, sentence-answered, length-call}
 use Rattle.demands.specs.LoneCall.{given-least}
 
 -- what one command gives on tables and file memory, where FID 0xFFFF means `just` (document 02, CR 6)
@@ -50,10 +51,10 @@ record Stopped (c : Caller) (s : List ℕ) (just : ℕ) (bs : List Block) (place
   command : Block
   later : List Block
   split : bs ≡ front ++ (command ∷ later)
-  front-done : run c s just front place t memory .status ≡ status 0 0
+  front-done : run c s just front place t memory .forms .status ≡ status 0 0
   why : Refusal
   command-refused : gives c s (meantAfter c s just front t memory) command (run c s just front place t memory .tables) (run c s just front place t memory .memory) ≡ refused why
-  status-left : last .status ≡ statusOf why
+  status-left : last .forms .status ≡ statusOf why
   holder-left : last .holder ≡ holderOf why
   tables-left : last .tables ≡ run c s just front place t memory .tables
   memory-left : last .memory ≡ run c s just front place t memory .memory
@@ -69,7 +70,7 @@ module _ (c : Caller) (s : List ℕ) (just : ℕ) (b : Block) (bs : List Block) 
 
   -- one that is refused
   pub step-refused : (why : Refusal) → gives c s just b t memory ≡ refused why
-      → run c s just (b ∷ bs) place t memory ≡ record { status = statusOf why; holder = holderOf why; tables = t; memory = memory; blocks = refusedBlock }
+      → run c s just (b ∷ bs) place t memory ≡ record { forms = formsOf why; holder = holderOf why; tables = t; memory = memory; blocks = refusedBlock }
   unfolding run afterGiven
   step-refused why e = rw e
 
@@ -108,7 +109,7 @@ stopped-by c s just b bs place t memory (refused why) e f =
       front-done = refl;
       why = why;
       command-refused = e;
-      status-left = ap (λ (x : Ran). x .status) r;
+      status-left = ap (λ (x : Ran). x .forms .status) r;
       holder-left = ap (λ (x : Ran). x .holder) r;
       tables-left = ap (λ (x : Ran). x .tables) r;
       memory-left = ap (λ (x : Ran). x .memory) r;
@@ -126,10 +127,10 @@ stopped-by c s just b bs place t memory (done u m said) e f =
       command = q .command;
       later = q .later;
       split = ap (λ (l : List Block). b ∷ l) (q .split);
-      front-done = ap (λ (x : Ran). x .status) part ∙ q .front-done;
+      front-done = ap (λ (x : Ran). x .forms .status) part ∙ q .front-done;
       why = q .why;
       command-refused = rw (part, meant-done c s just b (q .front) place t memory u m said e) (q .command-refused);
-      status-left = ap (λ (x : Ran). x .status) whole ∙ q .status-left;
+      status-left = ap (λ (x : Ran). x .forms .status) whole ∙ q .status-left;
       holder-left = ap (λ (x : Ran). x .holder) whole ∙ q .holder-left;
       tables-left = ap (λ (x : Ran). x .tables) whole ∙ q .tables-left ∙ sym (ap (λ (x : Ran). x .tables) part);
       memory-left = ap (λ (x : Ran). x .memory) whole ∙ q .memory-left ∙ sym (ap (λ (x : Ran). x .memory) part);
@@ -143,13 +144,13 @@ stopped-by c s just b bs place t memory (done u m said) e f =
     more a x y z e f = omega arith
 
 -- commands that do not end with status 0/0 end so
-run-stopped : (c : Caller) (s : List ℕ) (just : ℕ) (bs : List Block) (place : ℕ) (t : Tables) (memory : List ℕ) → (run c s just bs place t memory .status ≡ status 0 0 → ⊥)
+run-stopped : (c : Caller) (s : List ℕ) (just : ℕ) (bs : List Block) (place : ℕ) (t : Tables) (memory : List ℕ) → (run c s just bs place t memory .forms .status ≡ status 0 0 → ⊥)
     → Stopped c s just bs place t memory (run c s just bs place t memory)
 unfolding run after
 run-stopped c s just [] place t memory n = absurd (n refl)
 run-stopped c s just (b ∷ bs) place t memory n =
     stopped-by c s just b bs place t memory (gives c s just b t memory) refl
-    (λ u m said e. run-stopped c s (openedBy said) bs (place + replySize said) u m (λ z. n (ap (λ (x : Ran). x .status) (step-done c s just b bs place t memory u m said e) ∙ z)))
+    (λ u m said e. run-stopped c s (openedBy said) bs (place + replySize said) u m (λ z. n (ap (λ (x : Ran). x .forms .status) (step-done c s just b bs place t memory u m said e) ∙ z)))
 
 -- what the call gave, where a command was refused
 pub record RefusedCall (c : Caller) (s : List ℕ) (bs : List Block) (t : Tables) (memory : List ℕ) (call : Taken) : Type 0 where
@@ -159,7 +160,7 @@ pub record RefusedCall (c : Caller) (s : List ℕ) (bs : List Block) (t : Tables
   pub later : List Block
   pub split : bs ≡ front ++ (command ∷ later)
   -- "Commands before it in the chain stand": carried out alone they are done
-  pub front-done : run c s NOBODY front FIRST t memory .status ≡ status 0 0
+  pub front-done : run c s NOBODY front FIRST t memory .forms .status ≡ status 0 0
   -- it is refused on what they left
   pub why : Refusal
   pub command-refused : gives c s (meantAfter c s NOBODY front t memory) command (run c s NOBODY front FIRST t memory .tables) (run c s NOBODY front FIRST t memory .memory) ≡ refused why
@@ -196,8 +197,8 @@ module _ (connection : ℕ) (s : List ℕ) (bs : List Block) (e : blocks s ≡ s
   unfolding replied
   call-holder = ap (λ (k : Taken). k .holder) (fit-answered connection s t memory room fit) ∙ ap (λ (r : Ran). r .holder) (sentence-answered connection s t memory bs e)
 
-  pub call-status : statusRead (take-message connection s t memory room .room) ≡ run (callerOf connection s) s NOBODY bs FIRST t memory .status
-  call-status = status-call connection s t memory room fit ∙ ap (λ (r : Ran). r .status) (sentence-answered connection s t memory bs e)
+  pub call-status : statusRead (take-message connection s t memory room .room) ≡ run (callerOf connection s) s NOBODY bs FIRST t memory .forms .status
+  call-status = status-call connection s t memory room fit ∙ ap (λ (r : Ran). r .forms .status) (sentence-answered connection s t memory bs e)
 
   call-length : take-message connection s t memory room .length ≡ 32 + length (run (callerOf connection s) s NOBODY bs FIRST t memory .blocks)
   call-length = length-call connection s t memory room fit ∙ ap (λ (r : Ran). 32 + length (r .blocks)) (sentence-answered connection s t memory bs e)
@@ -211,8 +212,8 @@ module _ (connection : ℕ) (s : List ℕ) (bs : List Block) (e : blocks s ≡ s
       let same : answered connection s t memory .blocks ≡ run (callerOf connection s) s NOBODY bs FIRST t memory .blocks =
       ap (λ (r : Ran). r .blocks) (sentence-answered connection s t memory bs e) in
       ap (λ (x : Taken). take 3 (drop (32 + k) (x .room))) (fit-answered connection s t memory room fit)
-      ∙ block-in-room (replyHeader s (answered connection s t memory .status)) (answered connection s t memory .blocks) _ k
-      (length-header s (answered connection s t memory .status) (omega arith)) (ap length same ∙ n) (ap (drop k) same ∙ b)
+      ∙ block-in-room (replyHeader s (answered connection s t memory .forms)) (answered connection s t memory .blocks) _ k
+      (length-header s (answered connection s t memory .forms) (omega arith)) (ap length same ∙ n) (ap (drop k) same ∙ b)
 
   -- "A command refused changes no table and no file byte, its own unlocks included. Commands before it in the chain stand; those after it aren't begun":
   -- a sentence fit to be answered whose reply's Status is not 0/0
@@ -279,7 +280,7 @@ module _ (connection : ℕ) (s : List ℕ) (t : Tables) (memory room : List ℕ)
       × Untouched t memory (take-message connection s t memory room)
   first-refused b bs e why g =
       let r = step-refused (callerOf connection s) s NOBODY b bs FIRST t memory why g in (
-        call-status connection s (b ∷ bs) e t memory room fit ∙ ap (λ (x : Ran). x .status) r,
+        call-status connection s (b ∷ bs) e t memory room fit ∙ ap (λ (x : Ran). x .forms .status) r,
         call-holder connection s (b ∷ bs) e t memory room fit ∙ ap (λ (x : Ran). x .holder) r,
         record {
           same-tables = call-tables connection s (b ∷ bs) e t memory room fit ∙ ap (λ (x : Ran). x .tables) r;

@@ -9,7 +9,8 @@ use lib.Seq.{take-append-seam, drop-append-add, getD-append-add}
 use Rattle.lists.specs.Put.{put}
 use Rattle.wire.specs.LittleEndian.{byteAt, le16At, le32At}
 use Rattle.chain.specs.Layout.{FIRST}
-use Rattle.message.specs.Refusal.{status}
+use Rattle.message.specs.Refusal.{status, success}
+use Rattle.message.specs.declared.refusal.Forms.{Forms}
 use Rattle.message.specs.declared.refusal.Status.{Status}
 use Rattle.message.specs.declared.link.Link.the-variants.{None as noLink}
 use Rattle.message.specs.Command.{Said, read, wrote, plain, coreRead, coreWrote, opened}
@@ -54,7 +55,7 @@ pub record OpenBlock (fid size access results : ℕ) (room : List ℕ) : Type 0 
   pub no-bytes : le16At room 63 ≡ 0
 
 -- "Blocks stand end to end from 32": a reply of that Status and block, laid over the front of the room, and a byte of the block
-module _ (s : List ℕ) (long : 32 ≤ length s) (room : List ℕ) (n : Status) (block : List ℕ) where
+module _ (s : List ℕ) (long : 32 ≤ length s) (room : List ℕ) (n : Forms) (block : List ℕ) where
   abbrev behindAll : List ℕ
   behindAll = drop (0 + length (replyHeader s n ++ block)) room
 
@@ -69,7 +70,7 @@ module _ (s : List ℕ) (long : 32 ≤ length s) (room : List ℕ) (n : Status) 
       ∙ getD-append-add (replyHeader s n) (block ++ behindAll) k 0
 
 -- "A refused command or message gives WordCount 0 and ByteCount 0"
-pub refused-block : (s : List ℕ) → 32 ≤ length s → (room : List ℕ) (n : Status) → PlainBlock (put room 0 (replyHeader s n ++ refusedBlock))
+pub refused-block : (s : List ℕ) → 32 ≤ length s → (room : List ℕ) (n : Forms) → PlainBlock (put room 0 (replyHeader s n ++ refusedBlock))
 unfolding le16At refusedBlock
 refused-block s long room n =
     let at = reply-byte s long room n refusedBlock in
@@ -85,23 +86,23 @@ module _ (s : List ℕ) (long : 32 ≤ length s) (room : List ℕ) (said : Said)
   block = replyBlock said FIRST noLink
 
   abbrev pub answer : List ℕ
-  answer = put room 0 (replyHeader s (status 0 0) ++ block)
+  answer = put room 0 (replyHeader s success ++ block)
 
   abbrev pub rest : List ℕ
-  rest = drop (0 + length (replyHeader s (status 0 0) ++ block)) room
+  rest = drop (0 + length (replyHeader s success ++ block)) room
 
-  answer-parts : answer ≡ replyHeader s (status 0 0) ++ (block ++ rest)
-  answer-parts = reply-parts s long room (status 0 0) block
+  answer-parts : answer ≡ replyHeader s success ++ (block ++ rest)
+  answer-parts = reply-parts s long room success block
 
   -- a byte of the block, and what stands behind some of its bytes
   answer-byte : (k : ℕ) → byteAt answer (32 + k) ≡ getD (block ++ rest) k 0
-  answer-byte k = reply-byte s long room (status 0 0) block k
+  answer-byte k = reply-byte s long room success block k
 
   answer-behind : (k : ℕ) → drop (32 + k) answer ≡ drop k (block ++ rest)
   answer-behind k =
       ap (drop (32 + k)) answer-parts
-      ∙ ap (λ (n : ℕ). drop (n + k) (replyHeader s (status 0 0) ++ (block ++ rest))) (sym (length-header s (status 0 0) long))
-      ∙ drop-append-add (replyHeader s (status 0 0)) (block ++ rest) k
+      ∙ ap (λ (n : ℕ). drop (n + k) (replyHeader s success ++ (block ++ rest))) (sym (length-header s success long))
+      ∙ drop-append-add (replyHeader s success) (block ++ rest) k
 
 module _ (s : List ℕ) (long : 32 ≤ length s) (room : List ℕ) where
   -- READ: "the bytes are the data", behind the first 27 of the block

@@ -1,49 +1,56 @@
--- The header of every reply, byte by byte (document 01, "Header"). Assumes nothing.
+-- The header of every reply, byte by byte (document 01, "Header"; document 02, CR 7). Assumes nothing.
 use mathlib.Core.Path.{_≡_, refl, sym, ap, _∙_}
 use Prim.Native.Nat.{ℕ, _+_, _-_, _*_, _/_, _%_, _≤_, _<_}
 use native.Mathlib.Omega.{arith}
+use mathlib.Core.Bool.{false}
 use mathlib.Core.List.{List, [], _∷_, _++_, append-assoc}
 use lib.ListN.{length, take, drop, getD, replicate, List·getD-append, length-append, length-drop}
 use lib.Seq.{getD-take, getD-drop, getD-append-add, length-take-le}
 use Rattle.lists.specs.Put.{put}
 use Rattle.wire.specs.LittleEndian.{byteAt, le16At}
 use Rattle.records.specs.declared.Tables.{Tables}
+use Rattle.message.specs.Refusal.{status}
+use Rattle.message.specs.declared.refusal.Forms.{Forms}
 use Rattle.message.specs.declared.refusal.Status.{Status}
-use Rattle.message.specs.Reply.{two, replyHeader}
+use Rattle.message.specs.Reply.{two, four, ntBit, statusNumber, replyHeader}
 use Rattle.message.specs.Message.{Ran, answered, replyOf, Taken, replied, take-message}
 use Rattle.invariants.specs.Fit.{Fit, fit-answered}
+use Rattle.claims.specs.StatusList.{smb-bytes, answered-listed, listed-says}
 use Rattle.demands.specs.Taken.{not-short}
-use Rattle.demands.specs.Calls.{statusRead, status-call}
+use Rattle.demands.specs.StatusRead.{statusRead}
+use Rattle.demands.specs.Calls.{status-call}
 
--- "A reply copies Command, PIDHigh, TID, PIDLow, UID and MID; Flags is 0x80 plus the request's 0x08; Flags2 keeps only 0x0001; the rest is 0 but for Status"
+-- "A reply copies Command, PIDHigh, TID, PIDLow, UID and MID; Flags is 0x80 plus the request's 0x08; .. the rest is 0 but for Status", of which the old form has a zero byte at
+-- 6; Flags2 is the request's & 0x4001 (docs/DECISIONS.md, 127)
 pub record HeaderOf (request : List ℕ) (reply : List ℕ) : Type 0 where
   pub starts : (byteAt reply 0 ≡ 0xFF) × (byteAt reply 1 ≡ 0x53) × (byteAt reply 2 ≡ 0x4D) × (byteAt reply 3 ≡ 0x42)
   pub command : byteAt reply 4 ≡ byteAt request 4
-  pub reserved : byteAt reply 6 ≡ 0
+  pub reserved : ntBit request ≡ false → byteAt reply 6 ≡ 0
   pub flags : byteAt reply 9 ≡ 128 + byteAt request 9 / 8 % 2 * 8
-  pub flags2 : (byteAt reply 10 ≡ byteAt request 10 % 2) × (byteAt reply 11 ≡ 0)
+  pub flags2 : (byteAt reply 10 ≡ byteAt request 10 % 2) × (byteAt reply 11 ≡ byteAt request 11 / 64 % 2 * 64)
   pub pid-high : (byteAt reply 12 ≡ byteAt request 12) × (byteAt reply 13 ≡ byteAt request 13)
   pub zeros : take 10 (drop 14 reply) ≡ replicate 10 0
   pub copied : (k : ℕ) → 24 ≤ k → k < 32 → byteAt reply k ≡ byteAt request k
 
-module _ (s : List ℕ) (why : Status) (blocks room : List ℕ) (long : 35 ≤ length s) where
+module _ (s : List ℕ) (why : Forms) (blocks room : List ℕ) (long : 35 ≤ length s) (small : why .status .class < 256) where
   abbrev given : List ℕ
   given = put room 0 (replyHeader s why ++ blocks)
 
   -- the bytes in front of those that are copied, and those behind them
   abbrev front : List ℕ
   front =
-      (0xFF ∷ 0x53 ∷ 0x4D ∷ 0x42 ∷ byteAt s 4 ∷ why .class ∷ 0 ∷ why .code % 256 ∷ why .code / 256 % 256 ∷ [])
-      ++ ((128 + byteAt s 9 / 8 % 2 * 8) ∷ byteAt s 10 % 2 ∷ 0 ∷ byteAt s 12 ∷ byteAt s 13 ∷ replicate 10 0)
+      (0xFF ∷ 0x53 ∷ 0x4D ∷ 0x42 ∷ byteAt s 4 ∷ four (statusNumber s why))
+      ++ ((128 + byteAt s 9 / 8 % 2 * 8) ∷ byteAt s 10 % 2 ∷ byteAt s 11 / 64 % 2 * 64 ∷ byteAt s 12 ∷ byteAt s 13 ∷ replicate 10 0)
 
   abbrev rest : List ℕ
   rest = drop (0 + length (replyHeader s why ++ blocks)) room
 
   parts : given ≡ front ++ ((take 8 (drop 24 s) ++ blocks) ++ rest)
-  unfolding put replyHeader two
+  unfolding put replyHeader two four
   parts = refl
 
   last-eight : (k : ℕ) → 24 ≤ k → k < 32 → byteAt given k ≡ byteAt s k
+  unfolding two four
   last-eight k low high =
       let i : k ≡ 24 + (k - 24) = omega arith in
       let d : length (drop 24 s) ≡ length s - 24 = length-drop 24 s in
@@ -57,13 +64,18 @@ module _ (s : List ℕ) (why : Status) (blocks room : List ℕ) (long : 35 ≤ l
       ∙ getD-take 8 (drop 24 s) (k - 24) 0 (omega arith)
       ∙ getD-drop 24 s (k - 24) 0)
 
+  -- "SMBSTATUS is class, 0, code"
+  zero-at-6 : ntBit s ≡ false → byteAt given 6 ≡ 0
+  unfolding put replyHeader two four statusNumber
+  zero-at-6 clear = rw clear (smb-bytes (why .status) small .1)
+
   header-of : HeaderOf s given
-  unfolding put replyHeader two
+  unfolding put replyHeader two four
   header-of =
       record {
         starts = (refl, refl, refl, refl);
         command = refl;
-        reserved = refl;
+        reserved = zero-at-6;
         flags = refl;
         flags2 = (refl, refl);
         pid-high = (refl, refl);
@@ -76,4 +88,4 @@ pub reply-header : (connection : ℕ) (s : List ℕ) (t : Tables) (memory room :
 unfolding replied replyOf
 reply-header connection s t memory room fit =
     rw (fit-answered connection s t memory room fit)
-    (header-of s (answered connection s t memory .status) (answered connection s t memory .blocks) room (not-short s (fit .not-dropped)))
+    (header-of s (answered connection s t memory .forms) (answered connection s t memory .blocks) room (not-short s (fit .not-dropped)) (listed-says (answered-listed connection s t memory) .class))

@@ -29,8 +29,8 @@ use Rattle.chain.specs.declared.block.WriteFields.{WriteFields}
 use Rattle.chain.specs.declared.block.OpenFields.{OpenFields}
 use Rattle.chain.specs.declared.block.Body.{Body}
 use Rattle.chain.specs.declared.block.Body.the-variants.{Locking as LockingBody, Read as ReadBody, Write as WriteBody, Close, Logoff, TreeDisconnect, ProcessExit, CoreRead as CoreReadBody, CoreWrite as CoreWriteBody, LockByteRange, UnlockByteRange, Open as OpenBody}
+use Rattle.message.specs.declared.refusal.Forms.{Forms}
 use Rattle.message.specs.declared.caller.Caller.{Caller}
-use Rattle.message.specs.declared.refusal.Status.{Status}
 use Rattle.message.specs.declared.refusal.Refusal.{Refusal}
 use Rattle.message.specs.declared.refusal.Refusal.the-variants.{NoAccess, LockType}
 use Rattle.message.specs.Command.{Said, locked, loggedOff, read, wrote, plain, coreRead, coreWrote, opened, Given, refused, done, servedType, requestOf, lockingEnd, lockingAfter, doLocking, doRead, endsPast, doWrite, coreSaid, asCore, oneRange, doRange, doSetSize, doCoreWrite, openBy, openedSaid, doOpen, perform}
@@ -65,7 +65,7 @@ fid-said (coreRead bytes) place h = refl
 fid-said (coreWrote count) place h = refl
 fid-said (opened fid size access results) place h = two-back fid h
 
-reply-byte : (message : List ℕ) (why : Status) (block : List ℕ) → 32 ≤ length message → (k : ℕ) → byteAt (replyHeader message why ++ block) (32 + k) ≡ byteAt block k
+reply-byte : (message : List ℕ) (why : Forms) (block : List ℕ) → 32 ≤ length message → (k : ℕ) → byteAt (replyHeader message why ++ block) (32 + k) ≡ byteAt block k
 reply-byte message why block long k =
     ap (λ (n : ℕ). byteAt (replyHeader message why ++ block) (n + k)) (sym (length-header message why long))
     ∙ getD-append-add (replyHeader message why) block k 0
@@ -74,12 +74,12 @@ pub reply-returned : (message : List ℕ) (r : Ran) (said : Said) (place : ℕ) 
     → returnedFid (replyOf message r) ≡ openedBy said
 unfolding returnedFid replyOf fidIn le16At
 reply-returned message r said place long e h =
-    let b : (k : ℕ) → byteAt (replyHeader message (r .status) ++ r .blocks) (32 + k) ≡ byteAt (r .blocks) k = reply-byte message (r .status) (r .blocks) long in
+    let b : (k : ℕ) → byteAt (replyHeader message (r .forms) ++ r .blocks) (32 + k) ≡ byteAt (r .blocks) k = reply-byte message (r .forms) (r .blocks) long in
     rw (b 0, b 5, b 6, e) (fid-said said place h)
 
 pub reply-none : (message : List ℕ) (r : Ran) → 32 ≤ length message → r .blocks ≡ refusedBlock → returnedFid (replyOf message r) ≡ NOBODY
 unfolding returnedFid replyOf refusedBlock
-reply-none message r long e = rw (reply-byte message (r .status) (r .blocks) long 0, e)
+reply-none message r long e = rw (reply-byte message (r .forms) (r .blocks) long 0, e)
 
 -- ---- what a command says: OPEN_ANDX alone gives a FID out, and it fits in 16 bits
 

@@ -33,7 +33,7 @@ use Rattle.message.specs.Refusal.{status}
 use Rattle.message.specs.Contents.{sizeOf, contents, grown, withSize}
 use Rattle.message.specs.Command.{Said, done, doSetSize, doCoreWrite}
 use Rattle.message.specs.Message.{Taken, take-message}
-use Rattle.demands.specs.Calls.{statusRead}
+use Rattle.demands.specs.StatusRead.{statusRead}
 use Rattle.demands.specs.Admitted.{Admitted}
 use Rattle.demands.specs.FileBytes.{Grew, contents-byte, contents-length, contents-same, file-inside, grown-bytes, sized-size, sized-others, sized-records, sized-same}
 use Rattle.demands.specs.FileCommands.{catalogue-kept, set-size-left}

@@ -47,11 +47,11 @@ use Rattle.chain.specs.declared.block.Body.the-variants.{Locking as LockingBody
 use Rattle.chain.specs.declared.block.Block.{Block}
 use Rattle.chain.specs.declared.block.Next.{Next}
 use Rattle.message.specs.Caller.{callerOf}
+use Rattle.message.specs.declared.refusal.Forms.{Forms}
 use Rattle.message.specs.declared.caller.Caller.{Caller}
-use Rattle.message.specs.Refusal.{statusOf}
+use Rattle.message.specs.Refusal.{formsOf}
 use Rattle.message.specs.declared.refusal.Refusal.{Refusal}
 use Rattle.message.specs.declared.refusal.Refusal.the-variants.{NotServed, NotSentence, NoSession, NoTree, NoAccess, LockType, NoSpace, OpenMode, BadAccess, BadShare, NoFids}
-use Rattle.message.specs.declared.refusal.Status.{Status}
 use Rattle.message.specs.Contents.{sizeOf, contents, readBytes, grown, written, withSize, resized}
 use Rattle.message.specs.Command.{Said, Given, refused, done, isSession, withSession, withTree, isOpen, openAt, withOpen, servedType, withLockList, lockingEnd, lockingAfter, doLocking, unlessBarred, barring, doRead, writing, endsPast, doWrite, asCore, doRange, doSetSize, doCoreWrite, codesServed, openBy, openFile, openNamed, doOpen, perform}
 use Rattle.message.specs.Sharing.{keptOut}
@@ -362,7 +362,7 @@ module _ (c : Caller) (t : Tables) (g : Good t) (memory other : List ℕ) (s : S
 
 -- what a chain leaves on one file memory and on another
 pub record RanAlike (r r′ : Ran) : Type 0 where
-  pub same-status : r .status ≡ r′ .status
+  pub same-forms : r .forms ≡ r′ .forms
   pub same-holder : r .holder ≡ r′ .holder
   pub same-tables : r .tables ≡ r′ .tables
   pub same-blocks : r .blocks ≡ r′ .blocks
@@ -372,11 +372,11 @@ after-alike : {d d′ : Given} → GivenAlike d d′ → Keeps d → (bs : List 
     → ((j p : ℕ) (u : Tables) (m m′ : List ℕ) → Good u → Shown u m m′ → RanAlike (rest j p u m) (rest j p u m′))
     → RanAlike (afterGiven d bs place t memory rest) (afterGiven d′ bs place t other rest)
 unfolding afterGiven after
-after-alike both-refused k bs place t memory other rest s f = record { same-status = refl; same-holder = refl; same-tables = refl; same-blocks = refl; shown = s }
+after-alike both-refused k bs place t memory other rest s f = record { same-forms = refl; same-holder = refl; same-tables = refl; same-blocks = refl; shown = s }
 after-alike (both-done {t = u} {memory = m} {other = m′} {said} h) k bs place t memory other rest s f =
     let r = f (openedBy said) (place + replySize said) u m m′ (keeps-good k) h in
     record {
-      same-status = r .same-status;
+      same-forms = r .same-forms;
       same-holder = r .same-holder;
       same-tables = r .same-tables;
       same-blocks = ap (λ (l : List ℕ). replyBlock said place (linkTo bs (place + replySize said)) ++ l) (r .same-blocks);
@@ -390,7 +390,7 @@ unfolding run blockAt
 run-alike {s} c (chained-end {command} {at} h l) just place t memory other g shown =
     after-alike (perform-alike c t g memory other shown (bodyMeant just (bodyAt s command at)) _ _ (meant-filled just _ _ _ (block-filled h _)))
     (perform-keeps t g c memory (bodyMeant just (bodyAt s command at)) _ _) [] place t memory other
-    (λ j p u m. run c s j [] p u m) shown (λ j p u m m′ _ q. record { same-status = refl; same-holder = refl; same-tables = refl; same-blocks = refl; shown = q })
+    (λ j p u m. run c s j [] p u m) shown (λ j p u m m′ _ q. record { same-forms = refl; same-holder = refl; same-tables = refl; same-blocks = refl; shown = q })
 run-alike {s} c (chained-more {command} {at} {rest = rest} h l r) just place t memory other g shown =
     after-alike (perform-alike c t g memory other shown (bodyMeant just (bodyAt s command at)) _ _ (meant-filled just _ _ _ (block-filled h _)))
     (perform-keeps t g c memory (bodyMeant just (bodyAt s command at)) _ _) rest place t memory other
@@ -399,19 +399,19 @@ run-alike {s} c (chained-more {command} {at} {rest = rest} h l r) just place t m
 -- ---- a message
 
 module _ (connection : ℕ) (s : List ℕ) (t : Tables) (memory other : List ℕ) (g : Good t) (shown : Shown t memory other) where
-  only-alike : (why : Status) → RanAlike (onlyStatus why t memory) (onlyStatus why t other)
+  only-alike : (why : Forms) → RanAlike (onlyStatus why t memory) (onlyStatus why t other)
   unfolding onlyStatus
-  only-alike why = record { same-status = refl; same-holder = refl; same-tables = refl; same-blocks = refl; shown = shown }
+  only-alike why = record { same-forms = refl; same-holder = refl; same-tables = refl; same-blocks = refl; shown = shown }
 
   chain-alike : (o : Option (List Block)) → blocks s ≡ o → RanAlike (runChain (callerOf connection s) s o t memory) (runChain (callerOf connection s) s o t other)
   unfolding runChain blocks
-  chain-alike none e = only-alike (statusOf NotSentence)
+  chain-alike none e = only-alike (formsOf NotSentence)
   chain-alike (some bs) e = run-alike (callerOf connection s) (read-chained s (headerCommand s) FIRST bs e) NOBODY FIRST t memory other g shown
 
   pub answered-alike : RanAlike (answered connection s t memory) (answered connection s t other)
   unfolding answered
   answered-alike =
-      both-cond RanAlike (served (headerCommand s)) _ _ _ _ (λ _. chain-alike (blocks s) refl) (λ _. only-alike (statusOf NotServed))
+      both-cond RanAlike (served (headerCommand s)) _ _ _ _ (λ _. chain-alike (blocks s) refl) (λ _. only-alike (formsOf NotServed))
 
 -- what the call that takes a message gives on one file memory and on another: all but the file memory is the same
 pub record TakenAlike (r r′ : Taken) : Type 0 where
@@ -433,10 +433,10 @@ take-message-alike connection s t memory other room g shown =
     (λ _. let r = answered-alike connection s t memory other g shown in
     record {
       same-number = refl;
-      same-length = rw (r .same-status, r .same-blocks);
+      same-length = rw (r .same-forms, r .same-blocks);
       same-holder = r .same-holder;
       same-tables = r .same-tables;
-      same-room = rw (r .same-status, r .same-blocks);
+      same-room = rw (r .same-forms, r .same-blocks);
       shown = r .shown;
     }))))
   where

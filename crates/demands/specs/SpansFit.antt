@@ -12,6 +12,7 @@ use lib.ListN.{length}
 use lib.Dec.{eqb}
 use borrow.Author.Tests.{eqb-true}
 use Rattle.lists.specs.Truth.{decided, both-hold}
+use Rattle.wire.specs.LittleEndian.{le32At}
 use Rattle.records.specs.declared.Tables.{Tables}
 use Rattle.chain.specs.Layout.{headerCommand, FIRST}
 use Rattle.chain.specs.Grammar.{Span, Reading}
@@ -25,14 +26,16 @@ use Rattle.invariants.specs.Fit.{Fit}
 use Rattle.readings.specs.ReaderComplete.{reader-complete}
 use Rattle.message.specs.Caller.{callerOf}
 use Rattle.message.specs.Refusal.{status}
+use Rattle.message.specs.declared.refusal.Forms.{Forms}
 use Rattle.message.specs.declared.refusal.Status.{Status}
 use Rattle.message.specs.Message.{Ran, answered, replyOf, take-message}
 use Rattle.message.specs.JustOpened.{NOBODY}
 use Rattle.demands.specs.Returned.{returnedFid}
-use Rattle.demands.specs.OneByOne.{succeeded, own, sendAll, compared, one-by-one}
+use Rattle.demands.specs.OneByOne.{own, sendAll, compared, one-by-one}
 use Rattle.demands.specs.Taken.{not-long, AllFit, none-left, next-fits, all-fit}
 use Rattle.demands.specs.CallsOneByOne.{carriedOut}
-use Rattle.demands.specs.Calls.{statusRead, status-call}
+use Rattle.demands.specs.StatusRead.{zero-succeeded, statusRead, succeeded}
+use Rattle.demands.specs.Calls.{status-call}
 use Rattle.demands.specs.LoneCall.{lockingArea}
 use Rattle.demands.specs.CommandReasons.{Reason}
 use Rattle.demands.specs.FirstReadings.{reading-exact}
@@ -107,13 +110,6 @@ spans-fit connection s r t memory room small g fit n =
 
 -- ---- a chain that is done
 
--- 0/0 is known by its two numbers
-zero-status : (n : Status) → succeeded n ≡ true → n ≡ status 0 0
-unfolding succeeded status
-zero-status n e =
-    let h = both-hold (eqb (n .class) 0) (eqb (n .code) 0) e in
-    λ i. record { class = eqb-true (n .class) 0 (h .0) i; code = eqb-true (n .code) 0 (h .1) i }
-
 -- a message fit to be answered is carried out exactly if its reply's Status is 0/0
 pub carried-exact : (connection : ℕ) (message : List ℕ) (t : Tables) (memory room : List ℕ) → Fit message t memory room
     → (carriedOut (take-message connection message t memory room) ≡ true) ↔ (statusRead (take-message connection message t memory room .room) ≡ status 0 0)
@@ -121,29 +117,29 @@ unfolding succeeded status
 carried-exact connection message t memory room fit =
     let same = carried-succeeds connection message t memory room fit in
     let read = status-call connection message t memory room fit in (
-      λ e. read ∙ zero-status (answered connection message t memory .status) (sym same ∙ e),
+      λ e. read ∙ zero-succeeded (answered connection message t memory .forms .status) (sym same ∙ e),
       λ z. same ∙ ap succeeded (sym read ∙ z),
     )
 
 module _ (connection : ℕ) (s small : List ℕ) where
-  carried-by : (just : ℕ) (b : Block) (bs : List Block) (t : Tables) (memory : List ℕ) → Fit (own s just b) t memory small → sendAll connection s just (b ∷ bs) t memory .status ≡ status 0 0
-      → (sendAll connection s (later-just connection s small just b bs t memory) bs (answered connection (own s just b) t memory .tables) (answered connection (own s just b) t memory .memory) .status ≡ status 0 0
+  carried-by : (just : ℕ) (b : Block) (bs : List Block) (t : Tables) (memory : List ℕ) → Fit (own s just b) t memory small → sendAll connection s just (b ∷ bs) t memory .forms .status ≡ status 0 0
+      → (sendAll connection s (later-just connection s small just b bs t memory) bs (answered connection (own s just b) t memory .tables) (answered connection (own s just b) t memory .memory) .forms .status ≡ status 0 0
       → AllCarried connection s small (later-just connection s small just b bs t memory) (map spanOf bs) (answered connection (own s just b) t memory .tables)
       (answered connection (own s just b) t memory .memory))
       → AllCarried connection s small just (spanOf b ∷ map spanOf bs) t memory
   carried-by just b bs t memory fits z later =
-      elim (decided (succeeded (answered connection (own s just b) t memory .status))) [
+      elim (decided (succeeded (answered connection (own s just b) t memory .forms .status))) [
         | inl e ↦
             let k = send-on connection s small just b bs t memory e in
             let rest : AllCarried connection s small (returned connection s small just (spanOf b) t memory) (map spanOf bs) (sent connection s small just (spanOf b) t memory .tables)
             (sent connection s small just (spanOf b) t memory .memory) =
-            rw (returned-is connection s small just b t memory fits, tables-is connection s small just b t memory fits, memory-is connection s small just b t memory fits) (later (sym (k .0) ∙ z)) in
+            rw (returned-is connection s small just b t memory fits, tables-is connection s small just b t memory fits, memory-is connection s small just b t memory fits) (later (sym (ap (λ (f : Forms). f .status) (k .0)) ∙ z)) in
             carried-then (carried-is connection s small just b t memory fits ∙ e) rest
-        | inr e ↦ absurd (not-zero connection s small just b t memory fits e (sym (send-off connection s small just b bs t memory e .0) ∙ z))
+        | inr e ↦ absurd (not-zero connection s small just b t memory fits e (sym (ap (λ (f : Forms). f .status) (send-off connection s small just b bs t memory e .0)) ∙ z))
       ]
 
   carried-all : {just : ℕ} {bs : List Block} {t : Tables} {memory : List ℕ} → 12292 ≤ length small → AllFit connection s just bs t memory
-      → sendAll connection s just bs t memory .status ≡ status 0 0 → AllCarried connection s small just (map spanOf bs) t memory
+      → sendAll connection s just bs t memory .forms .status ≡ status 0 0 → AllCarried connection s small just (map spanOf bs) t memory
   carried-all enough none-left z = none-sent
   carried-all {t = t} {memory = memory} enough (next-fits {just} {b} {bs} low fit more) z = carried-by just b bs t memory (fit small enough) z (λ y. carried-all enough more y)
 
@@ -154,8 +150,8 @@ unfolding compared
 spans-carried connection s r t memory room small g fit n z =
     let a = reader-complete r in
     let enough : 12292 ≤ length small = omega arith in
-    let same : statusRead (take-message connection s t memory room .room) ≡ sendAll connection s NOBODY (a .0) t memory .status =
-    status-call connection s t memory room fit ∙ ap (λ (x : Ran). x .status) (one-by-one connection s (a .0) (a .1) (not-long s (fit .not-dropped)) t memory) in
+    let same : statusRead (take-message connection s t memory room .room) ≡ sendAll connection s NOBODY (a .0) t memory .forms .status =
+    status-call connection s t memory room fit ∙ ap (λ (x : Ran). x .forms .status) (one-by-one connection s (a .0) (a .1) (not-long s (fit .not-dropped)) t memory) in
     rw (a .2) at (carried-all connection s small enough (all-fit connection s (a .0) (a .1) (fit .not-dropped) t memory g (fit .memory-whole)) (sym same ∙ z))
 
 -- ---- a chain that is refused
@@ -164,7 +160,7 @@ spans-carried connection s r t memory room small g fit n z =
 -- what those before it left
 pub refused-reason : (connection : ℕ) (s : List ℕ) {spans : List Span} → Reading s spans → (t : Tables) (memory room small : List ℕ) → Good t → Fit s t memory room
     → length small ≡ 12292
-    → (q : RefusedAt connection s small NOBODY spans t memory (statusRead (take-message connection s t memory room .room)) (take-message connection s t memory room .holder)
+    → (q : RefusedAt connection s small NOBODY spans t memory (statusRead (take-message connection s t memory room .room)) (le32At (take-message connection s t memory room .room) 5) (take-message connection s t memory room .holder)
     (take-message connection s t memory room .tables) (take-message connection s t memory room .memory))
     → Reason (callerOf connection (ownSpan s (lastReturned connection s small NOBODY (q .front) t memory) (q .command))) (take-message connection s t memory room .tables) (lockingArea (ownSpan s (lastReturned connection s small NOBODY (q .front) t memory) (q .command)))
     (bodyAt (ownSpan s (lastReturned connection s small NOBODY (q .front) t memory) (q .command)) (headerCommand (ownSpan s (lastReturned connection s small NOBODY (q .front) t memory) (q .command))) FIRST) (statusRead (take-message connection s t memory room .room))

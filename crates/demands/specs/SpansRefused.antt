@@ -9,6 +9,7 @@ use mathlib.Core.List.{List, [], _∷_, _++_, map}
 use mathlib.Core.Option.{some}
 use lib.ListN.{length}
 use Rattle.lists.specs.Truth.{decided, not-decided-twice}
+use Rattle.wire.specs.LittleEndian.{le32At}
 use Rattle.records.specs.declared.Tables.{Tables}
 use Rattle.chain.specs.Layout.{headerCommand, FIRST, blockEnd}
 use Rattle.chain.specs.Grammar.{IsBlock, Span, Reading}
@@ -24,17 +25,21 @@ use Rattle.invariants.specs.Fit.{Fit, fit-answered}
 use Rattle.readings.specs.Moved.{Moved, moved-block, moved-size}
 use Rattle.readings.specs.ReaderComplete.{reader-complete}
 use Rattle.message.specs.Refusal.{status}
+use Rattle.message.specs.declared.refusal.Forms.{Forms}
 use Rattle.message.specs.declared.refusal.Status.{Status}
 use Rattle.message.specs.declared.refusal.HeldBy.{HeldBy}
+use Rattle.message.specs.Reply.{ntBit, statusNumber}
 use Rattle.message.specs.Message.{Ran, answered, replyOf, Taken, replied, take-message}
 use Rattle.message.specs.JustOpened.{NOBODY}
 use Rattle.demands.specs.Returned.{returnedFid}
 use Rattle.demands.specs.Carrying.{carried-block}
 use Rattle.demands.specs.Alone.{alone, alone-command, alone-moved, alone-ends}
-use Rattle.demands.specs.OneByOne.{Sent, succeeded, replyThen, sendOn, own, sendAll, compared, one-by-one}
-use Rattle.demands.specs.Taken.{not-long, AllFit, none-left, next-fits, all-fit}
-use Rattle.demands.specs.CallsOneByOne.{Calls, lastCall, callThen, carriedOut, replyIn, statusZero, status-read, reply-read, answered-small}
-use Rattle.demands.specs.Calls.{statusRead, status-call}
+use Rattle.claims.specs.StatusList.{answered-listed, listed-says}
+use Rattle.demands.specs.OneByOne.{Sent, replyThen, sendOn, own, own-header, sendAll, compared, one-by-one}
+use Rattle.demands.specs.Taken.{not-short, not-long, AllFit, none-left, next-fits, all-fit}
+use Rattle.demands.specs.CallsOneByOne.{Calls, lastCall, callThen, carriedOut, replyIn, reply-read}
+use Rattle.demands.specs.StatusRead.{statusRead, succeeded, statusZero, status-zero}
+use Rattle.demands.specs.Calls.{status-call, status-number-call}
 use Rattle.demands.specs.RefusedCall.{Untouched, alone-refused}
 use Rattle.demands.specs.SpansOneByOne.{ownSpan, own-span, callSpanOn, callSpans}
 
@@ -63,8 +68,8 @@ module _ (connection : ℕ) (s small : List ℕ) where
     carried-then : {just : ℕ} {b : Span} {bs : List Span} {t : Tables} {memory : List ℕ} → carriedOut (sent just b t memory) ≡ true
         → AllCarried (returned just b t memory) bs (sent just b t memory .tables) (sent just b t memory .memory) → AllCarried just (b ∷ bs) t memory
 
-  -- how a chain of these blocks was refused with status n, with which holder, and which tables and file memory it left
-  pub record RefusedAt (just : ℕ) (spans : List Span) (t : Tables) (memory : List ℕ) (n : Status) (holder : HeldBy) (tables : Tables) (left : List ℕ) : Type 0 where
+  -- how a chain of these blocks was refused with status n, whose four bytes are those of that number, with which holder, and which tables and file memory it left
+  pub record RefusedAt (just : ℕ) (spans : List Span) (t : Tables) (memory : List ℕ) (n : Status) (bytes : ℕ) (holder : HeldBy) (tables : Tables) (left : List ℕ) : Type 0 where
     -- the blocks: those before the one refused, this one, those after it
     pub front : List Span
     pub command : Span
@@ -74,9 +79,10 @@ module _ (connection : ℕ) (s small : List ℕ) where
     pub front-carried : AllCarried just front t memory
     pub tables-left : tables ≡ calls just front t memory .tables
     pub memory-left : left ≡ calls just front t memory .memory
-    -- its message, sent on these, is answered with the chain's Status, and has the chain's holder
+    -- its message, sent on these, is answered with the chain's Status, in its form, and has the chain's holder
     pub number-so : sent (lastReturned just front t memory) command (calls just front t memory .tables) (calls just front t memory .memory) .number ≡ 0
     pub status-so : statusRead (sent (lastReturned just front t memory) command (calls just front t memory .tables) (calls just front t memory .memory) .room) ≡ n
+    pub bytes-so : le32At (sent (lastReturned just front t memory) command (calls just front t memory .tables) (calls just front t memory .memory) .room) 5 ≡ bytes
     pub holder-so : sent (lastReturned just front t memory) command (calls just front t memory .tables) (calls just front t memory .memory) .holder ≡ holder
     -- "A command refused changes no table and no file byte"
     pub untouched : Untouched (calls just front t memory .tables) (calls just front t memory .memory)
@@ -116,13 +122,13 @@ all-lone {s} (chained-more {command} {at} {c} {a} h l r) from small =
 
 -- a message fit to be answered is carried out just if it succeeds
 pub carried-succeeds : (connection : ℕ) (message : List ℕ) (t : Tables) (memory room : List ℕ) → Fit message t memory room
-    → carriedOut (take-message connection message t memory room) ≡ succeeded (answered connection message t memory .status)
+    → carriedOut (take-message connection message t memory room) ≡ succeeded (answered connection message t memory .forms .status)
 unfolding carriedOut replied
 carried-succeeds connection message t memory room fit =
     let ran = answered connection message t memory in
     ap carriedOut (fit-answered connection message t memory room fit)
     ∙ ap statusZero (reply-read message room ran)
-    ∙ status-read message ran (answered-small connection message t memory)
+    ∙ status-zero message ran (listed-says (answered-listed connection message t memory))
 
 module _ (connection : ℕ) (s small : List ℕ) where
   -- the messages of the blocks behind it get what it left
@@ -152,12 +158,12 @@ module _ (connection : ℕ) (s small : List ℕ) where
   refused-last just b (d ∷ bs) t memory e = rw e
 
   -- a refusal behind a message that is carried out
-  refused-later : (just : ℕ) (b : Span) (bs : List Span) (t : Tables) (memory : List ℕ) (n : Status) (holder : HeldBy) (tables : Tables) (left : List ℕ)
+  refused-later : (just : ℕ) (b : Span) (bs : List Span) (t : Tables) (memory : List ℕ) (n : Status) (bytes : ℕ) (holder : HeldBy) (tables : Tables) (left : List ℕ)
       → carriedOut (sent connection s small just b t memory) ≡ true
-      → RefusedAt connection s small (returned connection s small just b t memory) bs (sent connection s small just b t memory .tables) (sent connection s small just b t memory .memory) n holder tables left
-      → RefusedAt connection s small just (b ∷ bs) t memory n holder tables left
+      → RefusedAt connection s small (returned connection s small just b t memory) bs (sent connection s small just b t memory .tables) (sent connection s small just b t memory .memory) n bytes holder tables left
+      → RefusedAt connection s small just (b ∷ bs) t memory n bytes holder tables left
   unfolding lastReturned
-  refused-later just b bs t memory n holder tables left e q =
+  refused-later just b bs t memory n bytes holder tables left e q =
       let k = carried-calls just b (q .front) t memory e in
       record {
         front = b ∷ q .front;
@@ -169,6 +175,7 @@ module _ (connection : ℕ) (s small : List ℕ) where
         memory-left = q .memory-left ∙ sym (k .1);
         number-so = rw (k .0, k .1) (q .number-so);
         status-so = rw (k .0, k .1) (q .status-so);
+        bytes-so = rw (k .0, k .1) (q .bytes-so);
         holder-so = rw (k .0, k .1) (q .holder-so);
         untouched = rw (k .0, k .1) (q .untouched);
         not-begun =
@@ -194,7 +201,7 @@ module _ (connection : ℕ) (s small : List ℕ) where
     taken-is : taken ≡ replied (own s just b) small ran
     taken-is = taken-alone ∙ fit-answered connection (own s just b) t memory small fits
 
-    pub carried-is : carriedOut taken ≡ succeeded (ran .status)
+    pub carried-is : carriedOut taken ≡ succeeded (ran .forms .status)
     carried-is = ap carriedOut taken-alone ∙ carried-succeeds connection (own s just b) t memory small fits
 
     pub tables-is : taken .tables ≡ ran .tables
@@ -216,23 +223,31 @@ module _ (connection : ℕ) (s small : List ℕ) where
     unfolding replied
     holder-is = ap (λ (x : Taken). x .holder) taken-is
 
-    status-is : statusRead (taken .room) ≡ ran .status
+    status-is : statusRead (taken .room) ≡ ran .forms .status
     status-is = ap (λ (x : Taken). statusRead (x .room)) taken-alone ∙ status-call connection (own s just b) t memory small fits
 
-    pub not-zero : succeeded (ran .status) ≡ false → ran .status ≡ status 0 0 → ⊥
+    -- the number is in the form that the chain's message asks for
+    number-at : 32 ≤ length s → le32At (taken .room) 5 ≡ statusNumber s (ran .forms)
+    unfolding statusNumber ntBit
+    number-at long =
+        ap (λ (x : Taken). le32At (x .room) 5) taken-alone
+        ∙ status-number-call connection (own s just b) t memory small fits
+        ∙ rw (own-header s just b long 11 (omega arith) (λ e. omega arith))
+
+    pub not-zero : succeeded (ran .forms .status) ≡ false → ran .forms .status ≡ status 0 0 → ⊥
     unfolding succeeded status
-    not-zero e z = not-decided-twice (succeeded (ran .status)) (ap succeeded z) e
+    not-zero e z = not-decided-twice (succeeded (ran .forms .status)) (ap succeeded z) e
 
     -- refused, it changes nothing
-    refused-same : (d : Block) → blocks (own s just b) ≡ some (d ∷ []) → succeeded (ran .status) ≡ false → Untouched t memory taken
+    refused-same : (d : Block) → blocks (own s just b) ≡ some (d ∷ []) → succeeded (ran .forms .status) ≡ false → Untouched t memory taken
     refused-same d one e =
         rw taken-alone (alone-refused connection (own s just b) t memory small fits d one (λ z. not-zero e (sym (status-call connection (own s just b) t memory small fits) ∙ z)))
 
     -- and is the one refused
-    refused-here : (d : Block) → blocks (own s just b) ≡ some (d ∷ []) → succeeded (ran .status) ≡ false → (bs : List Span)
-        → RefusedAt connection s small just (spanOf b ∷ bs) t memory (ran .status) (ran .holder) (ran .tables) (ran .memory)
+    refused-here : 32 ≤ length s → (d : Block) → blocks (own s just b) ≡ some (d ∷ []) → succeeded (ran .forms .status) ≡ false → (bs : List Span)
+        → RefusedAt connection s small just (spanOf b ∷ bs) t memory (ran .forms .status) (statusNumber s (ran .forms)) (ran .holder) (ran .tables) (ran .memory)
     unfolding callSpans lastReturned
-    refused-here d one e bs =
+    refused-here long d one e bs =
         let u = refused-same d one e in
         record {
           front = [];
@@ -244,6 +259,7 @@ module _ (connection : ℕ) (s small : List ℕ) where
           memory-left = sym memory-is ∙ u .same-memory;
           number-so = number-is;
           status-so = status-is;
+          bytes-so = number-at long;
           holder-so = holder-is;
           untouched = u;
           not-begun = refused-last just (spanOf b) bs t memory (carried-is ∙ e);
@@ -251,7 +267,7 @@ module _ (connection : ℕ) (s small : List ℕ) where
 
   -- ---- all of them
 
-  send-none : (just : ℕ) (t : Tables) (memory : List ℕ) → sendAll connection s just [] t memory .status ≡ status 0 0
+  send-none : (just : ℕ) (t : Tables) (memory : List ℕ) → sendAll connection s just [] t memory .forms .status ≡ status 0 0
   unfolding sendAll
   send-none just t memory = refl
 
@@ -266,47 +282,49 @@ module _ (connection : ℕ) (s small : List ℕ) where
     later-just = returnedFid (replyOf (own s just b) gave)
 
     -- what the messages leave is what those behind one carried out leave, or what the one refused does
-    pub send-on : succeeded (gave .status) ≡ true
-        → (whole .status ≡ sendAll connection s later-just bs (gave .tables) (gave .memory) .status) × (whole .holder ≡ sendAll connection s later-just bs (gave .tables) (gave .memory) .holder)
+    pub send-on : succeeded (gave .forms .status) ≡ true
+        → (whole .forms ≡ sendAll connection s later-just bs (gave .tables) (gave .memory) .forms) × (whole .holder ≡ sendAll connection s later-just bs (gave .tables) (gave .memory) .holder)
         × (whole .tables ≡ sendAll connection s later-just bs (gave .tables) (gave .memory) .tables)
         × (whole .memory ≡ sendAll connection s later-just bs (gave .tables) (gave .memory) .memory)
     unfolding sendAll sendOn replyThen
     send-on e = rw e (refl, refl, refl, refl)
 
-    pub send-off : succeeded (gave .status) ≡ false → (whole .status ≡ gave .status) × (whole .holder ≡ gave .holder) × (whole .tables ≡ gave .tables) × (whole .memory ≡ gave .memory)
+    pub send-off : succeeded (gave .forms .status) ≡ false → (whole .forms ≡ gave .forms) × (whole .holder ≡ gave .holder) × (whole .tables ≡ gave .tables) × (whole .memory ≡ gave .memory)
     unfolding sendAll sendOn
     send-off e = rw e (refl, refl, refl, refl)
 
     -- so one of them is the one refused
-    stopped-by : Fit (own s just b) t memory small → (d : Block) → blocks (own s just b) ≡ some (d ∷ []) → (whole .status ≡ status 0 0 → ⊥)
-        → ((sendAll connection s later-just bs (gave .tables) (gave .memory) .status ≡ status 0 0 → ⊥)
-        → RefusedAt connection s small later-just (map spanOf bs) (gave .tables) (gave .memory) (sendAll connection s later-just bs (gave .tables) (gave .memory) .status)
+    stopped-by : 32 ≤ length s → Fit (own s just b) t memory small → (d : Block) → blocks (own s just b) ≡ some (d ∷ []) → (whole .forms .status ≡ status 0 0 → ⊥)
+        → ((sendAll connection s later-just bs (gave .tables) (gave .memory) .forms .status ≡ status 0 0 → ⊥)
+        → RefusedAt connection s small later-just (map spanOf bs) (gave .tables) (gave .memory) (sendAll connection s later-just bs (gave .tables) (gave .memory) .forms .status)
+        (statusNumber s (sendAll connection s later-just bs (gave .tables) (gave .memory) .forms))
         (sendAll connection s later-just bs (gave .tables) (gave .memory) .holder) (sendAll connection s later-just bs (gave .tables) (gave .memory) .tables) (sendAll connection s later-just bs (gave .tables) (gave .memory) .memory))
-        → RefusedAt connection s small just (spanOf b ∷ map spanOf bs) t memory (whole .status) (whole .holder) (whole .tables) (whole .memory)
-    stopped-by fits d one n later =
-        elim (decided (succeeded (gave .status))) [
+        → RefusedAt connection s small just (spanOf b ∷ map spanOf bs) t memory (whole .forms .status) (statusNumber s (whole .forms)) (whole .holder) (whole .tables) (whole .memory)
+    stopped-by long fits d one n later =
+        elim (decided (succeeded (gave .forms .status))) [
           | inl e ↦
               let k = send-on e in
               rw (k .0, k .1, k .2, k .3)
-              (refused-later just (spanOf b) (map spanOf bs) t memory _ _ _ _ (carried-is just b t memory fits ∙ e)
-              (rw (returned-is just b t memory fits, tables-is just b t memory fits, memory-is just b t memory fits) (later (λ z. n (k .0 ∙ z)))))
-          | inr e ↦ let k = send-off e in rw (k .0, k .1, k .2, k .3) (refused-here just b t memory fits d one e (map spanOf bs))
+              (refused-later just (spanOf b) (map spanOf bs) t memory _ _ _ _ _ (carried-is just b t memory fits ∙ e)
+              (rw (returned-is just b t memory fits, tables-is just b t memory fits, memory-is just b t memory fits) (later (λ z. n (ap (λ (f : Forms). f .status) (k .0) ∙ z)))))
+          | inr e ↦ let k = send-off e in rw (k .0, k .1, k .2, k .3) (refused-here just b t memory fits long d one e (map spanOf bs))
         ]
 
-  stopped : {just : ℕ} {bs : List Block} {t : Tables} {memory : List ℕ} → 12292 ≤ length small → AllFit connection s just bs t memory → AllLone s bs
-      → (sendAll connection s just bs t memory .status ≡ status 0 0 → ⊥)
-      → RefusedAt connection s small just (map spanOf bs) t memory (sendAll connection s just bs t memory .status) (sendAll connection s just bs t memory .holder)
+  stopped : {just : ℕ} {bs : List Block} {t : Tables} {memory : List ℕ} → 32 ≤ length s → 12292 ≤ length small → AllFit connection s just bs t memory → AllLone s bs
+      → (sendAll connection s just bs t memory .forms .status ≡ status 0 0 → ⊥)
+      → RefusedAt connection s small just (map spanOf bs) t memory (sendAll connection s just bs t memory .forms .status) (statusNumber s (sendAll connection s just bs t memory .forms)) (sendAll connection s just bs t memory .holder)
       (sendAll connection s just bs t memory .tables) (sendAll connection s just bs t memory .memory)
-  stopped {just} {t = t} {memory = memory} enough none-left lone-none n = absurd (n (send-none just t memory))
-  stopped {t = t} {memory = memory} enough (next-fits {just} {b} {bs} low fit more) (lone-then one rest) n =
+  stopped {just} {t = t} {memory = memory} long enough none-left lone-none n = absurd (n (send-none just t memory))
+  stopped {t = t} {memory = memory} long enough (next-fits {just} {b} {bs} low fit more) (lone-then one rest) n =
       let d = one just low in
-      stopped-by just b bs t memory (fit small enough) (d .0) (d .1) n (λ z. stopped enough more rest z)
+      stopped-by just b bs t memory long (fit small enough) (d .0) (d .1) n (λ z. stopped long enough more rest z)
 
 -- "A command refused changes no table and no file byte, its own unlocks included. Commands before it in the chain stand; those after it aren't begun": of any
 -- reading of a message fit to be answered whose reply's Status is not 0/0
 pub spans-refused : (connection : ℕ) (s : List ℕ) {spans : List Span} → Reading s spans → (t : Tables) (memory room small : List ℕ) → Good t → Fit s t memory room
     → length small ≡ 12292 → (statusRead (take-message connection s t memory room .room) ≡ status 0 0 → ⊥)
-    → RefusedAt connection s small NOBODY spans t memory (statusRead (take-message connection s t memory room .room)) (take-message connection s t memory room .holder)
+    → RefusedAt connection s small NOBODY spans t memory (statusRead (take-message connection s t memory room .room)) (le32At (take-message connection s t memory room .room) 5)
+    (take-message connection s t memory room .holder)
     (take-message connection s t memory room .tables) (take-message connection s t memory room .memory)
 unfolding replied compared blocks
 spans-refused connection s r t memory room small g fit n nonzero =
@@ -314,14 +332,17 @@ spans-refused connection s r t memory room small g fit n nonzero =
     let short : length s ≤ 8192 = not-long s (fit .not-dropped) in
     let same = one-by-one connection s (a .0) (a .1) short t memory in
     let one = fit-answered connection s t memory room fit in
-    let status-same : statusRead (take-message connection s t memory room .room) ≡ sendAll connection s NOBODY (a .0) t memory .status =
-    status-call connection s t memory room fit ∙ ap (λ (x : Ran). x .status) same in
+    let status-same : statusRead (take-message connection s t memory room .room) ≡ sendAll connection s NOBODY (a .0) t memory .forms .status =
+    status-call connection s t memory room fit ∙ ap (λ (x : Ran). x .forms .status) same in
+    let number-same : le32At (take-message connection s t memory room .room) 5 ≡ statusNumber s (sendAll connection s NOBODY (a .0) t memory .forms) =
+    status-number-call connection s t memory room fit ∙ ap (λ (x : Ran). statusNumber s (x .forms)) same in
     let holder-same : take-message connection s t memory room .holder ≡ sendAll connection s NOBODY (a .0) t memory .holder =
     ap (λ (x : Taken). x .holder) one ∙ ap (λ (x : Ran). x .holder) same in
     let tables-same : take-message connection s t memory room .tables ≡ sendAll connection s NOBODY (a .0) t memory .tables =
     ap (λ (x : Taken). x .tables) one ∙ ap (λ (x : Ran). x .tables) same in
     let memory-same : take-message connection s t memory room .memory ≡ sendAll connection s NOBODY (a .0) t memory .memory =
     ap (λ (x : Taken). x .memory) one ∙ ap (λ (x : Ran). x .memory) same in
-    let q = stopped connection s small (omega arith) (all-fit connection s (a .0) (a .1) (fit .not-dropped) t memory g (fit .memory-whole))
+    let long : 35 ≤ length s = not-short s (fit .not-dropped) in
+    let q = stopped connection s small (omega arith) (omega arith) (all-fit connection s (a .0) (a .1) (fit .not-dropped) t memory g (fit .memory-whole))
     (all-lone (read-chained s (headerCommand s) FIRST (a .0) (a .1)) (omega arith) short) (λ z. nonzero (status-same ∙ z)) in
-    rw (status-same, holder-same, tables-same, memory-same) (rw (a .2) at q)
+    rw (status-same, number-same, holder-same, tables-same, memory-same) (rw (a .2) at q)

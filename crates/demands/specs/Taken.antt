@@ -11,7 +11,7 @@ use borrow.Author.Tests.{ltb-false, le-ltb}
 use Rattle.lists.specs.Truth.{neither-holds}
 use Rattle.wire.specs.LittleEndian.{byteAt}
 use Rattle.records.specs.declared.Tables.{Tables}
-use Rattle.message.specs.Refusal.{status}
+use Rattle.message.specs.Refusal.{forms}
 use Rattle.chain.specs.Layout.{headerCommand, FIRST, blockEnd}
 use Rattle.chain.specs.Grammar.{IsBlock, Span, Reading, Sentence}
 use Rattle.chain.specs.Header.{startsSmb, isReply, dropped}
@@ -52,12 +52,12 @@ free-taken connection s t header r stands = unread-taken connection s t header r
 
 -- "Answered as malformed: 0, Status 2/1": a message with a served command that is no sentence changes nothing
 pub malformed-taken : (connection : ℕ) (s : List ℕ) (t : Tables) (memory room : List ℕ) → Fit s t memory room → served (headerCommand s) ≡ true → (Sentence s → ⊥)
-    → take-message connection s t memory room ≡ replied s room (onlyStatus (status 2 1) t memory)
+    → take-message connection s t memory room ≡ replied s room (onlyStatus (forms 2 1 0x00010002) t memory)
 malformed-taken connection s t memory room f e n = fit-answered connection s t memory room f ∙ ap (replied s room) (malformed-nothing connection s t memory e n)
 
 -- "2/22 header command not served": nor does one whose command is not served
 pub not-served-taken : (connection : ℕ) (s : List ℕ) (t : Tables) (memory room : List ℕ) → Fit s t memory room → served (headerCommand s) ≡ false
-    → take-message connection s t memory room ≡ replied s room (onlyStatus (status 2 22) t memory)
+    → take-message connection s t memory room ≡ replied s room (onlyStatus (forms 2 22 0x00160002) t memory)
 not-served-taken connection s t memory room f e = fit-answered connection s t memory room f ∙ ap (replied s room) (not-served connection s t memory e)
 
 -- ---- the messages sent one by one are fit to be answered

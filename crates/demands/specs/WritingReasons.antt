@@ -20,11 +20,11 @@ use Rattle.locks.specs.declared.types.Purpose.the-variants.{Write as Writing}
 use Rattle.soundness.specs.Sound.{sound}
 use Rattle.claims.specs.Cases.{statusIn}
 use Rattle.message.specs.declared.caller.Caller.{Caller}
-use Rattle.message.specs.Refusal.{status, statusOf}
+use Rattle.message.specs.Refusal.{status, formsOf}
 use Rattle.message.specs.declared.refusal.Status.{Status}
 use Rattle.message.specs.declared.refusal.Refusal.the-variants.{NoAccess, NoSpace}
-use Rattle.message.specs.Command.{Given, refused, askBy, unlessBarred, barring, writing}
-use Rattle.demands.specs.LoneLock.{Conflicts, May, InWay, Owner, writing-conflict as writing-exact}
+use Rattle.message.specs.Command.{Given, refused, done, askBy, unlessBarred, barring, writing}
+use Rattle.demands.specs.LoneLock.{heldIn, nobody-holds, held-status, Conflicts, May, InWay, Owner, writing-conflict as writing-exact}
 use Rattle.demands.specs.Admitted.{Admitted, NoOpenFor, admitted-may, open-or, with-open, open-given}
 
 -- a write, by the locks in its way, by what makes it end past 4,096 and by what lets it fit: "or a write on access 0", 1/33, "class 3, code 39, write would end past 4,096"
@@ -39,8 +39,9 @@ pub data WritingStatus (c : Caller) (t : Tables) (fid : ℕ) (Bars : Open → Ty
 -- ---- 1/33 and other codes
 
 pub conflicts-status : (g : Given) → Conflicts g → statusIn g ≡ status 1 33
-unfolding statusIn statusOf
-conflicts-status g h = ap statusIn (h .1)
+unfolding statusIn heldIn
+conflicts-status (refused why) h = held-status why (h .0) (h .1)
+conflicts-status (done u m said) h = absurd (nobody-holds (h .1))
 
 pub other-status : (g : Given) → (statusIn g .code ≡ 33 → ⊥) → Conflicts g → ⊥
 unfolding status
@@ -53,7 +54,7 @@ end-code true e = omega arith
 end-code false e = omega arith
 
 end-status : (b : Bool) (g : Given) → statusIn g ≡ status 0 0 → statusIn (cond b (refused NoSpace) g) ≡ cond b (status 3 39) (status 0 0)
-unfolding statusIn statusOf
+unfolding statusIn formsOf
 end-status true g zero = refl
 end-status false g zero = zero
 
@@ -84,8 +85,8 @@ module _ (c : Caller) (t : Tables) (memory : List ℕ) (ok : sound t ≡ true) (
     -- a lock is in the way, or the write's end decides
     write-ends : eqb (write-open .access) 0 ≡ false → (x : Found) → a-write ≡ unlessBarred t x (cond past (refused NoSpace) (next write-open))
         → (Bars write-open × (statusIn a-write ≡ status 1 33)) ⊎ ((Bars write-open → ⊥) × (statusIn a-write ≡ cond past (status 3 39) (status 0 0)))
-    unfolding unlessBarred
-    write-ends e (At j) g = inl (writing-exact c t memory k ok fid from size past next next-not may e .0 (_, g), conflicts-status a-write (_, g))
+    unfolding unlessBarred heldIn
+    write-ends e (At j) g = inl (writing-exact c t memory k ok fid from size past next next-not may e .0 (_, ap heldIn g), conflicts-status a-write (_, ap heldIn g))
     write-ends e Nothing g =
         let s = ap statusIn g ∙ end-status past (next write-open) (zero write-open) in
         inr (
@@ -100,7 +101,7 @@ module _ (c : Caller) (t : Tables) (memory : List ℕ) (ok : sound t ≡ true) (
   module _ {Past Fits : Type 0} (passes : (past ≡ true) ↔ Past) (fits : (past ≡ false) ↔ Fits) where
     -- the status has its reason
     pub writing-reason : WritingStatus c t fid Bars Past Fits (statusIn a-write)
-    unfolding statusIn statusOf
+    unfolding statusIn formsOf
     writing-reason =
         elim (open-or c t fid) [
           | inl h ↦ rw (open-given c t fid _ (h .1)) (write-not (h .1))
@@ -126,7 +127,7 @@ module _ (c : Caller) (t : Tables) (memory : List ℕ) (ok : sound t ≡ true) (
 
     -- and where the reason holds, the status is given
     pub writing-given : {n : Status} → WritingStatus c t fid Bars Past Fits n → statusIn a-write ≡ n
-    unfolding statusIn statusOf
+    unfolding statusIn formsOf
     writing-given (write-not h) = open-given c t fid _ h
     writing-given (write-access {o} a e) =
         let m = admitted-may c t fid ok o a in
