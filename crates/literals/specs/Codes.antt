@@ -1,4 +1,4 @@
--- Document 01's numbers of refusals, on the wire and of calls, a second time. Assumes nothing.
+-- Document 01's numbers of refusals, on the wire and of calls, and document 02's (CR 6, CR 7), a second time. Assumes nothing.
 use mathlib.Core.Path.{_≡_, refl}
 use Prim.Native.Nat.{ℕ, _-_}
 use mathlib.Core.List.{List, [], _∷_, _++_, map}
@@ -20,10 +20,10 @@ use Rattle.catalogue.specs.Name.{folded, sameName, nameBytes, isNamed, notZero,
 use Rattle.soundness.specs.Sound.{withinRoom, fileOk, treeOk, permits, holdsOpen, sharingOk, openOk, soundRecords, lockOk, agree, agreeAll, soundLocks, sound}
 use Rattle.host.specs.HostCall.{refused, done, newSession, addSession, newTree, addTree, newOpen, addOpen, isOf, loadNumber, loadFile, dropConnection, setCatalogue}
 use Rattle.chain.specs.Header.{startsSmb, isReply, dropped}
-use Rattle.message.specs.Refusal.{status, statusOf, holderOf}
+use Rattle.message.specs.Refusal.{status, formsOf, statusOf, ntOf, holderOf}
 use Rattle.message.specs.Command.{servedType}
 use Rattle.message.specs.Message.{served, notTaken, take-message}
-use Rattle.message.specs.declared.refusal.Refusal.the-variants.{NotServed, NotSentence, NoSession, NoTree, NoOpen, NoAccess, LockType, NoSuchLock, PassesEnd, Conflict, NoRecord, NoSpace, OpenMode, BadAccess, NoSuchFile, BadShare, NoFids}
+use Rattle.message.specs.declared.refusal.Refusal.the-variants.{NotServed, NotSentence, NoSession, NoTree, NoOpen, NoAccess, LockType, NoSuchLock, PassesEnd, LockNotGranted, FileLockConflict, NoRecord, NoSpace, OpenMode, BadAccess, NoSuchFile, BadShare, NoFids}
 use Rattle.message.specs.declared.refusal.Status.{Status}
 use Rattle.message.specs.declared.refusal.HeldBy.the-variants.{Nobody, Holder as held-by}
 use Rattle.literals.specs.Counting.{countFrom}
@@ -37,7 +37,7 @@ unfoldable pub class-code : ℕ → ℕ → Status
 class-code class code = record { class = class; code = code }
 
 pub codes : (h : Holder)
-    → map statusOf (NotServed ∷ NotSentence ∷ NoSession ∷ NoTree ∷ NoOpen ∷ NoAccess ∷ LockType ∷ NoSuchLock ∷ PassesEnd ∷ Conflict h ∷ NoRecord ∷ NoSpace ∷ OpenMode ∷ BadAccess ∷ NoSuchFile ∷ BadShare ∷ NoFids ∷ [])
+    → map statusOf (NotServed ∷ NotSentence ∷ NoSession ∷ NoTree ∷ NoOpen ∷ NoAccess ∷ LockType ∷ NoSuchLock ∷ PassesEnd ∷ LockNotGranted h ∷ FileLockConflict h ∷ NoRecord ∷ NoSpace ∷ OpenMode ∷ BadAccess ∷ NoSuchFile ∷ BadShare ∷ NoFids ∷ [])
     ≡ class-code 2 22
     ∷ class-code 2 1
     ∷ class-code 2 91
@@ -48,6 +48,7 @@ pub codes : (h : Holder)
     ∷ class-code 1 158
     ∷ class-code 1 87
     ∷ class-code 1 33
+    ∷ class-code 1 33
     ∷ class-code 1 8
     ∷ class-code 3 39
     ∷ class-code 2 65535
@@ -56,13 +57,39 @@ pub codes : (h : Holder)
     ∷ class-code 1 32
     ∷ class-code 1 4
     ∷ []
-unfolding statusOf status class-code
+unfolding formsOf status class-code
 codes h = refl
+
+-- document 02, CR 7: "00160002 (2/22), 00010002 (2/1), 005B0002, 00050002, C0000008 (1/6), C0000022 (1/5), C00000BB, C000007E, C000000D (1/87), C0000055 for a lock refused,
+-- C0000054 for a read or write refused, C0000205, C000007F. CR 6 adds 000C0001 (1/12), C000000F (1/2), C0000043 (1/32), C000011F (1/4)"; C00000BB is 2/65535 of both kinds (docs/DECISIONS.md, 127)
+pub nt-codes : (h : Holder)
+    → map ntOf (NotServed ∷ NotSentence ∷ NoSession ∷ NoTree ∷ NoOpen ∷ NoAccess ∷ LockType ∷ NoSuchLock ∷ PassesEnd ∷ LockNotGranted h ∷ FileLockConflict h ∷ NoRecord ∷ NoSpace ∷ OpenMode ∷ BadAccess ∷ NoSuchFile ∷ BadShare ∷ NoFids ∷ [])
+    ≡ 0x00160002
+    ∷ 0x00010002
+    ∷ 0x005B0002
+    ∷ 0x00050002
+    ∷ 0xC0000008
+    ∷ 0xC0000022
+    ∷ 0xC00000BB
+    ∷ 0xC000007E
+    ∷ 0xC000000D
+    ∷ 0xC0000055
+    ∷ 0xC0000054
+    ∷ 0xC0000205
+    ∷ 0xC000007F
+    ∷ 0xC00000BB
+    ∷ 0x000C0001
+    ∷ 0xC000000F
+    ∷ 0xC0000043
+    ∷ 0xC000011F
+    ∷ []
+unfolding formsOf
+nt-codes h = refl
 
 -- document 02, CR 2: only 1/33 has a holder
 pub holders : (h : Holder)
-    → map holderOf (NotServed ∷ NotSentence ∷ NoSession ∷ NoTree ∷ NoOpen ∷ NoAccess ∷ LockType ∷ NoSuchLock ∷ PassesEnd ∷ Conflict h ∷ NoRecord ∷ NoSpace ∷ OpenMode ∷ BadAccess ∷ NoSuchFile ∷ BadShare ∷ NoFids ∷ [])
-    ≡ Nobody ∷ Nobody ∷ Nobody ∷ Nobody ∷ Nobody ∷ Nobody ∷ Nobody ∷ Nobody ∷ Nobody ∷ held-by h ∷ Nobody ∷ Nobody ∷ Nobody ∷ Nobody ∷ Nobody ∷ Nobody ∷ Nobody ∷ []
+    → map holderOf (NotServed ∷ NotSentence ∷ NoSession ∷ NoTree ∷ NoOpen ∷ NoAccess ∷ LockType ∷ NoSuchLock ∷ PassesEnd ∷ LockNotGranted h ∷ FileLockConflict h ∷ NoRecord ∷ NoSpace ∷ OpenMode ∷ BadAccess ∷ NoSuchFile ∷ BadShare ∷ NoFids ∷ [])
+    ≡ Nobody ∷ Nobody ∷ Nobody ∷ Nobody ∷ Nobody ∷ Nobody ∷ Nobody ∷ Nobody ∷ Nobody ∷ held-by h ∷ held-by h ∷ Nobody ∷ Nobody ∷ Nobody ∷ Nobody ∷ Nobody ∷ Nobody ∷ Nobody ∷ []
 unfolding holderOf
 holders h = refl
 

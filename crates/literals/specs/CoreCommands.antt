@@ -31,14 +31,14 @@ use Rattle.chain.specs.declared.block.Next.the-variants.{End}
 use Rattle.invariants.specs.ReaderSound.{spanOf, reader-sound}
 use Rattle.readings.specs.ReaderComplete.{no-sentence}
 use Rattle.message.specs.Caller.{callerOf}
-use Rattle.message.specs.Refusal.{status, statusOf, holderOf}
+use Rattle.message.specs.Refusal.{status, formsOf, holderOf}
 use Rattle.message.specs.Contents.{sizeOf, contents, readBytes, written, resized}
 use Rattle.message.specs.Command.{isSession, withSession, withTree, isOpen, openAt, withOpen, servedType, requestOf, withLockList, lockingEnd, lockingAfter, doLocking, askBy, unlessBarred, barring, doRead, endsPast, doWrite, coreSaid, asCore, rangeBy, oneRange, doRange, betweenSizes, doSetSize, doCoreWrite, perform}
-use Rattle.message.specs.Reply.{two, replyHeader, linkWords, replyBlock, refusedBlock, replySize}
+use Rattle.message.specs.Reply.{two, replyHeader, linkWords, replyBlock, refusedBlock, replySize, four, ntBit, smbNumber, statusNumber}
 use Rattle.message.specs.JustOpened.{fidMeant, bodyMeant}
 use Rattle.message.specs.Message.{areaOf, dataOf, after, linkTo, afterGiven, run, served, onlyStatus, runChain, answered, replyOf, replied, take-message}
 use Rattle.literals.specs.State.{session, tree, open-of, sizes, tablesWith, fewRecords, memory}
-use Rattle.literals.specs.Replies.{message, lockBlock, lock100, range100, writeBlock, taken, Given, given, reply, success, Row, refusal, opened, lock, heldAt, contested, rangeOf}
+use Rattle.literals.specs.Replies.{message, lockBlock, lock100, range100, writeBlock, taken, Given, given, reply, doneReply, Row, refusal, opened, lock, heldAt, contested, rangeOf}
 
 -- ---- requests, of FID 4 where none is named
 
@@ -78,7 +78,7 @@ byteRange fid count offset = 5 ∷ fid ∷ 0 ∷ count ∷ 0 ∷ 0 ∷ 0 ∷ off
 unfoldable pub topRange : List ℕ
 topRange = 5 ∷ 4 ∷ 0 ∷ 0xFF ∷ 0xFF ∷ 0xFF ∷ 0xFF ∷ 0xFF ∷ 0xFF ∷ 0xFF ∷ 0xFF ∷ 0 ∷ 0 ∷ []
 
--- each in a message of Flags 0x7F and Flags2 0xFFFF
+-- each in a message of Flags 0x7F and Flags2 0xBFFF
 unfoldable pub sent : ℕ → List ℕ → List ℕ
 sent command block = message command 0x7F 0xFF block
 
@@ -152,14 +152,14 @@ malformed =
     (wrongMark ∷ wrongCount ∷ wrongLength ∷ byteLess ∷ byteMore ∷ noBlock ∷ halfBlock ∷ roundAbout ∷ [])
 
 pub malformed-replies : map (λ r. given (r .tables) (r .request)) malformed ≡ map (λ r. r .said) malformed
-unfolding malformed wrongMark wrongCount wrongLength byteLess byteMore noBlock halfBlock roundAbout row sent coreWrite message fewRecords tablesWith session tree open-of sizes memory given taken take-message dropped startsSmb isReply answered served replied replyOf replyHeader put runChain onlyStatus blocks blocksFrom blocksWithin afterParse afterBlock parse parseCoreWrite answer coreWriteFits shaped le16At le32At statusOf status refusedBlock refusal reply two sound withinRoom fileOk treeOk permits holdsOpen sharingOk catalogueOk noneDoubled openOk soundRecords lockOk agree agreeAll soundLocks fileOf isTree contains numberOk numbered any all allTails overlaps passesEnd
+unfolding malformed wrongMark wrongCount wrongLength byteLess byteMore noBlock halfBlock roundAbout row sent coreWrite message fewRecords tablesWith session tree open-of sizes memory given taken take-message dropped startsSmb isReply answered served replied replyOf replyHeader put runChain onlyStatus blocks blocksFrom blocksWithin afterParse afterBlock parse parseCoreWrite answer coreWriteFits shaped le16At le32At formsOf status refusedBlock refusal reply two sound withinRoom fileOk treeOk permits holdsOpen sharingOk catalogueOk noneDoubled openOk soundRecords lockOk agree agreeAll soundLocks fileOf isTree contains numberOk numbered any all allTails overlaps passesEnd four statusNumber smbNumber ntBit
 malformed-replies = refl
 
 -- ---- replies
 
 -- of a core READ that yields nothing
 unfoldable pub emptyReply : Given
-emptyReply = success 48 0x0A ((0x05 ∷ 0x00 ∷ 0x00 ∷ 0x00 ∷ 0x00 ∷ 0x00 ∷ 0x00 ∷ 0x00 ∷ 0x00 ∷ 0x00 ∷ 0x00 ∷ []) ++ (0x03 ∷ 0x00 ∷ 0x01 ∷ 0x00 ∷ 0x00 ∷ []))
+emptyReply = doneReply 48 0x0A ((0x05 ∷ 0x00 ∷ 0x00 ∷ 0x00 ∷ 0x00 ∷ 0x00 ∷ 0x00 ∷ 0x00 ∷ 0x00 ∷ 0x00 ∷ 0x00 ∷ []) ++ (0x03 ∷ 0x00 ∷ 0x01 ∷ 0x00 ∷ 0x00 ∷ []))
 
 -- the core READ (source document 000): 5 words: "count; reserved (MBZ)", which is eight zero bytes; "length of data + 3" bytes: "Data Block -- 01; length of data; data". File 1
 -- has 6 bytes: 3 of them from 2 on; 9 from 4 on, of which there are 2; "A read completely beyond the end of file will result in a response of length zero", whose bytes
@@ -167,27 +167,27 @@ emptyReply = success 48 0x0A ((0x05 ∷ 0x00 ∷ 0x00 ∷ 0x00 ∷ 0x00 ∷ 0x00
 unfoldable pub readReplies : List Row
 readReplies =
     row fewRecords 0x0A (coreRead 4 3 2)
-    (success 51 0x0A ((0x05 ∷ 0x03 ∷ 0x00 ∷ 0x00 ∷ 0x00 ∷ 0x00 ∷ 0x00 ∷ 0x00 ∷ 0x00 ∷ 0x00 ∷ 0x00 ∷ []) ++ (0x06 ∷ 0x00 ∷ 0x01 ∷ 0x03 ∷ 0x00 ∷ 0xA2 ∷ 0xA3 ∷ 0xA4 ∷ [])))
+    (doneReply 51 0x0A ((0x05 ∷ 0x03 ∷ 0x00 ∷ 0x00 ∷ 0x00 ∷ 0x00 ∷ 0x00 ∷ 0x00 ∷ 0x00 ∷ 0x00 ∷ 0x00 ∷ []) ++ (0x06 ∷ 0x00 ∷ 0x01 ∷ 0x03 ∷ 0x00 ∷ 0xA2 ∷ 0xA3 ∷ 0xA4 ∷ [])))
     ∷ row fewRecords 0x0A (coreRead 4 9 4)
-    (success 50 0x0A ((0x05 ∷ 0x02 ∷ 0x00 ∷ 0x00 ∷ 0x00 ∷ 0x00 ∷ 0x00 ∷ 0x00 ∷ 0x00 ∷ 0x00 ∷ 0x00 ∷ []) ++ (0x05 ∷ 0x00 ∷ 0x01 ∷ 0x02 ∷ 0x00 ∷ 0xA4 ∷ 0xA5 ∷ [])))
+    (doneReply 50 0x0A ((0x05 ∷ 0x02 ∷ 0x00 ∷ 0x00 ∷ 0x00 ∷ 0x00 ∷ 0x00 ∷ 0x00 ∷ 0x00 ∷ 0x00 ∷ 0x00 ∷ []) ++ (0x05 ∷ 0x00 ∷ 0x01 ∷ 0x02 ∷ 0x00 ∷ 0xA4 ∷ 0xA5 ∷ [])))
     ∷ row fewRecords 0x0A (coreRead 4 3 6) emptyReply
     ∷ row fewRecords 0x0A (coreRead 4 0 2) emptyReply
     ∷ row (opened 2 (lock 7 0 6 ∷ [])) 0x0A (coreRead 4 0 2) emptyReply
     ∷ row (taken fewRecords (sent 0x0B longWrite) .tables) 0x0A longRead
-    (success 306 0x0A ((0x05 ∷ 0x02 ∷ 0x01 ∷ 0x00 ∷ 0x00 ∷ 0x00 ∷ 0x00 ∷ 0x00 ∷ 0x00 ∷ 0x00 ∷ 0x00 ∷ []) ++ ((0x05 ∷ 0x01 ∷ 0x01 ∷ 0x02 ∷ 0x01 ∷ 0xA0 ∷ 0xA1 ∷ 0xA2 ∷ 0xA3 ∷ 0xA4 ∷ 0xA5 ∷ []) ++ replicate 252 0x00)))
+    (doneReply 306 0x0A ((0x05 ∷ 0x02 ∷ 0x01 ∷ 0x00 ∷ 0x00 ∷ 0x00 ∷ 0x00 ∷ 0x00 ∷ 0x00 ∷ 0x00 ∷ 0x00 ∷ []) ++ ((0x05 ∷ 0x01 ∷ 0x01 ∷ 0x02 ∷ 0x01 ∷ 0xA0 ∷ 0xA1 ∷ 0xA2 ∷ 0xA3 ∷ 0xA4 ∷ 0xA5 ∷ []) ++ replicate 252 0x00)))
     ∷ []
 
 -- the core WRITE: 1 word, the count; no byte. 2 bytes at 2, and at 4,094, which is 0x0FFE; 258 bytes
 unfoldable pub writeReplies : List Row
 writeReplies =
-    row fewRecords 0x0B (writeTo 2 0) (success 37 0x0B (0x01 ∷ 0x02 ∷ 0x00 ∷ 0x00 ∷ 0x00 ∷ []))
-    ∷ row fewRecords 0x0B (writeTo 0xFE 0x0F) (success 37 0x0B (0x01 ∷ 0x02 ∷ 0x00 ∷ 0x00 ∷ 0x00 ∷ []))
-    ∷ row fewRecords 0x0B longWrite (success 37 0x0B (0x01 ∷ 0x02 ∷ 0x01 ∷ 0x00 ∷ 0x00 ∷ []))
+    row fewRecords 0x0B (writeTo 2 0) (doneReply 37 0x0B (0x01 ∷ 0x02 ∷ 0x00 ∷ 0x00 ∷ 0x00 ∷ []))
+    ∷ row fewRecords 0x0B (writeTo 0xFE 0x0F) (doneReply 37 0x0B (0x01 ∷ 0x02 ∷ 0x00 ∷ 0x00 ∷ 0x00 ∷ []))
+    ∷ row fewRecords 0x0B longWrite (doneReply 37 0x0B (0x01 ∷ 0x02 ∷ 0x01 ∷ 0x00 ∷ 0x00 ∷ []))
     ∷ []
 
 -- where a core WRITE of count 0 is done
 unfoldable pub resizedReply : Given
-resizedReply = success 37 0x0B (0x01 ∷ 0x00 ∷ 0x00 ∷ 0x00 ∷ 0x00 ∷ [])
+resizedReply = doneReply 37 0x0B (0x01 ∷ 0x00 ∷ 0x00 ∷ 0x00 ∷ 0x00 ∷ [])
 
 -- "A core WRITE of count 0 sets the file's size to the offset (past 4,096 is 3/39)": from 6 to 9, to 4, to 6, to 4,096, which is 0x1000; 4,097 is past it, and 0x10004. Of a core WRITE
 -- of 2 bytes 4,095 is.
@@ -211,16 +211,16 @@ ownShared offset = record { fid = 4; process = 0x0D0C1B1A; offset = offset; leng
 -- lock of no byte is granted beside one that is there, and released by its offset and length; a shared one is released like any other.
 unfoldable pub rangeReplies : List Row
 rangeReplies =
-    row fewRecords 0x0C (byteRange 4 10 100) (success 35 0x0C (0x00 ∷ 0x00 ∷ 0x00 ∷ []))
-    ∷ row (opened 2 (lock 0x0D0C1B1A 100 10 ∷ [])) 0x0D (byteRange 4 10 100) (success 35 0x0D (0x00 ∷ 0x00 ∷ 0x00 ∷ []))
+    row fewRecords 0x0C (byteRange 4 10 100) (doneReply 35 0x0C (0x00 ∷ 0x00 ∷ 0x00 ∷ []))
+    ∷ row (opened 2 (lock 0x0D0C1B1A 100 10 ∷ [])) 0x0D (byteRange 4 10 100) (doneReply 35 0x0D (0x00 ∷ 0x00 ∷ 0x00 ∷ []))
     ∷ row fewRecords 0x0D (byteRange 4 10 100) (refusal 0x0D 1 0x9E 0x00)
     ∷ row (opened 2 (lock 0x0D0C1B1A 100 9 ∷ [])) 0x0D (byteRange 4 10 100) (refusal 0x0D 1 0x9E 0x00)
     ∷ row (opened 2 (lock 0x1B1A 100 10 ∷ [])) 0x0D (byteRange 4 10 100) (refusal 0x0D 1 0x9E 0x00)
     ∷ row (opened 2 (replicate 128 (lock 7 0 0))) 0x0C (byteRange 4 10 100) (refusal 0x0C 1 0x08 0x00)
-    ∷ row (opened 2 (lock 7 100 10 ∷ [])) 0x0C (byteRange 4 0 105) (success 35 0x0C (0x00 ∷ 0x00 ∷ 0x00 ∷ []))
-    ∷ row (opened 2 (lock 0x0D0C1B1A 105 0 ∷ [])) 0x0D (byteRange 4 0 105) (success 35 0x0D (0x00 ∷ 0x00 ∷ 0x00 ∷ []))
-    ∷ row (opened 2 (ownShared 7 ∷ [])) 0x0D (byteRange 4 1 7) (success 35 0x0D (0x00 ∷ 0x00 ∷ 0x00 ∷ []))
-    ∷ row fewRecords 0x0C topRange (success 35 0x0C (0x00 ∷ 0x00 ∷ 0x00 ∷ []))
+    ∷ row (opened 2 (lock 7 100 10 ∷ [])) 0x0C (byteRange 4 0 105) (doneReply 35 0x0C (0x00 ∷ 0x00 ∷ 0x00 ∷ []))
+    ∷ row (opened 2 (lock 0x0D0C1B1A 105 0 ∷ [])) 0x0D (byteRange 4 0 105) (doneReply 35 0x0D (0x00 ∷ 0x00 ∷ 0x00 ∷ []))
+    ∷ row (opened 2 (ownShared 7 ∷ [])) 0x0D (byteRange 4 1 7) (doneReply 35 0x0D (0x00 ∷ 0x00 ∷ 0x00 ∷ []))
+    ∷ row fewRecords 0x0C topRange (doneReply 35 0x0C (0x00 ∷ 0x00 ∷ 0x00 ∷ []))
     ∷ []
 
 -- "Refusals: as for the counterparts": 2/91, of UID 3 on another connection; 2/5, of no tree; 1/6, of FID 5; 1/5, of a read on access 1 and a write on access 0, count 0 too, before
@@ -236,7 +236,7 @@ whoMayAsk =
     ∷ row (opened 1 []) 0x0A (coreRead 4 3 2) (refusal 0x0A 1 0x05 0x00)
     ∷ row (opened 0 []) 0x0B (writeTo 2 0) (refusal 0x0B 1 0x05 0x00)
     ∷ row (opened 0 (lock 7 8 1 ∷ [])) 0x0B (sizeTo 0x01 0x10) (refusal 0x0B 1 0x05 0x00)
-    ∷ row (opened 0 []) 0x0C (byteRange 4 10 100) (success 35 0x0C (0x00 ∷ 0x00 ∷ 0x00 ∷ []))
+    ∷ row (opened 0 []) 0x0C (byteRange 4 10 100) (doneReply 35 0x0C (0x00 ∷ 0x00 ∷ 0x00 ∷ []))
     ∷ []
 
 -- ---- "1/33 lock conflict", and the holder
@@ -278,9 +278,9 @@ lockBetween kind = lockBlock 0x0B kind 0 1 10 (0x1A ∷ 0x1B ∷ 6 ∷ 0 ∷ 0 �
 unfoldable pub chains : List Row
 chains =
     row fewRecords 0x24 (lock100 0x0A ++ coreRead 4 3 2)
-    (success 58 0x24 ((0x02 ∷ 0x0A ∷ 0x00 ∷ 0x27 ∷ 0x00 ∷ 0x00 ∷ 0x00 ∷ []) ++ ((0x05 ∷ 0x03 ∷ 0x00 ∷ 0x00 ∷ 0x00 ∷ 0x00 ∷ 0x00 ∷ 0x00 ∷ 0x00 ∷ 0x00 ∷ 0x00 ∷ []) ++ (0x06 ∷ 0x00 ∷ 0x01 ∷ 0x03 ∷ 0x00 ∷ 0xA2 ∷ 0xA3 ∷ 0xA4 ∷ []))))
+    (doneReply 58 0x24 ((0x02 ∷ 0x0A ∷ 0x00 ∷ 0x27 ∷ 0x00 ∷ 0x00 ∷ 0x00 ∷ []) ++ ((0x05 ∷ 0x03 ∷ 0x00 ∷ 0x00 ∷ 0x00 ∷ 0x00 ∷ 0x00 ∷ 0x00 ∷ 0x00 ∷ 0x00 ∷ 0x00 ∷ []) ++ (0x06 ∷ 0x00 ∷ 0x01 ∷ 0x03 ∷ 0x00 ∷ 0xA2 ∷ 0xA3 ∷ 0xA4 ∷ []))))
     ∷ row fewRecords 0x24 (lock100 0x0B ++ writeTo 2 0)
-    (success 44 0x24 ((0x02 ∷ 0x0B ∷ 0x00 ∷ 0x27 ∷ 0x00 ∷ 0x00 ∷ 0x00 ∷ []) ++ (0x01 ∷ 0x02 ∷ 0x00 ∷ 0x00 ∷ 0x00 ∷ [])))
+    (doneReply 44 0x24 ((0x02 ∷ 0x0B ∷ 0x00 ∷ 0x27 ∷ 0x00 ∷ 0x00 ∷ 0x00 ∷ []) ++ (0x01 ∷ 0x02 ∷ 0x00 ∷ 0x00 ∷ 0x00 ∷ [])))
     ∷ row fewRecords 0x24 (lock100 0x0A ++ coreRead 5 3 2)
     (reply 42 0x24 1 0x06 0 0x88 0x01 ((0x02 ∷ 0x0A ∷ 0x00 ∷ 0x27 ∷ 0x00 ∷ 0x00 ∷ 0x00 ∷ []) ++ (0x00 ∷ 0x00 ∷ 0x00 ∷ [])))
     ∷ row fewRecords 0x24 (lock100 0x0B ++ sizeTo 0x01 0x10)
@@ -288,7 +288,7 @@ chains =
     ∷ row fewRecords 0x24 (lockBlock 0x0A 0 0 1 10 (rangeOf 0x51 2) ++ coreRead 4 3 2)
     (heldAt 4 0x0D0C0051 0 2 10 false (reply 42 0x24 1 0x21 0 0x88 0x01 ((0x02 ∷ 0x0A ∷ 0x00 ∷ 0x27 ∷ 0x00 ∷ 0x00 ∷ 0x00 ∷ []) ++ (0x00 ∷ 0x00 ∷ 0x00 ∷ []))))
     ∷ row fewRecords 0x24 (lockBetween 0x00 ++ sizeTo 9 0)
-    (success 44 0x24 ((0x02 ∷ 0x0B ∷ 0x00 ∷ 0x27 ∷ 0x00 ∷ 0x00 ∷ 0x00 ∷ []) ++ (0x01 ∷ 0x00 ∷ 0x00 ∷ 0x00 ∷ 0x00 ∷ [])))
+    (doneReply 44 0x24 ((0x02 ∷ 0x0B ∷ 0x00 ∷ 0x27 ∷ 0x00 ∷ 0x00 ∷ 0x00 ∷ []) ++ (0x01 ∷ 0x00 ∷ 0x00 ∷ 0x00 ∷ 0x00 ∷ [])))
     ∷ row fewRecords 0x24 (lockBetween 0x01 ++ sizeTo 9 0)
     (heldAt 4 0x0D0C1B1A 0 6 3 true (reply 42 0x24 1 0x21 0 0x88 0x01 ((0x02 ∷ 0x0B ∷ 0x00 ∷ 0x27 ∷ 0x00 ∷ 0x00 ∷ 0x00 ∷ []) ++ (0x00 ∷ 0x00 ∷ 0x00 ∷ []))))
     ∷ row fewRecords 0x24 (lock100 0x0C ++ byteRange 4 10 0) (refusal 0x24 2 0x01 0x00)
@@ -303,7 +303,7 @@ table = readReplies ++ (writeReplies ++ (sizeReplies ++ (rangeReplies ++ (whoMay
 
 -- what the definitions give is what the documents say, in every row
 pub core-replies : map (λ r. given (r .tables) (r .request)) table ≡ map (λ r. r .said) table
-unfolding table longWrite longRead topRange farSize emptyReply readReplies writeReplies resizedReply sizeReplies rangeReplies whoMayAsk ownShared conflicts sizeConflicts lockBetween chains row sent coreRead coreWrite writeTo sizeTo byteRange holderOf message fewRecords tablesWith session tree open-of sizes memory given taken take-message dropped startsSmb isReply answered served replied replyOf replyHeader put runChain onlyStatus blocks blocksFrom blocksWithin afterParse afterBlock before parse answer linkFits linkAt mayFollow shaped bare le16At le32At callerOf run bodyMeant fidMeant afterGiven after linkTo perform areaOf dataOf status statusOf replyBlock refusedBlock replySize linkWords two withSession isSession withTree withOpen isOpen openAt found foundFrom sound withinRoom fileOk treeOk permits holdsOpen sharingOk catalogueOk noneDoubled openOk soundRecords lockOk agree agreeAll soundLocks fileOf isTree contains numberOk numbered any all allTails overlaps passesEnd reply success lock100 lockBlock range100 parseLocking lockingFits isLarge rangeSize doLocking servedType requestOf locking request releaseAll afterFind removeAt named afterReleases grantAll afterWalk afterGrants settle rangesOf ofHeader rangesAt rangeAt rangeFrom numberAt rangePasses askOf lockOf answers answersFor inWay bars owns lockingAfter lockingEnd withLockList stored wideOffset doRead unlessBarred barring askBy readBytes contents sizeOf writeBlock parseWrite writeFits dataInside doWrite endsPast resized written withFiles parseBare withLocks refusal opened lock heldAt contested rangeOf holderAt parseCoreWrite coreWriteFits coreSaid asCore rangeBy oneRange doRange smallForm betweenSizes doSetSize doCoreWrite
+unfolding table longWrite longRead topRange farSize emptyReply readReplies writeReplies resizedReply sizeReplies rangeReplies whoMayAsk ownShared conflicts sizeConflicts lockBetween chains row sent coreRead coreWrite writeTo sizeTo byteRange holderOf message fewRecords tablesWith session tree open-of sizes memory given taken take-message dropped startsSmb isReply answered served replied replyOf replyHeader put runChain onlyStatus blocks blocksFrom blocksWithin afterParse afterBlock before parse answer linkFits linkAt mayFollow shaped bare le16At le32At callerOf run bodyMeant fidMeant afterGiven after linkTo perform areaOf dataOf status formsOf replyBlock refusedBlock replySize linkWords two withSession isSession withTree withOpen isOpen openAt found foundFrom sound withinRoom fileOk treeOk permits holdsOpen sharingOk catalogueOk noneDoubled openOk soundRecords lockOk agree agreeAll soundLocks fileOf isTree contains numberOk numbered any all allTails overlaps passesEnd reply lock100 lockBlock range100 parseLocking lockingFits isLarge rangeSize doLocking servedType requestOf locking request releaseAll afterFind removeAt named afterReleases grantAll afterWalk afterGrants settle rangesOf ofHeader rangesAt rangeAt rangeFrom numberAt rangePasses askOf lockOf answers answersFor inWay bars owns lockingAfter lockingEnd withLockList stored wideOffset doRead unlessBarred barring askBy readBytes contents sizeOf writeBlock parseWrite writeFits dataInside doWrite endsPast resized written withFiles parseBare withLocks refusal opened lock heldAt contested rangeOf holderAt parseCoreWrite coreWriteFits coreSaid asCore rangeBy oneRange doRange smallForm betweenSizes doSetSize doCoreWrite four statusNumber smbNumber ntBit doneReply
 core-replies = refl
 
 -- ---- what else the call leaves
@@ -323,7 +323,7 @@ pub core-left : (taken fewRecords (sent 0x0A (coreRead 4 3 2)) .tables ≡ fewRe
     × (taken fewRecords (sent 0x0B (sizeTo 0x01 0x10)) .memory ≡ memory)
     × (sizesIn (taken fewRecords (sent 0x0B (writeTo 2 0)) .tables) ≡ 0 ∷ 6 ∷ replicate 14 0)
     × (taken fewRecords (sent 0x0B (writeTo 2 0)) .memory ≡ file1 (0xA0 ∷ 0xA1 ∷ 0xBB ∷ 0xCC ∷ 0xA4 ∷ 0xA5 ∷ []) 61434)
-unfolding sizesIn file1 sent coreRead coreWrite writeTo sizeTo byteRange holderOf message fewRecords tablesWith session tree open-of sizes memory taken take-message dropped startsSmb isReply answered served replied replyOf replyHeader put runChain onlyStatus blocks blocksFrom blocksWithin afterParse afterBlock before parse answer linkFits linkAt mayFollow shaped bare le16At le32At callerOf run bodyMeant fidMeant afterGiven after linkTo perform areaOf dataOf status statusOf replyBlock refusedBlock replySize linkWords two withSession isSession withTree withOpen isOpen openAt found foundFrom sound withinRoom fileOk treeOk permits holdsOpen sharingOk catalogueOk noneDoubled openOk soundRecords lockOk agree agreeAll soundLocks fileOf isTree contains numberOk numbered any all allTails overlaps passesEnd lock100 lockBlock range100 parseLocking lockingFits isLarge rangeSize doLocking servedType requestOf locking request releaseAll afterFind removeAt named afterReleases grantAll afterWalk afterGrants settle rangesOf ofHeader rangesAt rangeAt rangeFrom numberAt rangePasses askOf lockOf answers answersFor inWay bars owns lockingAfter lockingEnd withLockList stored doRead unlessBarred barring askBy readBytes contents sizeOf doWrite endsPast resized written withFiles parseBare withLocks opened lock parseCoreWrite coreWriteFits coreSaid asCore rangeBy oneRange doRange smallForm betweenSizes doSetSize doCoreWrite
+unfolding sizesIn file1 sent coreRead coreWrite writeTo sizeTo byteRange holderOf message fewRecords tablesWith session tree open-of sizes memory taken take-message dropped startsSmb isReply answered served replied replyOf replyHeader put runChain onlyStatus blocks blocksFrom blocksWithin afterParse afterBlock before parse answer linkFits linkAt mayFollow shaped bare le16At le32At callerOf run bodyMeant fidMeant afterGiven after linkTo perform areaOf dataOf status formsOf replyBlock refusedBlock replySize linkWords two withSession isSession withTree withOpen isOpen openAt found foundFrom sound withinRoom fileOk treeOk permits holdsOpen sharingOk catalogueOk noneDoubled openOk soundRecords lockOk agree agreeAll soundLocks fileOf isTree contains numberOk numbered any all allTails overlaps passesEnd lock100 lockBlock range100 parseLocking lockingFits isLarge rangeSize doLocking servedType requestOf locking request releaseAll afterFind removeAt named afterReleases grantAll afterWalk afterGrants settle rangesOf ofHeader rangesAt rangeAt rangeFrom numberAt rangePasses askOf lockOf answers answersFor inWay bars owns lockingAfter lockingEnd withLockList stored doRead unlessBarred barring askBy readBytes contents sizeOf doWrite endsPast resized written withFiles parseBare withLocks opened lock parseCoreWrite coreWriteFits coreSaid asCore rangeBy oneRange doRange smallForm betweenSizes doSetSize doCoreWrite four statusNumber smbNumber ntBit
 core-left = (refl, refl, refl, refl, refl, refl)
 
 -- the tables after a WRITE of count 0 to 4: the file shrinks by the bytes A4 A5
@@ -342,7 +342,7 @@ pub sizes-left : (sizesIn shrunk ≡ 0 ∷ 4 ∷ replicate 14 0)
     × (taken shrunk (sent 0x0B (sizeTo 9 0)) .memory ≡ file1 (0xA0 ∷ 0xA1 ∷ 0xA2 ∷ 0xA3 ∷ []) 61436)
     × (sizesIn (taken shrunk (sent 0x0B (writeTo 6 0)) .tables) ≡ 0 ∷ 8 ∷ replicate 14 0)
     × (taken shrunk (sent 0x0B (writeTo 6 0)) .memory ≡ file1 (0xA0 ∷ 0xA1 ∷ 0xA2 ∷ 0xA3 ∷ 0x00 ∷ 0x00 ∷ 0xBB ∷ 0xCC ∷ []) 61432)
-unfolding shrunk sizesIn file1 sent coreRead coreWrite writeTo sizeTo byteRange holderOf message fewRecords tablesWith session tree open-of sizes memory taken take-message dropped startsSmb isReply answered served replied replyOf replyHeader put runChain onlyStatus blocks blocksFrom blocksWithin afterParse afterBlock before parse answer linkFits linkAt mayFollow shaped bare le16At le32At callerOf run bodyMeant fidMeant afterGiven after linkTo perform areaOf dataOf status statusOf replyBlock refusedBlock replySize linkWords two withSession isSession withTree withOpen isOpen openAt found foundFrom sound withinRoom fileOk treeOk permits holdsOpen sharingOk catalogueOk noneDoubled openOk soundRecords lockOk agree agreeAll soundLocks fileOf isTree contains numberOk numbered any all allTails overlaps passesEnd lock100 lockBlock range100 parseLocking lockingFits isLarge rangeSize doLocking servedType requestOf locking request releaseAll afterFind removeAt named afterReleases grantAll afterWalk afterGrants settle rangesOf ofHeader rangesAt rangeAt rangeFrom numberAt rangePasses askOf lockOf answers answersFor inWay bars owns lockingAfter lockingEnd withLockList stored doRead unlessBarred barring askBy readBytes contents sizeOf doWrite endsPast resized written withFiles parseBare withLocks opened lock parseCoreWrite coreWriteFits coreSaid asCore rangeBy oneRange doRange smallForm betweenSizes doSetSize doCoreWrite
+unfolding shrunk sizesIn file1 sent coreRead coreWrite writeTo sizeTo byteRange holderOf message fewRecords tablesWith session tree open-of sizes memory taken take-message dropped startsSmb isReply answered served replied replyOf replyHeader put runChain onlyStatus blocks blocksFrom blocksWithin afterParse afterBlock before parse answer linkFits linkAt mayFollow shaped bare le16At le32At callerOf run bodyMeant fidMeant afterGiven after linkTo perform areaOf dataOf status formsOf replyBlock refusedBlock replySize linkWords two withSession isSession withTree withOpen isOpen openAt found foundFrom sound withinRoom fileOk treeOk permits holdsOpen sharingOk catalogueOk noneDoubled openOk soundRecords lockOk agree agreeAll soundLocks fileOf isTree contains numberOk numbered any all allTails overlaps passesEnd lock100 lockBlock range100 parseLocking lockingFits isLarge rangeSize doLocking servedType requestOf locking request releaseAll afterFind removeAt named afterReleases grantAll afterWalk afterGrants settle rangesOf ofHeader rangesAt rangeAt rangeFrom numberAt rangePasses askOf lockOf answers answersFor inWay bars owns lockingAfter lockingEnd withLockList stored doRead unlessBarred barring askBy readBytes contents sizeOf doWrite endsPast resized written withFiles parseBare withLocks opened lock parseCoreWrite coreWriteFits coreSaid asCore rangeBy oneRange doRange smallForm betweenSizes doSetSize doCoreWrite four statusNumber smbNumber ntBit
 sizes-left = (refl, refl, refl, refl, refl, refl, refl, refl, refl, refl)
 
 -- 100 to 110 between two other locks of the sender
@@ -361,5 +361,5 @@ pub locks-left : (taken fewRecords (sent 0x0C (byteRange 4 10 100)) .tables .loc
     × (taken fewRecords (sent 0x24 (lock100 0x0B ++ sizeTo 0x01 0x10)) .tables .locks ≡ lock 0x0D0C1B1A 100 10 ∷ [])
     × (taken fewRecords (sent 0x24 (lockBetween 0x01 ++ sizeTo 9 0)) .tables .locks ≡ record { fid = 4; process = 0x0D0C1B1A; offset = 6; length = 3; shared = true } ∷ [])
     × (sizesIn (taken fewRecords (sent 0x24 (lockBetween 0x01 ++ sizeTo 9 0)) .tables) ≡ 0 ∷ 6 ∷ replicate 14 0)
-unfolding lockBetween sizesIn three topRange file1 sent coreRead coreWrite writeTo sizeTo byteRange holderOf message fewRecords tablesWith session tree open-of sizes memory taken take-message dropped startsSmb isReply answered served replied replyOf replyHeader put runChain onlyStatus blocks blocksFrom blocksWithin afterParse afterBlock before parse answer linkFits linkAt mayFollow shaped bare le16At le32At callerOf run bodyMeant fidMeant afterGiven after linkTo perform areaOf dataOf status statusOf replyBlock refusedBlock replySize linkWords two withSession isSession withTree withOpen isOpen openAt found foundFrom sound withinRoom fileOk treeOk permits holdsOpen sharingOk catalogueOk noneDoubled openOk soundRecords lockOk agree agreeAll soundLocks fileOf isTree contains numberOk numbered any all allTails overlaps passesEnd lock100 lockBlock range100 parseLocking lockingFits isLarge rangeSize doLocking servedType requestOf locking request releaseAll afterFind removeAt named afterReleases grantAll afterWalk afterGrants settle rangesOf ofHeader rangesAt rangeAt rangeFrom numberAt rangePasses askOf lockOf answers answersFor inWay bars owns lockingAfter lockingEnd withLockList stored doRead unlessBarred barring askBy readBytes contents sizeOf doWrite endsPast resized written withFiles parseBare withLocks opened lock parseCoreWrite coreWriteFits coreSaid asCore rangeBy oneRange doRange smallForm betweenSizes doSetSize doCoreWrite
+unfolding lockBetween sizesIn three topRange file1 sent coreRead coreWrite writeTo sizeTo byteRange holderOf message fewRecords tablesWith session tree open-of sizes memory taken take-message dropped startsSmb isReply answered served replied replyOf replyHeader put runChain onlyStatus blocks blocksFrom blocksWithin afterParse afterBlock before parse answer linkFits linkAt mayFollow shaped bare le16At le32At callerOf run bodyMeant fidMeant afterGiven after linkTo perform areaOf dataOf status formsOf replyBlock refusedBlock replySize linkWords two withSession isSession withTree withOpen isOpen openAt found foundFrom sound withinRoom fileOk treeOk permits holdsOpen sharingOk catalogueOk noneDoubled openOk soundRecords lockOk agree agreeAll soundLocks fileOf isTree contains numberOk numbered any all allTails overlaps passesEnd lock100 lockBlock range100 parseLocking lockingFits isLarge rangeSize doLocking servedType requestOf locking request releaseAll afterFind removeAt named afterReleases grantAll afterWalk afterGrants settle rangesOf ofHeader rangesAt rangeAt rangeFrom numberAt rangePasses askOf lockOf answers answersFor inWay bars owns lockingAfter lockingEnd withLockList stored doRead unlessBarred barring askBy readBytes contents sizeOf doWrite endsPast resized written withFiles parseBare withLocks opened lock parseCoreWrite coreWriteFits coreSaid asCore rangeBy oneRange doRange smallForm betweenSizes doSetSize doCoreWrite four statusNumber smbNumber ntBit
 locks-left = (refl, refl, refl, refl, refl, refl, refl, refl, refl, refl)

@@ -11,3 +11,4 @@ pub mod CoreCommands
 pub mod Opening
 pub mod Stream
 pub mod TwoProcesses
+pub mod NtReplies

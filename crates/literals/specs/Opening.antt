@@ -31,16 +31,16 @@ use Rattle.chain.specs.Header.{startsSmb, isReply, dropped}
 use Rattle.chain.specs.Parse.{shaped, bare, isLarge, lockingFits, readFits, terminated, openFits, mayFollow, linkFits, linkAt, answer, wideOffset, parseLocking, parseRead, parseOpen, parseBare, parse}
 use Rattle.chain.specs.Chain.{before, afterBlock, afterParse, blocksWithin, blocksFrom, blocks}
 use Rattle.message.specs.Caller.{callerOf}
-use Rattle.message.specs.Refusal.{status, statusOf, holderOf}
+use Rattle.message.specs.Refusal.{status, formsOf, holderOf}
 use Rattle.message.specs.Contents.{sizeOf, contents, readBytes}
 use Rattle.message.specs.Sharing.{reads, writes, deniesReading, deniesWriting, denied, keptOut}
 use Rattle.message.specs.Command.{isSession, withSession, withTree, isOpen, openAt, withOpen, servedType, requestOf, withLockList, lockingEnd, lockingAfter, doLocking, askBy, unlessBarred, barring, doRead, codesServed, nameAsked, openBy, openedSaid, openFile, openNamed, doOpen, perform}
-use Rattle.message.specs.Reply.{two, four, replyHeader, linkWords, replyBlock, refusedBlock, replySize}
+use Rattle.message.specs.Reply.{two, four, replyHeader, linkWords, replyBlock, refusedBlock, replySize, ntBit, smbNumber, statusNumber}
 use Rattle.message.specs.JustOpened.{openedBy, fidMeant, bodyMeant}
 use Rattle.message.specs.Message.{areaOf, dataOf, after, linkTo, afterGiven, run, served, onlyStatus, runChain, answered, replyOf, replied, take-message}
 use Rattle.literals.specs.Counting.{countFrom}
 use Rattle.literals.specs.State.{session, tree, open-of, name, memory}
-use Rattle.literals.specs.Replies.{message, lock100, lockBlock, range100, taken, Given, given, reply, success, Row, refusal, lock}
+use Rattle.literals.specs.Replies.{message, lock100, lockBlock, range100, taken, Given, given, reply, doneReply, Row, refusal, lock}
 
 -- ---- tables with a catalogue
 
@@ -126,7 +126,7 @@ readOf next fid high = 10 ∷ next ∷ 0 ∷ 96 ∷ 0 ∷ fid ∷ high ∷ 2 ∷
 unfoldable pub closeOf : ℕ → ℕ → List ℕ
 closeOf fid high = 3 ∷ fid ∷ high ∷ 0 ∷ 0 ∷ 0 ∷ 0 ∷ 0 ∷ 0 ∷ []
 
--- an OPEN_ANDX in a message of Flags 0x7F and Flags2 0xFFFF
+-- an OPEN_ANDX in a message of Flags 0x7F and Flags2 0xBFFF
 unfoldable pub asking : List ℕ → List ℕ
 asking block = message 0x2D 0x7F 0xFF block
 
@@ -150,15 +150,15 @@ attributes fid size high access =
 
 -- of file 1, with that FID and access
 unfoldable pub opensCrl : ℕ → ℕ → Given
-opensCrl fid access = success 65 0x2D (attributes fid 0x06 0x00 access)
+opensCrl fid access = doneReply 65 0x2D (attributes fid 0x06 0x00 access)
 
 -- Flags bit 0 clear, every other bit set; then bit 0 alone. A size of 3,845. The FID is the smallest free: 2 behind FIDs 1 and 3, of another file; 64 where 63 stand.
 unfoldable pub alone : List Row
 alone =
-    row noOpens (openWords 0xFF 0 0xFE 0xFF 0x42 0 1 0 ++ crlBytes) (success 65 0x2D (fidAlone 0x01))
+    row noOpens (openWords 0xFF 0 0xFE 0xFF 0x42 0 1 0 ++ crlBytes) (doneReply 65 0x2D (fidAlone 0x01))
     ∷ row noOpens (openWords 0xFF 0 0x01 0x00 0x42 0 1 0 ++ crlBytes) (opensCrl 0x01 0x02)
     ∷ row noOpens (openWords 0xFF 0 0xFF 0xFF 0x42 0 1 0 ++ crlBytes) (opensCrl 0x01 0x02)
-    ∷ row noOpens (opening 0x40 aBytes) (success 65 0x2D (attributes 0x01 0x05 0x0F 0x00))
+    ∷ row noOpens (opening 0x40 aBytes) (doneReply 65 0x2D (attributes 0x01 0x05 0x0F 0x00))
     ∷ row (beside 1 (another 1 2 2 4 ∷ another 3 2 2 4 ∷ [])) (openCrl 0x42) (opensCrl 0x02 0x02)
     ∷ row (having 1 (map (λ n. open-of n 3 2 7 0 2) (countFrom 1 63))) (openCrl 0x42) (opensCrl 0x40 0x02)
     ∷ []
@@ -168,8 +168,8 @@ alone =
 unfoldable pub otherCase : List Row
 otherCase =
     row noOpens (opening 0x40 (8 ∷ 0 ∷ 0x63 ∷ 0x72 ∷ 0x6C ∷ 0x2E ∷ 0x50 ∷ 0x65 ∷ 0x6D ∷ 0 ∷ [])) (opensCrl 0x01 0x00)
-    ∷ row noOpens (opening 0x40 ((13 ∷ 0 ∷ 0x61 ∷ 0x62 ∷ 0x63 ∷ 0x64 ∷ 0x65 ∷ 0x66 ∷ []) ++ (0x67 ∷ 0x68 ∷ 0x69 ∷ 0x6A ∷ 0x6B ∷ 0x6C ∷ 0 ∷ []))) (success 65 0x2D (attributes 0x01 0x00 0x00 0x00))
-    ∷ row noOpens (opening 0x40 (3 ∷ 0 ∷ 0x5B ∷ 0x7A ∷ 0 ∷ [])) (success 65 0x2D (attributes 0x01 0x00 0x00 0x00))
+    ∷ row noOpens (opening 0x40 ((13 ∷ 0 ∷ 0x61 ∷ 0x62 ∷ 0x63 ∷ 0x64 ∷ 0x65 ∷ 0x66 ∷ []) ++ (0x67 ∷ 0x68 ∷ 0x69 ∷ 0x6A ∷ 0x6B ∷ 0x6C ∷ 0 ∷ []))) (doneReply 65 0x2D (attributes 0x01 0x00 0x00 0x00))
+    ∷ row noOpens (opening 0x40 (3 ∷ 0 ∷ 0x5B ∷ 0x7A ∷ 0 ∷ [])) (doneReply 65 0x2D (attributes 0x01 0x00 0x00 0x00))
     ∷ row noOpens (opening 0x40 (5 ∷ 0 ∷ 0x63 ∷ 0x6F ∷ 0x70 ∷ 0x79 ∷ 0 ∷ [])) (opensCrl 0x01 0x00)
     ∷ row noOpens (opening 0x40 (3 ∷ 0 ∷ 0x7B ∷ 0x7A ∷ 0 ∷ [])) (refusal 0x2D 1 0x02 0x00)
     ∷ row noOpens (opening 0x40 (3 ∷ 0 ∷ 0x5B ∷ 0x3A ∷ 0 ∷ [])) (refusal 0x2D 1 0x02 0x00)
@@ -208,11 +208,11 @@ ofFile2 = having 1 (open-of 4 3 2 0x0D0C1B1A 2 2 ∷ [])
 -- its block. An OPEN_ANDX refused is the only block. "anywhere else it is an unknown FID, also in the CLOSE after that READ": 1/6; a CLOSE of FID 1 is done. Free bytes between the two, the READ at 75.
 unfoldable pub chains : List Row
 chains =
-    row noOpens (crlThenRead 0x40 ++ readOf 0xFF 0xFF 0xFF) (success 95 0x2D (thenRead ++ readBehind 0xFF 0x00 (0xA2 ∷ 0xA3 ∷ 0xA4 ∷ [])))
-    ∷ row ofFile2 (crlThenRead 0x40 ++ readOf 0xFF 0xFF 0xFF) (success 95 0x2D (thenRead ++ readBehind 0xFF 0x00 (0xA2 ∷ 0xA3 ∷ 0xA4 ∷ [])))
-    ∷ row ofFile2 (crlThenRead 0x40 ++ readOf 0xFF 0x04 0x00) (success 95 0x2D (thenRead ++ readBehind 0xFF 0x00 (0x00 ∷ 0x00 ∷ 0x00 ∷ [])))
-    ∷ row ofFile2 (crlThenRead 0x40 ++ readOf 0xFF 0x01 0x00) (success 95 0x2D (thenRead ++ readBehind 0xFF 0x00 (0xA2 ∷ 0xA3 ∷ 0xA4 ∷ [])))
-    ∷ row noOpens ((openWords 0x2E 75 0 0 0x40 0 1 0 ++ crlBytes) ++ (0x51 ∷ 0x52 ∷ readOf 0xFF 0xFF 0xFF)) (success 95 0x2D (thenRead ++ readBehind 0xFF 0x00 (0xA2 ∷ 0xA3 ∷ 0xA4 ∷ [])))
+    row noOpens (crlThenRead 0x40 ++ readOf 0xFF 0xFF 0xFF) (doneReply 95 0x2D (thenRead ++ readBehind 0xFF 0x00 (0xA2 ∷ 0xA3 ∷ 0xA4 ∷ [])))
+    ∷ row ofFile2 (crlThenRead 0x40 ++ readOf 0xFF 0xFF 0xFF) (doneReply 95 0x2D (thenRead ++ readBehind 0xFF 0x00 (0xA2 ∷ 0xA3 ∷ 0xA4 ∷ [])))
+    ∷ row ofFile2 (crlThenRead 0x40 ++ readOf 0xFF 0x04 0x00) (doneReply 95 0x2D (thenRead ++ readBehind 0xFF 0x00 (0x00 ∷ 0x00 ∷ 0x00 ∷ [])))
+    ∷ row ofFile2 (crlThenRead 0x40 ++ readOf 0xFF 0x01 0x00) (doneReply 95 0x2D (thenRead ++ readBehind 0xFF 0x00 (0xA2 ∷ 0xA3 ∷ 0xA4 ∷ [])))
+    ∷ row noOpens ((openWords 0x2E 75 0 0 0x40 0 1 0 ++ crlBytes) ++ (0x51 ∷ 0x52 ∷ readOf 0xFF 0xFF 0xFF)) (doneReply 95 0x2D (thenRead ++ readBehind 0xFF 0x00 (0xA2 ∷ 0xA3 ∷ 0xA4 ∷ [])))
     ∷ row noOpens (crlThenRead 0x40 ++ readOf 0xFF 0xFF 0x00) (reply 68 0x2D 1 0x06 0x00 0x88 0x01 (thenRead ++ (0x00 ∷ 0x00 ∷ 0x00 ∷ [])))
     ∷ row noOpens (crlThenRead 0x40 ++ readOf 0xFF 0x00 0xFF) (reply 68 0x2D 1 0x06 0x00 0x88 0x01 (thenRead ++ (0x00 ∷ 0x00 ∷ 0x00 ∷ [])))
     ∷ row noOpens (crlThenRead 0x41 ++ readOf 0xFF 0xFF 0xFF) (reply 68 0x2D 1 0x05 0x00 0x88 0x01 (thenRead ++ (0x00 ∷ 0x00 ∷ 0x00 ∷ [])))
@@ -220,7 +220,7 @@ chains =
     ∷ row noOpens (crlThenRead 0x40 ++ (readOf 0x04 0xFF 0xFF ++ closeOf 0xFF 0xFF))
     (reply 98 0x2D 1 0x06 0x00 0x88 0x01 (thenRead ++ (readBehind 0x04 0x5F (0xA2 ∷ 0xA3 ∷ 0xA4 ∷ []) ++ (0x00 ∷ 0x00 ∷ 0x00 ∷ []))))
     ∷ row noOpens (crlThenRead 0x40 ++ (readOf 0x04 0xFF 0xFF ++ closeOf 0x01 0x00))
-    (success 98 0x2D (thenRead ++ (readBehind 0x04 0x5F (0xA2 ∷ 0xA3 ∷ 0xA4 ∷ []) ++ (0x00 ∷ 0x00 ∷ 0x00 ∷ []))))
+    (doneReply 98 0x2D (thenRead ++ (readBehind 0x04 0x5F (0xA2 ∷ 0xA3 ∷ 0xA4 ∷ []) ++ (0x00 ∷ 0x00 ∷ 0x00 ∷ []))))
     ∷ []
 
 -- 0xFFFF alone, in a CLOSE and behind a LOCKING_ANDX: 1/6
@@ -341,7 +341,7 @@ table = alone ++ (otherCase ++ (everyCode ++ (chains ++ (nobodys ++ (refusals ++
 
 -- what the definitions give is what the papers say, in every row
 pub open-replies : map (λ r. given (r .tables) (r .request)) table ≡ map (λ r. r .said) table
-unfolding table alone otherCase everyCode chains nobodys refusals sharing inOrder malformed notNames crl twelve fiveNames twoSizes catalogued having noOpens another beside openWords opening crlBytes aBytes bBytes openCrl crlThenRead readOf closeOf asking row fidAlone attributes opensCrl thenRead readBehind ofFile2 moded allUsed message name memory session tree open-of taken take-message dropped startsSmb isReply answered served replied replyOf replyHeader put runChain onlyStatus blocks blocksFrom blocksWithin afterParse afterBlock before parse parseOpen parseRead parseBare answer openFits terminated readFits wideOffset linkFits linkAt mayFollow shaped bare le16At le32At callerOf run bodyMeant fidMeant openedBy afterGiven after linkTo perform areaOf dataOf status statusOf holderOf replyBlock refusedBlock replySize linkWords two four withSession isSession withTree withOpen isOpen openAt found foundFrom doOpen codesServed nameAsked openNamed isNamed sameName folded nameBytes openFile openBy keptOut denied reads writes deniesReading deniesWriting openedSaid freeFrom smallestFree withOpens stored doRead unlessBarred barring askBy readBytes contents sizeOf sound withinRoom fileOk treeOk permits holdsOpen sharingOk catalogueOk noneDoubled nameOk notZero differ openOk soundRecords lockOk agree agreeAll soundLocks fileOf isTree contains numberOk numbered any all allTails overlaps passesEnd remove withSessions withTrees withLocks sessionNamed treeNamed openGone sessionStays treeStays openStays lockStays sweepSessions sweepTrees sweepOpens sweepLocks keep countFrom given reply success refusal lock100 lockBlock range100 parseLocking lockingFits isLarge rangeSize doLocking servedType requestOf locking request releaseAll afterFind removeAt named afterReleases grantAll afterWalk afterGrants settle rangesOf ofHeader rangesAt rangeAt rangeFrom numberAt rangePasses askOf lockOf answers answersFor inWay bars owns lockingAfter lockingEnd withLockList
+unfolding table alone otherCase everyCode chains nobodys refusals sharing inOrder malformed notNames crl twelve fiveNames twoSizes catalogued having noOpens another beside openWords opening crlBytes aBytes bBytes openCrl crlThenRead readOf closeOf asking row fidAlone attributes opensCrl thenRead readBehind ofFile2 moded allUsed message name memory session tree open-of taken take-message dropped startsSmb isReply answered served replied replyOf replyHeader put runChain onlyStatus blocks blocksFrom blocksWithin afterParse afterBlock before parse parseOpen parseRead parseBare answer openFits terminated readFits wideOffset linkFits linkAt mayFollow shaped bare le16At le32At callerOf run bodyMeant fidMeant openedBy afterGiven after linkTo perform areaOf dataOf status formsOf holderOf replyBlock refusedBlock replySize linkWords two four withSession isSession withTree withOpen isOpen openAt found foundFrom doOpen codesServed nameAsked openNamed isNamed sameName folded nameBytes openFile openBy keptOut denied reads writes deniesReading deniesWriting openedSaid freeFrom smallestFree withOpens stored doRead unlessBarred barring askBy readBytes contents sizeOf sound withinRoom fileOk treeOk permits holdsOpen sharingOk catalogueOk noneDoubled nameOk notZero differ openOk soundRecords lockOk agree agreeAll soundLocks fileOf isTree contains numberOk numbered any all allTails overlaps passesEnd remove withSessions withTrees withLocks sessionNamed treeNamed openGone sessionStays treeStays openStays lockStays sweepSessions sweepTrees sweepOpens sweepLocks keep countFrom given reply refusal lock100 lockBlock range100 parseLocking lockingFits isLarge rangeSize doLocking servedType requestOf locking request releaseAll afterFind removeAt named afterReleases grantAll afterWalk afterGrants settle rangesOf ofHeader rangesAt rangeAt rangeFrom numberAt rangePasses askOf lockOf answers answersFor inWay bars owns lockingAfter lockingEnd withLockList statusNumber smbNumber ntBit doneReply
 open-replies = refl
 
 -- ---- each access and sharing code against each
@@ -351,7 +351,7 @@ unfoldable pub modes : List ℕ
 modes = 0x10 ∷ 0x20 ∷ 0x30 ∷ 0x40 ∷ 0x11 ∷ 0x21 ∷ 0x31 ∷ 0x41 ∷ 0x12 ∷ 0x22 ∷ 0x32 ∷ 0x42 ∷ []
 
 unfoldable pub openedBeside : ℕ → ℕ → List ℕ
-openedBeside access code = keep (λ mode. eqb (answered 5 (asking (openCrl mode)) (beside 1 (another 1 1 access code ∷ [])) memory .status .code) 0) modes
+openedBeside access code = keep (λ mode. eqb (answered 5 (asking (openCrl mode)) (beside 1 (another 1 1 access code ∷ [])) memory .forms .status .code) 0) modes
 
 -- "deny both, deny write, deny read, deny none", of an open for reading, for writing, for both
 pub with-each : (map (openedBeside 0) (1 ∷ 2 ∷ 3 ∷ 4 ∷ [])
@@ -360,7 +360,7 @@ pub with-each : (map (openedBeside 0) (1 ∷ 2 ∷ 3 ∷ 4 ∷ [])
     ≡ [] ∷ (0x30 ∷ 0x40 ∷ []) ∷ (0x31 ∷ 0x41 ∷ []) ∷ (0x30 ∷ 0x40 ∷ 0x31 ∷ 0x41 ∷ 0x32 ∷ 0x42 ∷ []) ∷ [])
     × (map (openedBeside 2) (1 ∷ 2 ∷ 3 ∷ 4 ∷ [])
     ≡ [] ∷ (0x40 ∷ []) ∷ (0x41 ∷ []) ∷ (0x40 ∷ 0x41 ∷ 0x42 ∷ []) ∷ [])
-unfolding modes openedBeside keep crl twelve fiveNames twoSizes catalogued another beside openWords opening crlBytes openCrl asking message name memory session tree answered served runChain onlyStatus blocks blocksFrom blocksWithin afterParse afterBlock before parse parseOpen answer openFits terminated linkFits linkAt mayFollow shaped le16At callerOf run bodyMeant fidMeant afterGiven after perform areaOf dataOf status statusOf withSession isSession withTree isTree found foundFrom any doOpen codesServed sharingOk nameAsked openNamed isNamed sameName folded nameBytes openFile openBy holdsOpen permits keptOut denied reads writes deniesReading deniesWriting openedSaid smallestFree freeFrom contains
+unfolding modes openedBeside keep crl twelve fiveNames twoSizes catalogued another beside openWords opening crlBytes openCrl asking message name memory session tree answered served runChain onlyStatus blocks blocksFrom blocksWithin afterParse afterBlock before parse parseOpen answer openFits terminated linkFits linkAt mayFollow shaped le16At callerOf run bodyMeant fidMeant afterGiven after perform areaOf dataOf status formsOf withSession isSession withTree isTree found foundFrom any doOpen codesServed sharingOk nameAsked openNamed isNamed sameName folded nameBytes openFile openBy holdsOpen permits keptOut denied reads writes deniesReading deniesWriting openedSaid smallestFree freeFrom contains
 with-each = (refl, refl, refl)
 
 -- ---- what else the call leaves
@@ -383,5 +383,5 @@ pub open-left : (taken noOpens (asking (openCrl 0x40)) .tables ≡ having 1 (new
     × (taken noOpens (asking (crlThenRead 0x40 ++ (readOf 0x04 0xFF 0xFF ++ closeOf 0x01 0x00))) .tables .nopens ≡ 0)
     × (taken (beside 1 (another 1 1 0 2 ∷ [])) (asking (openCrl 0x41)) .tables ≡ beside 1 (another 1 1 0 2 ∷ []))
     × (taken (beside 1 (another 1 1 0 2 ∷ [])) (asking (openCrl 0x41)) .memory ≡ memory)
-unfolding new crl twelve fiveNames twoSizes catalogued having noOpens another beside openWords opening crlBytes aBytes openCrl crlThenRead readOf closeOf asking message name memory session tree open-of taken take-message dropped startsSmb isReply answered served replied replyOf replyHeader put runChain onlyStatus blocks blocksFrom blocksWithin afterParse afterBlock before parse parseOpen parseRead parseBare answer openFits terminated readFits wideOffset linkFits linkAt mayFollow shaped bare le16At le32At callerOf run bodyMeant fidMeant openedBy afterGiven after linkTo perform areaOf dataOf status statusOf holderOf replyBlock refusedBlock replySize linkWords two four withSession isSession withTree withOpen isOpen openAt found foundFrom doOpen codesServed nameAsked openNamed isNamed sameName folded nameBytes openFile openBy keptOut denied reads writes deniesReading deniesWriting openedSaid freeFrom smallestFree withOpens stored doRead unlessBarred barring askBy readBytes contents sizeOf sound withinRoom fileOk treeOk permits holdsOpen sharingOk catalogueOk noneDoubled nameOk notZero differ openOk soundRecords lockOk agree agreeAll soundLocks fileOf isTree contains numberOk numbered any all allTails overlaps passesEnd remove withSessions withTrees withLocks sessionNamed treeNamed openGone sessionStays treeStays openStays lockStays sweepSessions sweepTrees sweepOpens sweepLocks keep
+unfolding new crl twelve fiveNames twoSizes catalogued having noOpens another beside openWords opening crlBytes aBytes openCrl crlThenRead readOf closeOf asking message name memory session tree open-of taken take-message dropped startsSmb isReply answered served replied replyOf replyHeader put runChain onlyStatus blocks blocksFrom blocksWithin afterParse afterBlock before parse parseOpen parseRead parseBare answer openFits terminated readFits wideOffset linkFits linkAt mayFollow shaped bare le16At le32At callerOf run bodyMeant fidMeant openedBy afterGiven after linkTo perform areaOf dataOf status formsOf holderOf replyBlock refusedBlock replySize linkWords two four withSession isSession withTree withOpen isOpen openAt found foundFrom doOpen codesServed nameAsked openNamed isNamed sameName folded nameBytes openFile openBy keptOut denied reads writes deniesReading deniesWriting openedSaid freeFrom smallestFree withOpens stored doRead unlessBarred barring askBy readBytes contents sizeOf sound withinRoom fileOk treeOk permits holdsOpen sharingOk catalogueOk noneDoubled nameOk notZero differ openOk soundRecords lockOk agree agreeAll soundLocks fileOf isTree contains numberOk numbered any all allTails overlaps passesEnd remove withSessions withTrees withLocks sessionNamed treeNamed openGone sessionStays treeStays openStays lockStays sweepSessions sweepTrees sweepOpens sweepLocks keep statusNumber smbNumber ntBit
 open-left = (refl, refl, refl, refl, refl, refl, refl, refl, refl, refl)

@@ -26,24 +26,29 @@ use Rattle.chain.specs.Header.{startsSmb, isReply, dropped}
 use Rattle.chain.specs.Parse.{shaped, bare, isLarge, lockingFits, readFits, dataInside, writeFits, mayFollow, linkFits, linkAt, answer, wideOffset, parseLocking, parseRead, parseWrite, parseLogoff, parseBare, parse}
 use Rattle.chain.specs.Chain.{before, afterBlock, afterParse, blocksWithin, blocksFrom, blocks}
 use Rattle.message.specs.Caller.{callerOf}
-use Rattle.message.specs.Refusal.{status, statusOf, holderOf}
+use Rattle.message.specs.Refusal.{status, formsOf, holderOf}
 use Rattle.message.specs.declared.refusal.HeldBy.{HeldBy}
 use Rattle.message.specs.declared.refusal.HeldBy.the-variants.{Nobody, Holder as held-by}
 use Rattle.message.specs.Contents.{sizeOf, contents, readBytes, written, resized}
 use Rattle.message.specs.Command.{isSession, withSession, withTree, isOpen, openAt, withOpen, servedType, requestOf, withLockList, lockingEnd, lockingAfter, doLocking, askBy, unlessBarred, barring, doRead, endsPast, doWrite, perform}
-use Rattle.message.specs.Reply.{two, replyHeader, linkWords, replyBlock, refusedBlock, replySize}
+use Rattle.message.specs.Reply.{two, replyHeader, linkWords, replyBlock, refusedBlock, replySize, four, ntBit, smbNumber, statusNumber}
 use Rattle.message.specs.JustOpened.{fidMeant, bodyMeant}
 use Rattle.message.specs.Message.{areaOf, dataOf, after, linkTo, afterGiven, run, served, onlyStatus, runChain, answered, replyOf, Taken, notTaken, replied, take-message}
 use Rattle.literals.specs.State.{session, tree, open-of, sizes, tablesWith, fewRecords, memory}
 
 -- ---- requests
 
--- a message of that command, Flags and Flags2, each other byte of the header its own place, but TID 2 and UID 3
-unfoldable pub message : ℕ → ℕ → ℕ → List ℕ → List ℕ
-message command flags flags2 block =
-    (0xFF ∷ 0x53 ∷ 0x4D ∷ 0x42 ∷ command ∷ 0x05 ∷ 0x06 ∷ 0x07 ∷ 0x08 ∷ flags ∷ flags2 ∷ flags2 ∷ 0x0C ∷ 0x0D ∷ 0x0E ∷ 0x0F ∷ [])
+-- a message of that command, Flags, and lower and upper byte of Flags2, each other byte of the header its own place, but TID 2 and UID 3
+unfoldable pub messageOf : ℕ → ℕ → ℕ → ℕ → List ℕ → List ℕ
+messageOf command flags low high block =
+    (0xFF ∷ 0x53 ∷ 0x4D ∷ 0x42 ∷ command ∷ 0x05 ∷ 0x06 ∷ 0x07 ∷ 0x08 ∷ flags ∷ low ∷ high ∷ 0x0C ∷ 0x0D ∷ 0x0E ∷ 0x0F ∷ [])
     ++ ((0x10 ∷ 0x11 ∷ 0x12 ∷ 0x13 ∷ 0x14 ∷ 0x15 ∷ 0x16 ∷ 0x17 ∷ 0x02 ∷ 0x00 ∷ 0x1A ∷ 0x1B ∷ 0x03 ∷ 0x00 ∷ 0x1E ∷ 0x1F ∷ [])
     ++ block)
+
+-- the upper byte of Flags2 having every bit but 0x4000, which asks for NT status (NtReplies.antt)
+unfoldable pub message : ℕ → ℕ → ℕ → List ℕ → List ℕ
+unfolding messageOf
+message command flags low block = messageOf command flags low 0xBF block
 
 -- LOCKING of FID 4, of that type, that many unlocks and locks, and those ranges in that many bytes. Behind it comes the command given, at 61, or none
 -- with 0xFF.
@@ -101,9 +106,9 @@ reply size command class low high flags flags2 bytes =
           ++ bytes);
     }
 
--- a reply with everything done to a request of Flags 0x7F and Flags2 0xFFFF
-unfoldable pub success : ℕ → ℕ → List ℕ → Given
-success size command bytes = reply size command 0 0 0 0x88 0x01 bytes
+-- a reply with everything done to a request of Flags 0x7F and Flags2 0xBFFF
+unfoldable pub doneReply : ℕ → ℕ → List ℕ → Given
+doneReply size command bytes = reply size command 0 0 0 0x88 0x01 bytes
 
 -- a message on tables, and what is to come of it
 pub record Row : Type 0 where
@@ -119,7 +124,7 @@ lockingReply =
     record {
       tables = fewRecords;
       request = message 0x24 0x7F 0xFF (lock100 0xFF);
-      said = success 39 0x24 (0x02 ∷ 0xFF ∷ 0x00 ∷ 0x00 ∷ 0x00 ∷ 0x00 ∷ 0x00 ∷ []);
+      said = doneReply 39 0x24 (0x02 ∷ 0xFF ∷ 0x00 ∷ 0x00 ∷ 0x00 ∷ 0x00 ∷ 0x00 ∷ []);
     }
 
 -- "READ: 12 words: AndX, 0xFFFF, 0, 0, length, data offset, ten zero bytes; the bytes are the data": 3 of them at 59
@@ -128,7 +133,7 @@ readReply =
     record {
       tables = fewRecords;
       request = message 0x2E 0x7F 0xFF (readBlock 4);
-      said = success 62 0x2E ((0x0C ∷ 0xFF ∷ 0x00 ∷ 0x00 ∷ 0x00 ∷ 0xFF ∷ 0xFF ∷ 0x00 ∷ 0x00 ∷ 0x00 ∷ 0x00 ∷ 0x03 ∷ 0x00 ∷ 0x3B ∷ 0x00 ∷ []) ++ (0x00 ∷ 0x00 ∷ 0x00 ∷ 0x00 ∷ 0x00 ∷ 0x00 ∷ 0x00 ∷ 0x00 ∷ 0x00 ∷ 0x00 ∷ 0x03 ∷ 0x00 ∷ 0xA2 ∷ 0xA3 ∷ 0xA4 ∷ []));
+      said = doneReply 62 0x2E ((0x0C ∷ 0xFF ∷ 0x00 ∷ 0x00 ∷ 0x00 ∷ 0xFF ∷ 0xFF ∷ 0x00 ∷ 0x00 ∷ 0x00 ∷ 0x00 ∷ 0x03 ∷ 0x00 ∷ 0x3B ∷ 0x00 ∷ []) ++ (0x00 ∷ 0x00 ∷ 0x00 ∷ 0x00 ∷ 0x00 ∷ 0x00 ∷ 0x00 ∷ 0x00 ∷ 0x00 ∷ 0x00 ∷ 0x03 ∷ 0x00 ∷ 0xA2 ∷ 0xA3 ∷ 0xA4 ∷ []));
     }
 
 -- "WRITE: 6 words: AndX, count, 0xFFFF, four zero bytes."
@@ -137,12 +142,12 @@ writeReply =
     record {
       tables = fewRecords;
       request = message 0x2F 0x7F 0xFF (writeBlock 0xFF 2 0);
-      said = success 47 0x2F (0x06 ∷ 0xFF ∷ 0x00 ∷ 0x00 ∷ 0x00 ∷ 0x02 ∷ 0x00 ∷ 0xFF ∷ 0xFF ∷ 0x00 ∷ 0x00 ∷ 0x00 ∷ 0x00 ∷ 0x00 ∷ 0x00 ∷ []);
+      said = doneReply 47 0x2F (0x06 ∷ 0xFF ∷ 0x00 ∷ 0x00 ∷ 0x00 ∷ 0x02 ∷ 0x00 ∷ 0xFF ∷ 0xFF ∷ 0x00 ∷ 0x00 ∷ 0x00 ∷ 0x00 ∷ 0x00 ∷ 0x00 ∷ []);
     }
 
 -- "Others: 0 words."
 unfoldable pub closeReply : Row
-closeReply = record { tables = fewRecords; request = message 0x04 0x7F 0xFF (closeBlock 4); said = success 35 0x04 (0x00 ∷ 0x00 ∷ 0x00 ∷ []) }
+closeReply = record { tables = fewRecords; request = message 0x04 0x7F 0xFF (closeBlock 4); said = doneReply 35 0x04 (0x00 ∷ 0x00 ∷ 0x00 ∷ []) }
 
 -- LOGOFF: its AndXOffset is ignored
 unfoldable pub logoffReply : Row
@@ -150,7 +155,7 @@ logoffReply =
     record {
       tables = fewRecords;
       request = message 0x74 0x7F 0xFF (0x02 ∷ 0xFF ∷ 0x22 ∷ 0x23 ∷ 0x24 ∷ 0x00 ∷ 0x00 ∷ []);
-      said = success 39 0x74 (0x02 ∷ 0xFF ∷ 0x00 ∷ 0x00 ∷ 0x00 ∷ 0x00 ∷ 0x00 ∷ []);
+      said = doneReply 39 0x74 (0x02 ∷ 0xFF ∷ 0x00 ∷ 0x00 ∷ 0x00 ∷ 0x00 ∷ 0x00 ∷ []);
     }
 
 -- TREE_DISCONNECT
@@ -159,23 +164,23 @@ disconnectReply =
     record {
       tables = fewRecords;
       request = message 0x71 0x7F 0xFF (0x00 ∷ 0x00 ∷ 0x00 ∷ []);
-      said = success 35 0x71 (0x00 ∷ 0x00 ∷ 0x00 ∷ []);
+      said = doneReply 35 0x71 (0x00 ∷ 0x00 ∷ 0x00 ∷ []);
     }
 
 -- PROCESS_EXIT
 unfoldable pub exitReply : Row
-exitReply = record { tables = fewRecords; request = message 0x11 0x7F 0xFF (0x00 ∷ 0x00 ∷ 0x00 ∷ []); said = success 35 0x11 (0x00 ∷ 0x00 ∷ 0x00 ∷ []) }
+exitReply = record { tables = fewRecords; request = message 0x11 0x7F 0xFF (0x00 ∷ 0x00 ∷ 0x00 ∷ []); said = doneReply 35 0x11 (0x00 ∷ 0x00 ∷ 0x00 ∷ []) }
 
--- "Flags is 0x80 plus the request's 0x08; Flags2 keeps only 0x0001": no bit is set
+-- "Flags is 0x80 plus the request's 0x08; Flags2 keeps only 0x0001" (and 0x4000: NtReplies.antt): no bit is set
 unfoldable pub noFlags : Row
 noFlags =
     record {
       tables = fewRecords;
-      request = message 0x71 0x00 0x00 (0x00 ∷ 0x00 ∷ 0x00 ∷ []);
+      request = messageOf 0x71 0x00 0x00 0x00 (0x00 ∷ 0x00 ∷ 0x00 ∷ []);
       said = reply 35 0x71 0 0 0 0x80 0x00 (0x00 ∷ 0x00 ∷ 0x00 ∷ []);
     }
 
--- all but those two
+-- all but those two, and but 0x4000
 unfoldable pub otherFlags : Row
 otherFlags =
     record {
@@ -189,7 +194,7 @@ unfoldable pub justFlags : Row
 justFlags =
     record {
       tables = fewRecords;
-      request = message 0x71 0x08 0x01 (0x00 ∷ 0x00 ∷ 0x00 ∷ []);
+      request = messageOf 0x71 0x08 0x01 0x01 (0x00 ∷ 0x00 ∷ 0x00 ∷ []);
       said = reply 35 0x71 0 0 0 0x88 0x01 (0x00 ∷ 0x00 ∷ 0x00 ∷ []);
     }
 
@@ -201,7 +206,7 @@ lockReadReply =
     record {
       tables = fewRecords;
       request = message 0x24 0x7F 0xFF (lock100 0x2E ++ readBlock 4);
-      said = success 69 0x24 ((0x02 ∷ 0x2E ∷ 0x00 ∷ 0x27 ∷ 0x00 ∷ 0x00 ∷ 0x00 ∷ []) ++ ((0x0C ∷ 0xFF ∷ 0x00 ∷ 0x00 ∷ 0x00 ∷ 0xFF ∷ 0xFF ∷ 0x00 ∷ 0x00 ∷ 0x00 ∷ 0x00 ∷ 0x03 ∷ 0x00 ∷ 0x42 ∷ 0x00 ∷ []) ++ (0x00 ∷ 0x00 ∷ 0x00 ∷ 0x00 ∷ 0x00 ∷ 0x00 ∷ 0x00 ∷ 0x00 ∷ 0x00 ∷ 0x00 ∷ 0x03 ∷ 0x00 ∷ 0xA2 ∷ 0xA3 ∷ 0xA4 ∷ [])));
+      said = doneReply 69 0x24 ((0x02 ∷ 0x2E ∷ 0x00 ∷ 0x27 ∷ 0x00 ∷ 0x00 ∷ 0x00 ∷ []) ++ ((0x0C ∷ 0xFF ∷ 0x00 ∷ 0x00 ∷ 0x00 ∷ 0xFF ∷ 0xFF ∷ 0x00 ∷ 0x00 ∷ 0x00 ∷ 0x00 ∷ 0x03 ∷ 0x00 ∷ 0x42 ∷ 0x00 ∷ []) ++ (0x00 ∷ 0x00 ∷ 0x00 ∷ 0x00 ∷ 0x00 ∷ 0x00 ∷ 0x00 ∷ 0x00 ∷ 0x00 ∷ 0x00 ∷ 0x03 ∷ 0x00 ∷ 0xA2 ∷ 0xA3 ∷ 0xA4 ∷ [])));
     }
 
 -- WRITE_ANDX, and a CLOSE at 47
@@ -210,7 +215,7 @@ writeCloseReply =
     record {
       tables = fewRecords;
       request = message 0x2F 0x7F 0xFF (writeBlock 0x04 2 0 ++ closeBlock 4);
-      said = success 50 0x2F ((0x06 ∷ 0x04 ∷ 0x00 ∷ 0x2F ∷ 0x00 ∷ 0x02 ∷ 0x00 ∷ 0xFF ∷ 0xFF ∷ 0x00 ∷ 0x00 ∷ 0x00 ∷ 0x00 ∷ 0x00 ∷ 0x00 ∷ []) ++ (0x00 ∷ 0x00 ∷ 0x00 ∷ []));
+      said = doneReply 50 0x2F ((0x06 ∷ 0x04 ∷ 0x00 ∷ 0x2F ∷ 0x00 ∷ 0x02 ∷ 0x00 ∷ 0xFF ∷ 0xFF ∷ 0x00 ∷ 0x00 ∷ 0x00 ∷ 0x00 ∷ 0x00 ∷ 0x00 ∷ []) ++ (0x00 ∷ 0x00 ∷ 0x00 ∷ []));
     }
 
 -- "A refused command .. gives WordCount 0 and ByteCount 0, and Status stands in the header": LOCKING, and a READ_ANDX of FID 5, 1/6
@@ -306,7 +311,7 @@ lastRecord =
     record {
       tables = opened 2 (replicate 127 (lock 7 0 0));
       request = message 0x24 0x7F 0xFF (lock100 0xFF);
-      said = success 39 0x24 (0x02 ∷ 0xFF ∷ 0x00 ∷ 0x00 ∷ 0x00 ∷ 0x00 ∷ 0x00 ∷ []);
+      said = doneReply 39 0x24 (0x02 ∷ 0xFF ∷ 0x00 ∷ 0x00 ∷ 0x00 ∷ 0x00 ∷ 0x00 ∷ []);
     }
 
 -- "class 3, code 39, write would end past 4,096": 2 bytes at 4,095, which is 0x0FFF
@@ -319,7 +324,7 @@ lastBytes =
     record {
       tables = fewRecords;
       request = message 0x2F 0x7F 0xFF (writeBlock 0xFF 0xFE 0x0F);
-      said = success 47 0x2F (0x06 ∷ 0xFF ∷ 0x00 ∷ 0x00 ∷ 0x00 ∷ 0x02 ∷ 0x00 ∷ 0xFF ∷ 0xFF ∷ 0x00 ∷ 0x00 ∷ 0x00 ∷ 0x00 ∷ 0x00 ∷ 0x00 ∷ []);
+      said = doneReply 47 0x2F (0x06 ∷ 0xFF ∷ 0x00 ∷ 0x00 ∷ 0x00 ∷ 0x02 ∷ 0x00 ∷ 0xFF ∷ 0xFF ∷ 0x00 ∷ 0x00 ∷ 0x00 ∷ 0x00 ∷ 0x00 ∷ 0x00 ∷ []);
     }
 
 -- ---- the table
@@ -357,7 +362,7 @@ table =
 
 -- what the definitions give is what the document says, in every row
 pub replies : map (λ r. given (r .tables) (r .request)) table ≡ map (λ r. r .said) table
-unfolding table lockingReply readReply writeReply closeReply logoffReply disconnectReply exitReply noFlags otherFlags justFlags lockReadReply writeCloseReply lockRefusedReply unserved malformed noSession noTree noOpen noRead noWrite lockType noSuchLock passesTop noRecord lastRecord noSpace lastBytes holderOf message fewRecords tablesWith session tree open-of sizes memory given taken take-message dropped startsSmb isReply answered served replied replyOf replyHeader put runChain onlyStatus blocks blocksFrom blocksWithin afterParse afterBlock before parse answer linkFits linkAt mayFollow shaped bare le16At le32At callerOf run bodyMeant fidMeant afterGiven after linkTo perform areaOf dataOf status statusOf replyBlock refusedBlock replySize linkWords two withSession isSession withTree withOpen isOpen openAt found foundFrom sound withinRoom fileOk treeOk permits holdsOpen sharingOk catalogueOk noneDoubled openOk soundRecords lockOk agree agreeAll soundLocks fileOf isTree contains numberOk numbered any all allTails overlaps passesEnd reply success closeBlock lock100 lockBlock range100 parseLocking lockingFits isLarge rangeSize doLocking servedType requestOf locking request releaseAll afterFind removeAt named afterReleases grantAll afterWalk afterGrants settle rangesOf ofHeader rangesAt rangeAt rangeFrom numberAt rangePasses askOf lockOf answers answersFor inWay bars owns lockingAfter lockingEnd withLockList stored readBlock parseRead readFits wideOffset doRead unlessBarred barring askBy readBytes contents sizeOf writeBlock parseWrite writeFits dataInside doWrite endsPast resized written withFiles parseLogoff parseBare remove sweepSessions sweepTrees sweepOpens sweepLocks sessionNamed treeNamed openNamed sessionStays treeStays openStays lockStays keep withSessions withTrees withOpens withLocks refusal opened lock
+unfolding table lockingReply readReply writeReply closeReply logoffReply disconnectReply exitReply noFlags otherFlags justFlags lockReadReply writeCloseReply lockRefusedReply unserved malformed noSession noTree noOpen noRead noWrite lockType noSuchLock passesTop noRecord lastRecord noSpace lastBytes holderOf message messageOf fewRecords tablesWith session tree open-of sizes memory given taken take-message dropped startsSmb isReply answered served replied replyOf replyHeader put runChain onlyStatus blocks blocksFrom blocksWithin afterParse afterBlock before parse answer linkFits linkAt mayFollow shaped bare le16At le32At callerOf run bodyMeant fidMeant afterGiven after linkTo perform areaOf dataOf status formsOf replyBlock refusedBlock replySize linkWords two withSession isSession withTree withOpen isOpen openAt found foundFrom sound withinRoom fileOk treeOk permits holdsOpen sharingOk catalogueOk noneDoubled openOk soundRecords lockOk agree agreeAll soundLocks fileOf isTree contains numberOk numbered any all allTails overlaps passesEnd reply closeBlock lock100 lockBlock range100 parseLocking lockingFits isLarge rangeSize doLocking servedType requestOf locking request releaseAll afterFind removeAt named afterReleases grantAll afterWalk afterGrants settle rangesOf ofHeader rangesAt rangeAt rangeFrom numberAt rangePasses askOf lockOf answers answersFor inWay bars owns lockingAfter lockingEnd withLockList stored readBlock parseRead readFits wideOffset doRead unlessBarred barring askBy readBytes contents sizeOf writeBlock parseWrite writeFits dataInside doWrite endsPast resized written withFiles parseLogoff parseBare remove sweepSessions sweepTrees sweepOpens sweepLocks sessionNamed treeNamed openNamed sessionStays treeStays openStays lockStays keep withSessions withTrees withOpens withLocks refusal opened lock four statusNumber smbNumber ntBit doneReply
 replies = refl
 
 -- ---- "1/33 lock conflict", and the holder
@@ -469,7 +474,7 @@ unfoldable pub conflicts : List Row
 conflicts = conflict ∷ readHeld ∷ firstOfTwo ∷ writeHeld ∷ writeOwnShared ∷ lockHeld ∷ firstRangeHeld ∷ ownRangeHeld ∷ unlockHeld ∷ chainHeld ∷ []
 
 pub held : map (λ r. given (r .tables) (r .request)) conflicts ≡ map (λ r. r .said) conflicts
-unfolding conflicts conflict readHeld firstOfTwo writeHeld writeOwnShared lockHeld firstRangeHeld ownRangeHeld unlockHeld chainHeld heldAt contested rangeOf holderAt holderOf opened lock refusal reply message fewRecords tablesWith session tree open-of sizes memory given taken take-message dropped startsSmb isReply answered served replied replyOf replyHeader put runChain onlyStatus blocks blocksFrom blocksWithin afterParse afterBlock before parse answer linkFits linkAt mayFollow shaped bare le16At le32At callerOf run bodyMeant fidMeant afterGiven after linkTo perform areaOf dataOf status statusOf replyBlock refusedBlock replySize linkWords two withSession isSession withTree withOpen isOpen openAt found foundFrom sound withinRoom fileOk treeOk permits holdsOpen sharingOk catalogueOk noneDoubled openOk soundRecords lockOk agree agreeAll soundLocks fileOf isTree contains numberOk numbered any all allTails overlaps passesEnd lock100 lockBlock range100 parseLocking lockingFits isLarge rangeSize doLocking servedType requestOf locking request releaseAll afterFind removeAt named afterReleases grantAll afterWalk afterGrants settle rangesOf ofHeader rangesAt rangeAt rangeFrom numberAt rangePasses askOf lockOf answers answersFor inWay bars owns lockingAfter lockingEnd withLockList stored readBlock parseRead readFits wideOffset doRead unlessBarred barring askBy readBytes contents sizeOf writeBlock parseWrite writeFits dataInside doWrite endsPast resized written withFiles
+unfolding conflicts conflict readHeld firstOfTwo writeHeld writeOwnShared lockHeld firstRangeHeld ownRangeHeld unlockHeld chainHeld heldAt contested rangeOf holderAt holderOf opened lock refusal reply message messageOf fewRecords tablesWith session tree open-of sizes memory given taken take-message dropped startsSmb isReply answered served replied replyOf replyHeader put runChain onlyStatus blocks blocksFrom blocksWithin afterParse afterBlock before parse answer linkFits linkAt mayFollow shaped bare le16At le32At callerOf run bodyMeant fidMeant afterGiven after linkTo perform areaOf dataOf status formsOf replyBlock refusedBlock replySize linkWords two withSession isSession withTree withOpen isOpen openAt found foundFrom sound withinRoom fileOk treeOk permits holdsOpen sharingOk catalogueOk noneDoubled openOk soundRecords lockOk agree agreeAll soundLocks fileOf isTree contains numberOk numbered any all allTails overlaps passesEnd lock100 lockBlock range100 parseLocking lockingFits isLarge rangeSize doLocking servedType requestOf locking request releaseAll afterFind removeAt named afterReleases grantAll afterWalk afterGrants settle rangesOf ofHeader rangesAt rangeAt rangeFrom numberAt rangePasses askOf lockOf answers answersFor inWay bars owns lockingAfter lockingEnd withLockList stored readBlock parseRead readFits wideOffset doRead unlessBarred barring askBy readBytes contents sizeOf writeBlock parseWrite writeFits dataInside doWrite endsPast resized written withFiles four statusNumber smbNumber ntBit
 held = refl
 
 -- ---- what else the call leaves
@@ -497,5 +502,5 @@ pub left : (taken fewRecords sharedLocks .tables .locks
     × (drop 39 (taken fewRecords (message 0x24 0x7F 0xFF (lock100 0xFF)) .room) ≡ replicate 12253 0xEE)
     × (taken fewRecords (message 0x2F 0x7F 0xFF (writeBlock 0xFF 2 0)) .memory
     ≡ replicate 4096 0 ++ (0xA0 ∷ 0xA1 ∷ 0xBB ∷ 0xCC ∷ 0xA4 ∷ 0xA5 ∷ replicate 61434 0))
-unfolding sharedLocks unlockAndLock opened lock message fewRecords tablesWith session tree open-of sizes memory taken take-message dropped startsSmb isReply answered served replied replyOf replyHeader put runChain onlyStatus blocks blocksFrom blocksWithin afterParse afterBlock before parse answer linkFits linkAt mayFollow shaped bare le16At le32At callerOf run bodyMeant fidMeant afterGiven after linkTo perform areaOf dataOf status statusOf replyBlock refusedBlock replySize linkWords two withSession isSession withTree withOpen isOpen openAt found foundFrom sound withinRoom fileOk treeOk permits holdsOpen sharingOk catalogueOk noneDoubled openOk soundRecords lockOk agree agreeAll soundLocks fileOf isTree contains numberOk numbered any all allTails overlaps passesEnd lock100 lockBlock range100 parseLocking lockingFits isLarge rangeSize doLocking servedType requestOf locking request releaseAll afterFind removeAt named afterReleases grantAll afterWalk afterGrants settle rangesOf ofHeader rangesAt rangeAt rangeFrom numberAt rangePasses askOf lockOf answers answersFor inWay bars owns lockingAfter lockingEnd withLockList stored writeBlock parseWrite writeFits dataInside wideOffset doWrite unlessBarred barring askBy endsPast resized written sizeOf withFiles
+unfolding sharedLocks unlockAndLock opened lock message messageOf fewRecords tablesWith session tree open-of sizes memory taken take-message dropped startsSmb isReply answered served replied replyOf replyHeader put runChain onlyStatus blocks blocksFrom blocksWithin afterParse afterBlock before parse answer linkFits linkAt mayFollow shaped bare le16At le32At callerOf run bodyMeant fidMeant afterGiven after linkTo perform areaOf dataOf status formsOf replyBlock refusedBlock replySize linkWords two withSession isSession withTree withOpen isOpen openAt found foundFrom sound withinRoom fileOk treeOk permits holdsOpen sharingOk catalogueOk noneDoubled openOk soundRecords lockOk agree agreeAll soundLocks fileOf isTree contains numberOk numbered any all allTails overlaps passesEnd lock100 lockBlock range100 parseLocking lockingFits isLarge rangeSize doLocking servedType requestOf locking request releaseAll afterFind removeAt named afterReleases grantAll afterWalk afterGrants settle rangesOf ofHeader rangesAt rangeAt rangeFrom numberAt rangePasses askOf lockOf answers answersFor inWay bars owns lockingAfter lockingEnd withLockList stored writeBlock parseWrite writeFits dataInside wideOffset doWrite unlessBarred barring askBy endsPast resized written sizeOf withFiles four statusNumber smbNumber ntBit
 left = (refl, refl, refl, refl)

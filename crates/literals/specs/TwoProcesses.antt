@@ -24,14 +24,14 @@ use Rattle.chain.specs.Header.{startsSmb, isReply, dropped}
 use Rattle.chain.specs.Parse.{shaped, bare, isLarge, lockingFits, readFits, dataInside, writeFits, mayFollow, linkFits, linkAt, answer, wideOffset, parseLocking, parseRead, parseWrite, parseBare, parse}
 use Rattle.chain.specs.Chain.{before, afterBlock, afterParse, blocksWithin, blocksFrom, blocks}
 use Rattle.message.specs.Caller.{callerOf}
-use Rattle.message.specs.Refusal.{statusOf, holderOf}
+use Rattle.message.specs.Refusal.{formsOf, holderOf}
 use Rattle.message.specs.Contents.{sizeOf, contents, readBytes}
 use Rattle.message.specs.Command.{isSession, withSession, withTree, isOpen, openAt, withOpen, servedType, requestOf, withLockList, lockingEnd, lockingAfter, doLocking, askBy, unlessBarred, barring, doRead, endsPast, doWrite, perform}
-use Rattle.message.specs.Reply.{two, replyHeader, linkWords, replyBlock, refusedBlock, replySize}
+use Rattle.message.specs.Reply.{two, replyHeader, linkWords, replyBlock, refusedBlock, replySize, four, ntBit, smbNumber, statusNumber}
 use Rattle.message.specs.JustOpened.{fidMeant, bodyMeant}
 use Rattle.message.specs.Message.{areaOf, after, linkTo, afterGiven, run, served, runChain, answered, replyOf, replied, take-message}
 use Rattle.literals.specs.State.{session, tree, open-of, sizes, tablesWith, memory}
-use Rattle.literals.specs.Replies.{message, lockBlock, readBlock, writeBlock, taken, Given, given, reply, success, lockReadReply, refusal, opened, lock, heldAt, rangeOf}
+use Rattle.literals.specs.Replies.{message, lockBlock, readBlock, writeBlock, taken, Given, given, reply, doneReply, lockReadReply, refusal, opened, lock, heldAt, rangeOf}
 use Rattle.records.specs.Empty.{noOpen, noLock}
 
 -- that message, or reply, with those bytes in PIDHigh and PIDLow: of process high × 65,536 + low
@@ -84,7 +84,7 @@ NotItsOwn high process =
 
 -- 65,537 has equal halves, 131,073 has not
 pub not-its-own : NotItsOwn 1 65537 × NotItsOwn 2 131073
-unfolding sentBy repliedTo rangeOf1 readOf2 writeTo2 longOf1 lockedBy lockThenRead lockReadReply heldAt rangeOf holderAt holderOf opened lock refusal reply message tablesWith session tree open-of sizes memory given taken take-message dropped startsSmb isReply answered served replied replyOf replyHeader put runChain blocks blocksFrom blocksWithin afterParse afterBlock before parse answer linkFits linkAt mayFollow shaped bare le16At le32At callerOf run bodyMeant fidMeant afterGiven after linkTo perform areaOf statusOf replyBlock refusedBlock replySize linkWords two withSession isSession withTree withOpen isOpen openAt found foundFrom sound withinRoom fileOk treeOk permits holdsOpen sharingOk catalogueOk noneDoubled openOk soundRecords lockOk agree agreeAll soundLocks fileOf isTree contains numberOk numbered any all allTails overlaps passesEnd lockBlock parseLocking lockingFits isLarge rangeSize doLocking servedType requestOf locking request releaseAll afterFind removeAt named afterReleases grantAll afterWalk afterGrants settle rangesOf ofHeader rangesAt rangeAt rangeFrom numberAt rangePasses askOf lockOf answers answersFor inWay bars owns lockingAfter lockingEnd withLockList stored readBlock parseRead readFits wideOffset doRead unlessBarred barring askBy readBytes contents sizeOf writeBlock parseWrite writeFits dataInside doWrite endsPast success
+unfolding sentBy repliedTo rangeOf1 readOf2 writeTo2 longOf1 lockedBy lockThenRead lockReadReply heldAt rangeOf holderAt holderOf opened lock refusal reply message tablesWith session tree open-of sizes memory given taken take-message dropped startsSmb isReply answered served replied replyOf replyHeader put runChain blocks blocksFrom blocksWithin afterParse afterBlock before parse answer linkFits linkAt mayFollow shaped bare le16At le32At callerOf run bodyMeant fidMeant afterGiven after linkTo perform areaOf formsOf replyBlock refusedBlock replySize linkWords two withSession isSession withTree withOpen isOpen openAt found foundFrom sound withinRoom fileOk treeOk permits holdsOpen sharingOk catalogueOk noneDoubled openOk soundRecords lockOk agree agreeAll soundLocks fileOf isTree contains numberOk numbered any all allTails overlaps passesEnd lockBlock parseLocking lockingFits isLarge rangeSize doLocking servedType requestOf locking request releaseAll afterFind removeAt named afterReleases grantAll afterWalk afterGrants settle rangesOf ofHeader rangesAt rangeAt rangeFrom numberAt rangePasses askOf lockOf answers answersFor inWay bars owns lockingAfter lockingEnd withLockList stored readBlock parseRead readFits wideOffset doRead unlessBarred barring askBy readBytes contents sizeOf writeBlock parseWrite writeFits dataInside doWrite endsPast four statusNumber smbNumber ntBit doneReply
 not-its-own = ((refl, refl, refl, refl, refl, refl, refl, refl, refl, refl), (refl, refl, refl, refl, refl, refl, refl, refl, refl, refl))
 
 -- a lock of FID 6 and that process, of the one byte there
