@@ -1,8 +1,9 @@
 -- The words of the page: a call that takes a message, and what is said of it. Assumes nothing.
 use mathlib.Core.Path.{_≡_}
-use Prim.Native.Nat.{ℕ}
+use Prim.Native.Nat.{ℕ, _/_, _%_}
 use mathlib.Core.List.{List, [], _∷_}
 use lib.ListN.{replicate}
+use Rattle.wire.specs.LittleEndian.{byteAt, le32At}
 use Rattle.records.specs.declared.Tables.{Tables}
 use Rattle.chain.specs.Layout.{headerCommand}
 use Rattle.chain.specs.Grammar.{Span, Reading}
@@ -15,7 +16,7 @@ use Rattle.invariants.specs.Fit.{Fit}
 use Rattle.invariants.specs.Sound.{Good}
 use Rattle.demands.specs.NotServed.{Known}
 use Rattle.message.specs.JustOpened.{NOBODY}
-use Rattle.demands.specs.Calls.{statusRead}
+use Rattle.demands.specs.StatusRead.{statusRead}
 use Rattle.demands.specs.CallsOneByOne.{Calls}
 use Rattle.demands.specs.SpansOneByOne.{ownSpan, callSpans}
 use Rattle.demands.specs.SpansRefused.{lastReturned}
@@ -48,12 +49,20 @@ pub record OneCommand (c : Call) (command : ℕ) : Type 0 where
   pub reading : Reading (c .message) (span ∷ [])
   pub is : headerCommand (c .message) ≡ command
 
--- the Status in the reply: class and code
+-- the Status in the reply: class and code, as a reader finds them in the form that the reply has (document 02, CR 7)
 abbrev pub statusGiven : Call → Status
 statusGiven c = statusRead (gives c .room)
 
+-- the four bytes of Status as a number
+abbrev pub statusNumberGiven : Call → ℕ
+statusNumberGiven c = le32At (gives c .room) 5
+
 abbrev pub Says : Call → ℕ → ℕ → Type 0
 Says c class code = statusGiven c ≡ status class code
+
+-- "Flags2 bit 0x4000 is set" (document 02, CR 7), which is bit 0x40 of the byte at 11
+abbrev pub AsksNt : Call → Type 0
+AsksNt c = byteAt (c .message) 11 / 64 % 2 ≡ 1
 
 -- who sends the message
 abbrev pub sender : Call → Caller

@@ -4,7 +4,7 @@ use mathlib.Core.Logic.{_↔_, Iff·trans}
 use Prim.Native.Nat.{ℕ, _≤_}
 use mathlib.Core.List.{List, [], _∷_, _++_}
 use lib.ListN.{length, length-replicate}
-use Rattle.wire.specs.LittleEndian.{byteAt}
+use Rattle.wire.specs.LittleEndian.{le32At, byteAt}
 use Rattle.records.specs.declared.Name.{Name}
 use Rattle.records.specs.declared.Tables.{Tables}
 use Rattle.host.specs.HostCall.{addSession, addTree, addOpen, loadFile, loadMemory, dropConnection, setCatalogue}
@@ -31,9 +31,9 @@ use Rattle.demands.specs.FirstReadings.{read-exact, write-exact, close-exact, d
 use Rattle.demands.specs.RoomKept.{RoomKept, refused-writes-nothing, room-kept}
 use Rattle.demands.specs.SpansRefused.{AllCarried, spans-refused}
 use Rattle.demands.specs.Reached.{HostCall, call-good, Reached, reached-good}
-use Rattle.demands.specs.Calls.{statusRead}
+use Rattle.demands.specs.StatusRead.{statusRead}
 use Rattle.demands.specs.NoSentence.{no-sentence-taken}
-use Rattle.order.specs.Call.{Call, gives, Answerable, BeginsKnown, OneCommand, statusGiven, Says, sender, someRoom, leftBy, ownMessage}
+use Rattle.order.specs.Call.{Call, gives, Answerable, BeginsKnown, OneCommand, statusGiven, statusNumberGiven, Says, sender, someRoom, leftBy, ownMessage}
 
 -- "No message and no host call, with any bytes, may stop the box or touch memory it wasn't lent": that is what the check of a crate with code shows of each of
 -- its functions (it ends, no index is out of range, no sum wraps), and no entry point has a `requires`. How much stack a call takes is measured, not proved.
@@ -93,7 +93,7 @@ NoSentence =
     × (gives c .holder ≡ Nobody)
 
 -- and a command refused in the reply (Status not 0), alone or in a chain, leaves what the commands before it have left; its own message, sent on that, is answered with
--- the same Status and has the same holder; those after it aren't begun
+-- the same Status, its four bytes too, and has the same holder; those after it aren't begun
 pub record CommandRefused (c : Call) (spans : List Span) : Type 0 where
   pub front : List Span
   pub command : Span
@@ -103,6 +103,7 @@ pub record CommandRefused (c : Call) (spans : List Span) : Type 0 where
   pub tables-left : gives c .tables ≡ leftBy c front .tables
   pub memory-left : gives c .memory ≡ leftBy c front .memory
   pub refused-alone : statusRead (take-message (c .connection) (ownMessage c front command) (leftBy c front .tables) (leftBy c front .memory) someRoom .room) ≡ statusGiven c
+  pub bytes-alone : le32At (take-message (c .connection) (ownMessage c front command) (leftBy c front .tables) (leftBy c front .memory) someRoom .room) 5 ≡ statusNumberGiven c
   pub holder-alone : take-message (c .connection) (ownMessage c front command) (leftBy c front .tables) (leftBy c front .memory) someRoom .holder ≡ gives c .holder
   pub later-not-begun : leftBy c spans ≡ leftBy c (front ++ (command ∷ []))
 
@@ -194,6 +195,7 @@ demand-1 =
             tables-left = q .tables-left;
             memory-left = q .memory-left;
             refused-alone = q .status-so;
+            bytes-alone = q .bytes-so;
             holder-alone = q .holder-so;
             later-not-begun = q .not-begun;
           };

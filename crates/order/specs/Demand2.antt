@@ -46,7 +46,8 @@ pub record StarredCases : Type 0 where
   pub case-2 : Sentence (message 60 []) → ⊥
   pub case-3 : (x : ℕ) → Sentence (message 62 (x ∷ []))
 
--- "A reply copies Command, PIDHigh, TID, PIDLow, UID and MID; Flags is 0x80 plus the request's 0x08; Flags2 keeps only 0x0001; the rest is 0 but for Status"
+-- "A reply copies Command, PIDHigh, TID, PIDLow, UID and MID; Flags is 0x80 plus the request's 0x08; .. the rest is 0 but for Status"; Flags2 is the request's & 0x4001 (docs/DECISIONS.md,
+-- 127)
 abbrev pub ReplyHeader : Type 0
 ReplyHeader = (c : Call) → Answerable c → HeaderOf (c .message) (gives c .room)
 
@@ -111,7 +112,7 @@ Conflicting c o l =
     In l (locksOf (c .tables)) × OfFile (c .tables) o l × Overlap (l .offset) (l .length) (rangeAsked c .offset) (rangeAsked c .length)
     × ((l .shared ≡ true) × (sharedAsked c ≡ true) → ⊥)
 
--- "refused for conflict": Status 1/33 in a reply of one refused block, 35 bytes
+-- "refused for conflict": Status 1/33, in either form, in a reply of one refused block, 35 bytes
 abbrev pub RefusedForConflict : Call → Type 0
 RefusedForConflict c = Says c 1 33 × (gives c .length ≡ 35)
 

@@ -12,3 +12,5 @@ pub mod Request2
 pub mod Request3
 pub mod Possible3
 pub mod Possible6
+pub mod Possible7
+pub mod Request7

@@ -35,7 +35,7 @@ use Rattle.chain.specs.Header.{startsSmb, isReply, dropped}
 use Rattle.chain.specs.Parse.{shaped, bare, isLarge, lockingFits, readFits, mayFollow, linkFits, linkAt, answer, wideOffset, parseLocking, parseRead, parse}
 use Rattle.chain.specs.Chain.{before, afterBlock, afterParse, blocksWithin, blocksFrom, blocks}
 use Rattle.message.specs.Caller.{callerOf}
-use Rattle.message.specs.Refusal.{status, statusOf, holderOf}
+use Rattle.message.specs.Refusal.{status, formsOf, holderOf}
 use Rattle.message.specs.declared.refusal.HeldBy.{HeldBy}
 use Rattle.message.specs.declared.refusal.HeldBy.the-variants.{Nobody, Holder as held-by}
 use Rattle.message.specs.Command.{isSession, withSession, withTree, isOpen, openAt, withOpen, servedType, requestOf, withLockList, lockingEnd, lockingAfter, doLocking, askBy, unlessBarred, barring, doRead, perform}
@@ -113,7 +113,7 @@ answerable s t ok kept =
     }
 
 -- document 01's message, a lock and a read
-kept-61 : dropped (message 61 []) ≡ false
+pub kept-61 : dropped (message 61 []) ≡ false
 unfolding dropped startsSmb isReply message
 kept-61 = refl
 
@@ -145,7 +145,7 @@ no-chain = (answerable (message 60 []) (plant 2 0) (plant-good .0) kept-60, know
 
 answer-to : List ℕ → Tables → ℕ → ℕ → ℕ → HeldBy → Type 0
 answer-to s t class code size held =
-    (answered 5 s t (replicate 65536 0) .status ≡ status class code) × (length (answered 5 s t (replicate 65536 0) .blocks) ≡ size)
+    (answered 5 s t (replicate 65536 0) .forms .status ≡ status class code) × (length (answered 5 s t (replicate 65536 0) .blocks) ≡ size)
     × (answered 5 s t (replicate 65536 0) .holder ≡ held)
 
 -- the lock of process 9, the first in the list
@@ -155,7 +155,7 @@ processNine = held-by (record { lock = record { fid = 1; process = 9; offset = 1
 -- on an open for both LOCKING and READ are done; on one for writing READ is refused (1/5) behind LOCKING's block; beside the shared lock LOCKING is (1/33), and has
 -- its holder
 answers-given : answer-to (message 61 []) (plant 2 0) 0 0 34 Nobody × answer-to (message 61 []) (plant 1 0) 1 5 10 Nobody × answer-to (message 61 []) (plant 2 1) 1 33 3 processNine
-unfolding asked message blocks blocksFrom blocksWithin afterParse afterBlock before parse parseLocking parseRead answer lockingFits readFits linkFits linkAt mayFollow shaped bare isLarge le16At le32At wideOffset rangeSize answered served runChain run bodyMeant fidMeant afterGiven after perform doLocking withOpen withTree withSession isSession isTree isOpen openAt found foundFrom any servedType requestOf lockingAfter lockingEnd withLockList locking rangesOf ofHeader rangesAt rangeFrom rangeAt numberAt request afterReleases afterGrants grantAll afterWalk holderAt holderOf processNine releaseAll afterFind removeAt rangePasses passesEnd askOf lockOf answers answersFor inWay bars named owns overlaps settle stored doRead unlessBarred barring askBy fileOf callerOf areaOf dataOf status statusOf plant answer-to readBytes contents sizeOf replySize replyBlock refusedBlock linkTo linkWords two
+unfolding asked message blocks blocksFrom blocksWithin afterParse afterBlock before parse parseLocking parseRead answer lockingFits readFits linkFits linkAt mayFollow shaped bare isLarge le16At le32At wideOffset rangeSize answered served runChain run bodyMeant fidMeant afterGiven after perform doLocking withOpen withTree withSession isSession isTree isOpen openAt found foundFrom any servedType requestOf lockingAfter lockingEnd withLockList locking rangesOf ofHeader rangesAt rangeFrom rangeAt numberAt request afterReleases afterGrants grantAll afterWalk holderAt holderOf processNine releaseAll afterFind removeAt rangePasses passesEnd askOf lockOf answers answersFor inWay bars named owns overlaps settle stored doRead unlessBarred barring askBy fileOf callerOf areaOf dataOf status formsOf plant answer-to readBytes contents sizeOf replySize replyBlock refusedBlock linkTo linkWords two
 answers-given = ((refl, refl, refl), (refl, refl, refl), (refl, refl, refl))
 
 call-says : (t : Tables) (ok : Good t) (class code size : ℕ) (held : HeldBy) → answer-to (message 61 []) t class code size held

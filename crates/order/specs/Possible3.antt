@@ -30,7 +30,7 @@ use Rattle.chain.specs.Header.{startsSmb, isReply, dropped}
 use Rattle.chain.specs.Parse.{shaped, bare, isLarge, lockingFits, coreWriteFits, mayFollow, linkFits, linkAt, answer, parseLocking, parseBare, parseCoreWrite, parse}
 use Rattle.chain.specs.Chain.{before, afterBlock, afterParse, blocksWithin, blocksFrom, blocks}
 use Rattle.message.specs.Caller.{callerOf}
-use Rattle.message.specs.Refusal.{status, statusOf, holderOf}
+use Rattle.message.specs.Refusal.{status, formsOf, holderOf}
 use Rattle.message.specs.declared.refusal.HeldBy.{HeldBy}
 use Rattle.message.specs.declared.refusal.HeldBy.the-variants.{Nobody, Holder as held-by}
 use Rattle.message.specs.Command.{isSession, withSession, withTree, isOpen, openAt, withOpen, servedType, requestOf, withLockList, lockingEnd, lockingAfter, doLocking, askBy, unlessBarred, barring, doRead, endsPast, doWrite, coreSaid, asCore, rangeBy, oneRange, doRange, betweenSizes, doSetSize, doCoreWrite, perform}
@@ -133,7 +133,7 @@ badBlock = sent CORE-WRITE (coreWriteOf 2 2 0 5 2 2 (0xBB ∷ 0xCC ∷ []))
 
 -- Status, length of the reply blocks, and holder
 Given : Ran → ℕ → ℕ → ℕ → HeldBy → Type 0
-Given r class code size held = (r .status ≡ status class code) × (length (r .blocks) ≡ size) × (r .holder ≡ held)
+Given r class code size held = (r .forms .status ≡ status class code) × (length (r .blocks) ≡ size) × (r .holder ≡ held)
 
 unfoldable pub othersHold : HeldBy
 othersHold = held-by (record { lock = record { fid = 4; process = 9; offset = 105; length = 20; shared = true }; place = 0 })
@@ -150,7 +150,7 @@ given-here : Given (answered 5 cut (bench others 0) memory) 0 0 5 Nobody
     × Given (answered 5 (sent CORE-WRITE coreWrite) (bench others 0) memory) 0 0 5 Nobody
     × Given (answered 5 lockThenRead (bench others 0) memory) 0 0 26 Nobody
     × Given (answered 5 tooLarge (bench others 1) memory) 1 33 3 othersHold
-unfolding Given cut grow tooLarge lockThenRead othersHold sent sizeTo coreWriteOf coreRead coreWrite coreBytes andxLocking short100 bench others own memory blocks blocksFrom blocksWithin afterParse afterBlock before parse parseLocking parseBare parseCoreWrite answer lockingFits coreWriteFits linkFits linkAt mayFollow shaped bare isLarge le16At le32At rangeSize answered served runChain run bodyMeant fidMeant afterGiven after perform withOpen withTree withSession isSession isTree isOpen openAt found foundFrom any servedType requestOf lockingAfter lockingEnd withLockList doLocking locking rangesOf ofHeader rangesAt rangeFrom rangeAt numberAt request afterReleases afterGrants grantAll afterWalk holderAt holderOf releaseAll afterFind removeAt rangePasses passesEnd askOf lockOf answers answersFor inWay bars named owns overlaps settle stored doRead unlessBarred barring askBy fileOf callerOf areaOf dataOf status statusOf readBytes contents sizeOf replySize replyBlock refusedBlock linkTo linkWords two coreSaid asCore rangeBy oneRange doRange smallForm betweenSizes doSetSize doCoreWrite doWrite endsPast resized written put withFiles
+unfolding Given cut grow tooLarge lockThenRead othersHold sent sizeTo coreWriteOf coreRead coreWrite coreBytes andxLocking short100 bench others own memory blocks blocksFrom blocksWithin afterParse afterBlock before parse parseLocking parseBare parseCoreWrite answer lockingFits coreWriteFits linkFits linkAt mayFollow shaped bare isLarge le16At le32At rangeSize answered served runChain run bodyMeant fidMeant afterGiven after perform withOpen withTree withSession isSession isTree isOpen openAt found foundFrom any servedType requestOf lockingAfter lockingEnd withLockList doLocking locking rangesOf ofHeader rangesAt rangeFrom rangeAt numberAt request afterReleases afterGrants grantAll afterWalk holderAt holderOf releaseAll afterFind removeAt rangePasses passesEnd askOf lockOf answers answersFor inWay bars named owns overlaps settle stored doRead unlessBarred barring askBy fileOf callerOf areaOf dataOf status formsOf readBytes contents sizeOf replySize replyBlock refusedBlock linkTo linkWords two coreSaid asCore rangeBy oneRange doRange smallForm betweenSizes doSetSize doCoreWrite doWrite endsPast resized written put withFiles
 given-here = (
   (refl, refl, refl),
   (refl, refl, refl),

@@ -29,7 +29,7 @@ use Rattle.chain.specs.Header.{startsSmb, isReply, dropped}
 use Rattle.chain.specs.Parse.{shaped, bare, readFits, terminated, openFits, mayFollow, linkFits, linkAt, answer, wideOffset, parseRead, parseOpen, openFields, parse}
 use Rattle.chain.specs.Chain.{before, afterBlock, afterParse, blocksWithin, blocksFrom, blocks}
 use Rattle.message.specs.Caller.{callerOf}
-use Rattle.message.specs.Refusal.{status, statusOf}
+use Rattle.message.specs.Refusal.{status, formsOf}
 use Rattle.message.specs.declared.refusal.Status.{Status}
 use Rattle.message.specs.Contents.{sizeOf, contents, readBytes}
 use Rattle.message.specs.Sharing.{reads, writes, deniesReading, deniesWriting, denied, keptOut}
@@ -134,15 +134,15 @@ kept : (dropped toRead ≡ false) × (dropped toWrite ≡ false) × (dropped ope
 unfolding dropped startsSmb isReply toRead toWrite openThenRead openFirst asking message openCrl opening openWords crlBytes crlThenRead readOf
 kept = (refl, refl, refl, refl)
 
-given-here : (answered 5 toRead (office twoNames 2 0) memory .status ≡ status 0 0)
-    × (answered 5 toWrite (office twoNames 2 1) memory .status ≡ status 1 32)
-    × (answered 5 openThenRead (office twoNames 2 0) memory .status ≡ status 0 0)
-    × (answered 5 openFirst (office twoNames 2 0) memory .status ≡ status 0 0)
-unfolding toRead toWrite openThenRead openFirst asking message openCrl opening openWords crlBytes crlThenRead readOf office twoNames crl name memory blocks blocksFrom blocksWithin afterParse afterBlock before parse parseOpen parseRead answer openFits terminated readFits wideOffset linkFits linkAt mayFollow shaped bare le16At le32At answered served runChain run bodyMeant fidMeant openedBy afterGiven after perform withOpen withTree withSession isSession isTree isOpen openAt found foundFrom any doOpen codesServed sharingOk nameAsked openNamed isNamed sameName folded nameBytes openFile openBy holdsOpen permits keptOut denied reads writes deniesReading deniesWriting openedSaid smallestFree freeFrom contains withOpens stored doRead unlessBarred barring askBy fileOf callerOf areaOf dataOf status statusOf readBytes contents sizeOf replySize
+given-here : (answered 5 toRead (office twoNames 2 0) memory .forms .status ≡ status 0 0)
+    × (answered 5 toWrite (office twoNames 2 1) memory .forms .status ≡ status 1 32)
+    × (answered 5 openThenRead (office twoNames 2 0) memory .forms .status ≡ status 0 0)
+    × (answered 5 openFirst (office twoNames 2 0) memory .forms .status ≡ status 0 0)
+unfolding toRead toWrite openThenRead openFirst asking message openCrl opening openWords crlBytes crlThenRead readOf office twoNames crl name memory blocks blocksFrom blocksWithin afterParse afterBlock before parse parseOpen parseRead answer openFits terminated readFits wideOffset linkFits linkAt mayFollow shaped bare le16At le32At answered served runChain run bodyMeant fidMeant openedBy afterGiven after perform withOpen withTree withSession isSession isTree isOpen openAt found foundFrom any doOpen codesServed sharingOk nameAsked openNamed isNamed sameName folded nameBytes openFile openBy holdsOpen permits keptOut denied reads writes deniesReading deniesWriting openedSaid smallestFree freeFrom contains withOpens stored doRead unlessBarred barring askBy fileOf callerOf areaOf dataOf status formsOf readBytes contents sizeOf replySize
 given-here = (refl, refl, refl, refl)
 
 -- the same of the call
-call-says : (s : List ℕ) (others : ℕ) (a : Answerable (asked s others)) (n : Status) → answered 5 s (office twoNames 2 others) memory .status ≡ n → Says (asked s others) (n .class) (n .code)
+call-says : (s : List ℕ) (others : ℕ) (a : Answerable (asked s others)) (n : Status) → answered 5 s (office twoNames 2 others) memory .forms .status ≡ n → Says (asked s others) (n .class) (n .code)
 unfolding asked status
 call-says s others a n h = status-call 5 s (office twoNames 2 others) memory (replicate 12292 0) (a .fit) ∙ h
 

@@ -1,10 +1,12 @@
 -- Change request 2 of document 02, "Say who holds the lock", sentence by sentence. Assumes nothing.
 use mathlib.Core.Path.{_≡_, sym}
 use mathlib.Core.Logic.{_↔_}
-use Prim.Native.Nat.{_+_, _^_, _≤_, _<_}
+use Prim.Native.Nat.{_+_, _^_, _≤_, _<_, _/_, _%_}
 use mathlib.Core.Bool.{true, false}
 use mathlib.Core.List.{List, [], _∷_, _++_, map, List·Memᴰ as In}
 use lib.ListN.{length}
+use borrow.Author.Tests.{ne-eqb}
+use Rattle.wire.specs.LittleEndian.{byteAt}
 use Rattle.records.specs.declared.Open.{Open}
 use Rattle.records.specs.Held.{locksOf}
 use Rattle.locks.specs.declared.types.Holder.{Holder}
@@ -14,11 +16,12 @@ use Rattle.chain.specs.Parse.{rangeFields}
 use Rattle.message.specs.Caller.{callerOf}
 use Rattle.message.specs.declared.refusal.HeldBy.the-variants.{Nobody, Holder as held-by}
 use Rattle.message.specs.JustOpened.{NOBODY}
+use Rattle.message.specs.Reply.{ntBit}
 use Rattle.message.specs.Message.{run}
 use Rattle.invariants.specs.ReaderSound.{spanOf, reader-sound}
 use Rattle.invariants.specs.Sound.{Good}
 use Rattle.claims.specs.YesOrNo.{takeBefore}
-use Rattle.claims.specs.BeforeHolder.{withoutHolder, before-holder}
+use Rattle.claims.specs.BeforeHolder.{withoutHolder, before-holder, butStatus, before-status}
 use Rattle.demands.specs.LoneLock.{Owner, AnyLock}
 use Rattle.demands.specs.CommandReasons.{OnlyTwoBits}
 use Rattle.demands.specs.RefusedCall.{Untouched}
@@ -30,7 +33,9 @@ use Rattle.demands.specs.HolderOpen.{HolderFound, holder-found}
 use Rattle.demands.specs.HolderBytes.{holder-bytes}
 use Rattle.demands.specs.HolderFirst.{FirstMeets, alone-first, first-undone, read-first, write-first, lone-lock-first, core-read-first, core-write-first, set-size-first, core-lock-first}
 use Rattle.demands.specs.HolderWire.{LockHeldOn, OwnRangeOn, lock-first, lock-own, lock-listed, range-first}
-use Rattle.order.specs.Call.{Call, gives, Answerable, Says, sender}
+use Rattle.demands.specs.StatusRead.{statusRead}
+use Rattle.demands.specs.NtStatus.{status-as-before}
+use Rattle.order.specs.Call.{Call, gives, Answerable, Says, sender, statusGiven, AsksNt}
 use Rattle.order.specs.Demand2.{rangeAsked, sharedAsked, AsksOneLock, ValidOpen, coreAsked, ValidCoreOpen, coveredFrom, coveredCount}
 use Rattle.order.specs.Possible.{plant}
 use Rattle.order.specs.Possible2.{twoAsked, firstRange, two-answerable, first-refuses}
@@ -110,10 +115,15 @@ pub record GrantedEarlier : Type 0 where
   -- and that happens: the second of two ranges is refused by the first
   pub happens : Answerable twoAsked × (gives twoAsked .holder ≡ held-by firstRange) × (gives twoAsked .tables ≡ plant 2 1)
 
--- "The reply bytes do not change": all that a call gives but the holder, the reply, the tables and the file memory among it, is what is given without this request, where a
--- conflict is yes or no (claims/specs/YesOrNo.antt)
-abbrev pub RepliesStand : Type 0
-RepliesStand = (c : Call) → withoutHolder (gives c) ≡ takeBefore (c .connection) (c .message) (c .tables) (c .memory) (c .room)
+-- "The reply bytes do not change": all that a call gives but the holder, the reply, the tables and the file memory among it, is what is given without this request and CR 7, where a
+-- conflict is yes or no and Status has one form (claims/specs/YesOrNo.antt)
+pub record RepliesStand : Type 0 where
+  -- of a message without CR 7's bit
+  pub old-form : (c : Call) → (AsksNt c → ⊥) → withoutHolder (gives c) ≡ takeBefore (c .connection) (c .message) (c .tables) (c .memory) (c .room)
+  -- of every message, but for Status and the bit (bytes 5 to 8 and 11 of the reply), which CR 7 gives a second form
+  pub any-form : (c : Call) → butStatus (withoutHolder (gives c)) ≡ butStatus (takeBefore (c .connection) (c .message) (c .tables) (c .memory) (c .room))
+  -- and in Status a reader of its form finds what stood there
+  pub same-status : (c : Call) → statusGiven c ≡ statusRead (takeBefore (c .connection) (c .message) (c .tables) (c .memory) (c .room) .room)
 
 pub record Request2 : Type 0 where
   pub place-of-the-first : PlaceOfTheFirst
@@ -122,6 +132,15 @@ pub record Request2 : Type 0 where
   pub replies-stand : RepliesStand
 
 -- ---- the proof: each line cites the theorem that does the work
+
+pub replies-stand-so : RepliesStand
+unfolding ntBit
+replies-stand-so =
+    record {
+      old-form = λ c n. sym (before-holder (c .connection) (c .message) (c .tables) (c .memory) (c .room) (ne-eqb (byteAt (c .message) 11 / 64 % 2) 1 n));
+      any-form = λ c. sym (before-status (c .connection) (c .message) (c .tables) (c .memory) (c .room));
+      same-status = λ c. status-as-before (c .connection) (c .message) (c .tables) (c .memory) (c .room);
+    }
 
 pub request-2 : Request2
 unfolding callerOf
@@ -157,5 +176,5 @@ request-2 =
         undone = λ c h a. first-undone (c .connection) (c .message) (c .tables) (c .memory) (c .room) (a .fit) h;
         happens = (two-answerable, first-refuses .0, first-refuses .1);
       };
-      replies-stand = λ c. sym (before-holder (c .connection) (c .message) (c .tables) (c .memory) (c .room));
+      replies-stand = replies-stand-so;
     }
