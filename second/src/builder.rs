@@ -5,6 +5,8 @@ use crate::grammar::{
     CLOSE, DATA_BLOCK_HEAD, DATA_MARK, LOCKING_ANDX, LOCK_BYTE_RANGE, LOGOFF_ANDX, OPEN_ANDX,
     PROCESS_EXIT, READ, READ_ANDX, TREE_DISCONNECT, UNLOCK_BYTE_RANGE, WRITE, WRITE_ANDX,
 };
+use crate::header::{FLAGS2, FLAGS2_NT_STATUS};
+use crate::status::Form;
 
 /// The fields of a header that a reply or an answer depends on.
 #[derive(Clone, Copy, Debug, Default, PartialEq, Eq)]
@@ -375,6 +377,19 @@ pub fn header(command: u8, numbers: Header, fill: &mut impl FnMut() -> u8) -> Ve
     bytes.extend(numbers.uid.to_le_bytes());
     bytes.extend([fill(), fill()]);
     bytes
+}
+
+/// Makes a message ask for this form of Status, if it is so long that it has
+/// Flags2.
+pub fn set_form(message: &mut [u8], form: Form) {
+    if let Some(field) = message.get_mut(FLAGS2..FLAGS2 + 2) {
+        let others = u16::from_le_bytes([field[0], field[1]]) & !FLAGS2_NT_STATUS;
+        let bit = match form {
+            Form::Smb => 0,
+            Form::Nt => FLAGS2_NT_STATUS,
+        };
+        field.copy_from_slice(&(others | bit).to_le_bytes());
+    }
 }
 
 /// A message of the blocks in turn, `gap` free bytes before each but the

@@ -258,7 +258,8 @@ fn change_locks(
     if asked.clone().any(|lock| lock.range.passes()) {
         return Err(WireRefusal::RangePasses.into());
     }
-    unless_held(first_conflict(tables, open.file, released, asked.clone()))?;
+    let held = first_conflict(tables, open.file, released, asked.clone());
+    unless_held(held, WireRefusal::LockNotGranted)?;
     // "1/8 exactly if over 128 would then be held"
     if tables.locks.count - released.count() + asked.clone().count() > LOCKS {
         return Err(WireRefusal::NoLockRecord.into());
@@ -354,9 +355,10 @@ fn read(tables: &Tables, asker: &Asker, fid: u16, range: Range) -> Result<Done, 
     if open.access == ACCESS_WRITE {
         return Err(WireRefusal::Access.into());
     }
-    unless_held(first_lock_of(tables, open.file, |lock| {
+    let held = first_lock_of(tables, open.file, |lock| {
         !lock.shared && !owns(asker, fid, lock) && lock.range.overlaps(range)
-    }))?;
+    });
+    unless_held(held, WireRefusal::FileLockConflict)?;
     let size = u128::from(tables.files[usize::from(open.file)].size);
     // Both are at most the size, 4,096.
     let start = range.start().min(size) as usize;
@@ -372,9 +374,10 @@ fn may_write(tables: &Tables, asker: &Asker, open: &Open, range: Range) -> Resul
     if open.access == ACCESS_READ {
         return Err(WireRefusal::Access.into());
     }
-    unless_held(first_lock_of(tables, open.file, |lock| {
+    let held = first_lock_of(tables, open.file, |lock| {
         (lock.shared || !owns(asker, open.fid, lock)) && lock.range.overlaps(range)
-    }))
+    });
+    unless_held(held, WireRefusal::FileLockConflict)
 }
 
 fn write(

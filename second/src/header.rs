@@ -7,6 +7,8 @@ pub const COMMAND: usize = 4;
 pub const STATUS: usize = 5;
 pub const FLAGS: usize = 9;
 pub const FLAGS2: usize = 10;
+/// The bit of Flags2 with which a request asks for NTSTATUS (source document 002).
+pub const FLAGS2_NT_STATUS: u16 = 0x4000;
 pub const PID_HIGH: usize = 12;
 pub const TID: usize = 24;
 pub const PID_LOW: usize = 26;

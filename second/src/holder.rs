@@ -26,20 +26,11 @@ impl From<WireRefusal> for Refused {
     }
 }
 
-/// A lock conflict, the one refusal that has a holder.
-impl From<Holder> for Refused {
-    fn from(holder: Holder) -> Refused {
-        Refused {
-            why: WireRefusal::Conflict,
-            holder: Some(holder),
-        }
-    }
-}
-
-/// Refused if there is a lock in the way.
-pub fn unless_held(holder: Option<Holder>) -> Result<(), Refused> {
+/// Refused so if there is a lock in the way: a lock conflict is the one refusal
+/// that has a holder.
+pub fn unless_held(holder: Option<Holder>, why: WireRefusal) -> Result<(), Refused> {
     match holder {
-        Some(holder) => Err(holder.into()),
+        Some(_) => Err(Refused { why, holder }),
         None => Ok(()),
     }
 }

@@ -25,6 +25,7 @@ pub mod refusals;
 pub mod reply;
 pub mod request;
 pub mod rng;
+pub mod status;
 pub mod stream;
 pub mod stream_words;
 pub mod tables;

@@ -1,5 +1,7 @@
 //! The two tables of refusals of document 01.
 
+use crate::status::{Form, Status};
+
 /// "What a call returns": the numbers other than 0.
 #[derive(Clone, Copy, Debug, PartialEq, Eq, PartialOrd, Ord)]
 #[repr(u8)]
@@ -54,8 +56,10 @@ pub enum WireRefusal {
     NotLocked,
     /// "lock range passes 2^64"
     RangePasses,
-    /// "lock conflict"
-    Conflict,
+    /// "lock conflict" of "a lock refused" (document 02, request 7)
+    LockNotGranted,
+    /// "lock conflict" of "a read or write refused"
+    FileLockConflict,
     /// "no lock record free"
     NoLockRecord,
     /// "write would end past 4,096"
@@ -71,7 +75,7 @@ pub enum WireRefusal {
 }
 
 impl WireRefusal {
-    pub const ALL: [WireRefusal; 16] = [
+    pub const ALL: [WireRefusal; 17] = [
         WireRefusal::NotServed,
         WireRefusal::NotASentence,
         WireRefusal::NoSession,
@@ -81,7 +85,8 @@ impl WireRefusal {
         WireRefusal::NotSupported,
         WireRefusal::NotLocked,
         WireRefusal::RangePasses,
-        WireRefusal::Conflict,
+        WireRefusal::LockNotGranted,
+        WireRefusal::FileLockConflict,
         WireRefusal::NoLockRecord,
         WireRefusal::FileFull,
         WireRefusal::AccessCode,
@@ -90,25 +95,42 @@ impl WireRefusal {
         WireRefusal::NoFid,
     ];
 
-    /// Class and code, decimal as in the paper.
-    pub fn class_and_code(self) -> (u8, u16) {
+    /// The list: class and code of SMBSTATUS, decimal as in document 01, and the
+    /// NTSTATUS of document 02, request 7.
+    fn forms(self) -> ((u8, u16), u32) {
         match self {
-            WireRefusal::NotServed => (2, 22),
-            WireRefusal::NotASentence => (2, 1),
-            WireRefusal::NoSession => (2, 91),
-            WireRefusal::NoTree => (2, 5),
-            WireRefusal::NoOpen => (1, 6),
-            WireRefusal::Access => (1, 5),
-            WireRefusal::NotSupported => (2, 65535),
-            WireRefusal::NotLocked => (1, 158),
-            WireRefusal::RangePasses => (1, 87),
-            WireRefusal::Conflict => (1, 33),
-            WireRefusal::NoLockRecord => (1, 8),
-            WireRefusal::FileFull => (3, 39),
-            WireRefusal::AccessCode => (1, 12),
-            WireRefusal::NoName => (1, 2),
-            WireRefusal::Sharing => (1, 32),
-            WireRefusal::NoFid => (1, 4),
+            WireRefusal::NotServed => ((2, 22), 0x0016_0002),
+            WireRefusal::NotASentence => ((2, 1), 0x0001_0002),
+            WireRefusal::NoSession => ((2, 91), 0x005B_0002),
+            WireRefusal::NoTree => ((2, 5), 0x0005_0002),
+            WireRefusal::NoOpen => ((1, 6), 0xC000_0008),
+            WireRefusal::Access => ((1, 5), 0xC000_0022),
+            WireRefusal::NotSupported => ((2, 65535), 0xC000_00BB),
+            WireRefusal::NotLocked => ((1, 158), 0xC000_007E),
+            WireRefusal::RangePasses => ((1, 87), 0xC000_000D),
+            WireRefusal::LockNotGranted => ((1, 33), 0xC000_0055),
+            WireRefusal::FileLockConflict => ((1, 33), 0xC000_0054),
+            WireRefusal::NoLockRecord => ((1, 8), 0xC000_0205),
+            WireRefusal::FileFull => ((3, 39), 0xC000_007F),
+            WireRefusal::AccessCode => ((1, 12), 0x000C_0001),
+            WireRefusal::NoName => ((1, 2), 0xC000_000F),
+            WireRefusal::Sharing => ((1, 32), 0xC000_0043),
+            WireRefusal::NoFid => ((1, 4), 0xC000_011F),
         }
+    }
+
+    /// Class and code, whatever the form that it is sent in.
+    pub fn class_and_code(self) -> (u8, u16) {
+        self.forms().0
+    }
+
+    /// The header's Status. "SMBSTATUS is class, 0, code."
+    pub fn status(self, form: Form) -> Status {
+        let ((class, code), nt_status) = self.forms();
+        let value = match form {
+            Form::Smb => u32::from(class) | u32::from(code) << 16,
+            Form::Nt => nt_status,
+        };
+        Status { form, value }
     }
 }

@@ -3,8 +3,14 @@
 
 use crate::commands::{Done, Told};
 use crate::grammar::{DATA_BLOCK_HEAD, DATA_MARK, READ, WRITE};
-use crate::header::{COMMAND, FLAGS, FLAGS2, HEADER, PID_HIGH, STATUS, TID};
+use crate::header::{COMMAND, FLAGS, FLAGS2, FLAGS2_NT_STATUS, HEADER, PID_HIGH, STATUS, TID};
 use crate::refusals::WireRefusal;
+use crate::request::u16_at;
+use crate::status::Form;
+
+/// "Flags2 keeps only 0x0001", and "with the bit set in a request, the reply sets
+/// it" (document 02, request 7).
+const FLAGS2_KEPT: u16 = 0x0001 | FLAGS2_NT_STATUS;
 
 /// A reply under construction at the start of the room.
 pub struct Reply<'r> {
@@ -16,15 +22,16 @@ pub struct Reply<'r> {
 
 impl<'r> Reply<'r> {
     /// "A reply copies Command, PIDHigh, TID, PIDLow, UID and MID; Flags is
-    /// 0x80 plus the request's 0x08; Flags2 keeps only 0x0001; the rest is 0
-    /// but for Status."
+    /// 0x80 plus the request's 0x08; Flags2 keeps only 0x0001 [and 0x4000]; the
+    /// rest is 0 but for Status."
     pub fn new(room: &'r mut [u8], request: &[u8]) -> Reply<'r> {
         let header = &mut room[..HEADER];
         header.fill(0);
         header[..4].copy_from_slice(&request[..4]);
         header[COMMAND] = request[COMMAND];
         header[FLAGS] = 0x80 | request[FLAGS] & 0x08;
-        header[FLAGS2] = request[FLAGS2] & 0x01;
+        let flags2 = u16_at(request, FLAGS2) & FLAGS2_KEPT;
+        header[FLAGS2..FLAGS2 + 2].copy_from_slice(&flags2.to_le_bytes());
         header[PID_HIGH..PID_HIGH + 2].copy_from_slice(&request[PID_HIGH..PID_HIGH + 2]);
         // TID, PIDLow, UID and MID stand together at the end.
         header[TID..].copy_from_slice(&request[TID..HEADER]);
@@ -73,13 +80,12 @@ impl<'r> Reply<'r> {
     }
 
     /// "A refused command or message gives WordCount 0 and ByteCount 0, and
-    /// Status stands in the header." SMBSTATUS is class, 0, code.
+    /// Status stands in the header", in the form that the header names.
     pub fn refused(&mut self, command: u8, refusal: WireRefusal) {
         self.link(command);
         self.block::<0>([], &[]);
-        let (class, code) = refusal.class_and_code();
-        self.room[STATUS] = class;
-        self.room[STATUS + 2..STATUS + 4].copy_from_slice(&code.to_le_bytes());
+        let status = refusal.status(Form::of(self.room));
+        self.room[STATUS..STATUS + 4].copy_from_slice(&status.value.to_le_bytes());
     }
 
     pub fn length(&self) -> usize {

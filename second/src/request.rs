@@ -275,7 +275,7 @@ pub(crate) fn u16_at(bytes: &[u8], place: usize) -> u16 {
     u16::from_le_bytes([bytes[place], bytes[place + 1]])
 }
 
-fn u32_at(bytes: &[u8], place: usize) -> u32 {
+pub(crate) fn u32_at(bytes: &[u8], place: usize) -> u32 {
     u32::from_le_bytes([
         bytes[place],
         bytes[place + 1],

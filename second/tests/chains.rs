@@ -9,6 +9,7 @@ use second::builder::{
 use second::grammar::{blocks, is_andx, Block, OPEN_ANDX, WRITE_ANDX};
 use second::host;
 use second::rng::Rng;
+use second::status::Form;
 
 #[test]
 fn a_chain_of_four() {
@@ -62,7 +63,7 @@ fn headers_of_replies() {
     message[9] = 0x7F;
     message[30..32].copy_from_slice(&[0x12, 0x34]);
     let reply = world.take(&message).unwrap();
-    let mut expected = hex("FF534D42 11 00000000 88 0100 FFFF");
+    let mut expected = hex("FF534D42 11 00000000 88 0140 FFFF");
     expected.extend([0; 10]);
     expected.extend(hex("0100 0700 0100 1234 00 0000"));
     assert_eq!(reply, expected);
@@ -70,7 +71,7 @@ fn headers_of_replies() {
     message[9] = 0x77;
     message[10] = 0xFE;
     let reply = world.take(&message).unwrap();
-    assert_eq!(reply[4..12], hex("72 02 00 1600 80 0000"));
+    assert_eq!(reply[4..12], hex("72 02 00 1600 80 0040"));
     assert_eq!(reply[32..], [0, 0, 0]);
 }
 
@@ -237,7 +238,7 @@ fn random_world(rng: &mut Rng) -> World {
 #[test]
 fn chains_are_their_messages_in_turn() {
     let mut rng = Rng::new(3);
-    let (mut refused, mut just_opened) = (0, [0, 0]);
+    let (mut refused, mut just_opened) = ([0, 0], [0, 0]);
     for _ in 0..4000 {
         let mut world = random_world(&mut rng);
         let mut asks = vec![random_ask(&mut rng, None)];
@@ -265,14 +266,15 @@ fn chains_are_their_messages_in_turn() {
         let (mut replies, mut opened) = (Vec::new(), None);
         for block in &read {
             let reply = apart.take(&alone(&chain, block, opened)).unwrap();
-            let done = status(&reply) == (0, 0);
+            // "refused (Status not 0)"
+            let done = reply[5..9] == [0; 4];
             let just = opened.is_some() && chain[block.offset + 5..][..2] == [0xFF; 2];
             just_opened[usize::from(done)] += usize::from(just);
             // Behind WordCount and AndX.
             opened = (done && block.command == OPEN_ANDX).then(|| [reply[37], reply[38]]);
             replies.push(reply);
             if !done {
-                refused += 1;
+                refused[Form::of(&chain) as usize] += 1;
                 break;
             }
         }
@@ -282,7 +284,9 @@ fn chains_are_their_messages_in_turn() {
         assert!(world.tables == apart.tables && world.memory == apart.memory);
         assert_eq!(world.holder, apart.holder);
     }
-    assert!((1000..3500).contains(&refused), "{refused}");
+    // In both forms.
+    let often = |count| (500..1750).contains(&count);
+    assert!(refused.into_iter().all(often), "{refused:?}");
     // A READ of the file just opened, refused and done.
     assert!(
         just_opened.iter().all(|&count| count > 50),

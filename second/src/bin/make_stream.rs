@@ -29,9 +29,9 @@ mod messages;
 #[path = "make_history/tally.rs"]
 mod tally;
 
-use calls::{digest, State};
+use calls::{decode, digest, State};
 use maker::{words_of, Maker};
-use messages::{messages, CONNECTION, NAMES};
+use messages::{send_all, CONNECTION, NAMES};
 use second::call::Call;
 use second::grammar::{Why, SERVED};
 use second::message::ROOM_BYTES;
@@ -40,6 +40,7 @@ use second::rng::Rng;
 use second::stream::{write, Reader, Stop, HEADER, LONGEST_READ};
 use second::stream_words::{pack, STREAM_WORDS};
 use std::process::ExitCode;
+use tally::status_tally::in_both_forms;
 use tally::{name, refusal_name};
 
 const LEAST_MESSAGES: usize = 150;
@@ -115,7 +116,8 @@ fn made() -> Made {
     for call in calls_before() {
         maker.host(call, 0);
     }
-    let planned = messages(&mut maker);
+    send_all(&mut maker);
+    let planned = messages(&maker.history);
     let stream = framed(&mut maker, &planned);
     let mut complaints = maker.complaints.clone();
     complaints.extend(maker.tally.missing(required()));
@@ -138,6 +140,17 @@ fn made() -> Made {
         summary,
         complaints,
     }
+}
+
+/// The messages of a history, in the order sent.
+fn messages(mut history: &[u8]) -> Vec<Vec<u8>> {
+    let mut messages = Vec::new();
+    while let Some(call) = decode(&mut history) {
+        if let Call::TakeMessage { message, .. } = call {
+            messages.push(message);
+        }
+    }
+    messages
 }
 
 /// The messages behind their headers, keep-alives between them; then a header
@@ -225,6 +238,7 @@ fn required() -> Vec<(String, usize)> {
     all.extend(SERVED.map(|command| (format!("{} alone done", name(command)), 1)));
     all.extend(Why::ALL.map(|why| (format!("not a chain: {why:?}"), 1)));
     all.extend(WireRefusal::ALL.map(|r| (refusal_name(r.class_and_code()), 2)));
+    all.extend(in_both_forms(150, 1));
     all
 }
 

@@ -1,12 +1,13 @@
 //! A small gateway to try messages on.
 #![allow(dead_code)]
 
-use second::builder::{locking, message, Ask, Asked, Header};
+use second::builder::{locking, message, set_form, Ask, Asked, Header};
 use second::catalogue::{Catalogue, Name};
 use second::holder::Holder;
 use second::host;
 use second::message::{take_message, Taken, ROOM_BYTES};
 use second::refusals::Outcome;
+use second::status::Form;
 use second::tables::{Table, Tables, MEMORY_BYTES};
 
 /// FID, process, place, offset and length.
@@ -19,6 +20,8 @@ pub struct World {
     pub memory: Vec<u8>,
     pub connection: u32,
     pub header: Header,
+    /// The form of Status that its messages ask for.
+    pub form: Form,
     /// Who held the lock when the last message was refused 1/33.
     pub holder: Option<Holder>,
 }
@@ -45,6 +48,7 @@ impl World {
                 pid: 7,
                 uid: 1,
             },
+            form: Form::Smb,
             holder: None,
         }
     }
@@ -69,7 +73,9 @@ impl World {
     }
 
     pub fn message(&self, asks: &[Ask]) -> Vec<u8> {
-        message(self.header, asks, &mut || 0, &mut || 0)
+        let mut message = message(self.header, asks, &mut || 0, &mut || 0);
+        set_form(&mut message, self.form);
+        message
     }
 
     /// The reply to a chain.
@@ -107,10 +113,7 @@ pub fn held(Holder { place, lock }: Holder) -> Held {
     (lock.fid, lock.process, place, range.offset, range.length)
 }
 
-pub fn status(reply: &[u8]) -> (u8, u16) {
-    assert_eq!(reply[6], 0);
-    (reply[5], u16::from_le_bytes([reply[7], reply[8]]))
-}
+pub use second::status::class_and_code as status;
 
 /// Locks, exclusive, in ranges of 20 bytes.
 pub fn lock(fid: u16, ranges: &[Asked]) -> Ask {

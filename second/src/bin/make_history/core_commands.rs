@@ -399,7 +399,7 @@ impl Bench {
                     continue;
                 }
                 let message = maker.message(user, &[first.clone(), next]);
-                maker.take_for(OLDEST, message, NotASentence.class_and_code());
+                maker.take_for(OLDEST, message, Some(NotASentence));
             }
         }
         // What a core command's words would name as AndX is not looked at.
@@ -428,7 +428,7 @@ impl Bench {
         for &(place, byte) in places {
             message[place + 19 * usize::from(second)] = byte;
         }
-        maker.take_for(OLDEST, message, NotASentence.class_and_code());
+        maker.take_for(OLDEST, message, Some(NotASentence));
     }
 
     /// "a data block not marked 0x01 or whose lengths disagree is 2/1"
@@ -468,7 +468,7 @@ impl Bench {
     fn shapes(&self, maker: &mut Maker) {
         for ask in five(self.fid) {
             let message = maker.message(self.user, from_ref(&ask));
-            let refused = NotASentence.class_and_code();
+            let refused = Some(NotASentence);
             for words in [4, 6] {
                 let mut message = message.clone();
                 message[32] = words;

@@ -1,10 +1,11 @@
 //! Counts what a history reaches of the core commands: the reads, and what a
 //! WRITE of count 0 made of the size (document 02, request 3).
 
-use super::{refusal_name, reply_blocks, status, Tally};
+use super::{refusal_name, reply_blocks, Tally};
 use second::grammar::Block;
 use second::header::header_numbers;
 use second::request::Request;
+use second::status::class_and_code;
 use second::tables::{Lock, Range, Tables, FILE_BYTES};
 
 /// With the least count.
@@ -60,10 +61,10 @@ impl Tally {
             std::cmp::Ordering::Greater => "raised",
         };
         let among = if blocks.len() > 1 { " in a chain" } else { "" };
-        let done = status(reply) == (0, 0);
+        let done = class_and_code(reply) == (0, 0);
         let answer = match done {
             true => "done".to_string(),
-            false => refusal_name(status(reply)),
+            false => refusal_name(class_and_code(reply)),
         };
         self.count(format!("size {change}{among}: {answer}"));
         let between = Range {
@@ -76,7 +77,7 @@ impl Tally {
         let mut own = before.locks.in_use().iter().filter(own);
         let exclusive = own.clone().any(|lock| !lock.shared);
         self.count_if(done && exclusive, "size changed over an own exclusive lock");
-        let shared = own.any(|lock| lock.shared) && status(reply) == (1, 33);
+        let shared = own.any(|lock| lock.shared) && class_and_code(reply) == (1, 33);
         self.count_if(shared, "size refused for an own shared lock");
     }
 }

@@ -1,14 +1,17 @@
 //! Makes the calls one by one, keeping the history and its lines.
 
 use crate::calls::{encode, Answer, State};
-use crate::tally::{status, Tally};
-use second::builder::{self, Ask, Header};
+use crate::tally::{reply_blocks, Tally};
+use second::builder::{self, set_form, Ask, Header};
 use second::call::Call;
 use second::catalogue::Name;
 use second::refusals::WireRefusal;
 use second::rng::Rng;
+use second::status::Form::{self, Nt, Smb};
+use second::status::{class_and_code, Status};
 use second::tables::{Table, Tables};
 use second::words::{pack_catalogue, unpack, CatalogueWords, HOLDER_WORDS};
+use std::collections::BTreeMap;
 
 /// Who sends a message: its connection and the header's numbers.
 #[derive(Clone, Copy, Debug, PartialEq, Eq)]
@@ -26,6 +29,10 @@ pub type Held<P> = (u16, P, u64, u64, u64);
 pub struct Maker {
     state: State,
     pub rng: Rng,
+    /// Draws the form of Status that a message asks for.
+    forms: Rng,
+    /// The form that the next message to be answered so asks for.
+    owed: BTreeMap<Option<WireRefusal>, Form>,
     pub history: Vec<u8>,
     pub lines: String,
     pub calls: usize,
@@ -39,6 +46,8 @@ impl Maker {
         Maker {
             state: State::new(),
             rng: Rng::new(0x5348_4946_5431),
+            forms: Rng::new(0x4E54),
+            owed: BTreeMap::new(),
             history: Vec::new(),
             lines: String::new(),
             calls: 0,
@@ -68,7 +77,7 @@ impl Maker {
             self.complain("tables not sound", &call, &answer);
         }
         let holds = match (&call, answer.number) {
-            (Call::TakeMessage { .. }, 0) => match status(&answer.reply) {
+            (Call::TakeMessage { .. }, 0) => match class_and_code(&answer.reply) {
                 (1, 33) => answer.holder.is_some_and(|words| words[0] == 1),
                 _ => answer.holder == Some([0; HOLDER_WORDS]),
             },
@@ -79,7 +88,7 @@ impl Maker {
         }
         let unchanged = before.0 == after && before.1 == self.state.memory;
         // A reply of 35 bytes with a Status is that of a first command.
-        let refused = status(&answer.reply) != (0, 0) && answer.value == 35;
+        let refused = class_and_code(&answer.reply) != (0, 0) && answer.value == 35;
         if (answer.number != 0 || refused) && !unchanged {
             self.complain("a refusal changed something", &call, &answer);
         }
@@ -90,7 +99,8 @@ impl Maker {
 
     fn complain(&mut self, text: &str, call: &Call, answer: &Answer) {
         let number = self.calls;
-        let answer = (answer.number, answer.value, status(&answer.reply));
+        let told = class_and_code(&answer.reply);
+        let answer = (answer.number, answer.value, told);
         self.complaints
             .push(format!("{text}: call {number}, {call:?}, {answer:?}"));
     }
@@ -145,10 +155,32 @@ impl Maker {
         self.host(Call::SetCatalogue { catalogue }, number);
     }
 
+    /// Takes a message whose answer is not foretold.
     pub fn take(&mut self, connection: u32, message: Vec<u8>) -> Answer {
+        self.take_in_form(connection, message, None)
+    }
+
+    /// Takes a message, planned to be refused so or not to be.
+    fn take_in_form(
+        &mut self,
+        connection: u32,
+        mut message: Vec<u8>,
+        planned: Option<WireRefusal>,
+    ) -> Answer {
+        set_form(&mut message, self.form(planned));
         self.call(Call::TakeMessage {
             connection,
             message,
+        })
+    }
+
+    /// Of each two messages that are planned to be refused alike one asks for
+    /// each form, and a lot says which of them.
+    fn form(&mut self, planned: Option<WireRefusal>) -> Form {
+        self.owed.remove(&planned).unwrap_or_else(|| {
+            let (form, other) = self.forms.pick(&[(Smb, Nt), (Nt, Smb)]);
+            self.owed.insert(planned, other);
+            form
         })
     }
 
@@ -175,31 +207,39 @@ impl Maker {
     /// Sends a message that must be done whole.
     pub fn done(&mut self, user: User, asks: &[Ask]) -> Answer {
         let message = self.message(user, asks);
-        self.take_for(user.connection, message, (0, 0))
+        self.take_for(user.connection, message, None)
     }
 
     /// Sends a message that must be refused so.
     pub fn refused(&mut self, user: User, asks: &[Ask], refusal: WireRefusal) -> Answer {
         let message = self.message(user, asks);
-        self.take_for(user.connection, message, refusal.class_and_code())
+        self.take_for(user.connection, message, Some(refusal))
     }
 
     /// Sends a message that must be refused for this lock.
     pub fn held<P: Into<u64>>(&mut self, user: User, asks: &[Ask], holder: Held<P>) {
-        let answer = self.refused(user, asks, WireRefusal::Conflict);
+        let message = self.message(user, asks);
+        let planned = asks.last().map(conflict);
+        let answer = self.take_in_form(user.connection, message, planned);
+        let barred = &asks[reply_blocks(&answer.reply).len() - 1];
         let (fid, process, place, offset, length) = holder;
         let wanted = [1, fid.into(), process.into(), place, offset, length];
-        if answer.holder != Some(wanted) {
-            let (number, given) = (self.calls, answer.holder);
+        if !says(&answer, Some(conflict(barred))) || answer.holder != Some(wanted) {
+            let number = self.calls;
             self.complaints
-                .push(format!("holder {given:?}, not {wanted:?}: call {number}"));
+                .push(format!("{answer:?}, not {wanted:?}: call {number}"));
         }
     }
 
-    /// Takes a message whose reply must have the Status.
-    pub fn take_for(&mut self, connection: u32, message: Vec<u8>, wanted: (u8, u16)) -> Answer {
-        let answer = self.take(connection, message.clone());
-        if answer.number != 0 || status(&answer.reply) != wanted {
+    /// Takes a message that must be refused so, or done.
+    pub fn take_for(
+        &mut self,
+        connection: u32,
+        message: Vec<u8>,
+        wanted: Option<WireRefusal>,
+    ) -> Answer {
+        let answer = self.take_in_form(connection, message.clone(), wanted);
+        if !says(&answer, wanted) {
             let call = Call::TakeMessage {
                 connection,
                 message,
@@ -211,11 +251,35 @@ impl Maker {
 
     /// Takes a message that must be dropped.
     pub fn dropped(&mut self, connection: u32, message: Vec<u8>) {
-        let call = Call::TakeMessage {
-            connection,
-            message,
-        };
-        self.host(call, 1);
+        let answer = self.take(connection, message.clone());
+        if answer.number != 1 {
+            let call = Call::TakeMessage {
+                connection,
+                message,
+            };
+            self.complain("not dropped", &call, &answer);
+        }
+    }
+}
+
+/// Whether a message was refused so, or done, in the form that its reply names.
+fn says(answer: &Answer, wanted: Option<WireRefusal>) -> bool {
+    if answer.number != 0 {
+        return false;
+    }
+    let told = Status::of(&answer.reply);
+    match wanted {
+        Some(refusal) => told == refusal.status(told.form),
+        None => told.value == 0,
+    }
+}
+
+/// What a command is refused for where a lock is in its way: "C0000055 for a lock
+/// refused, C0000054 for a read or write refused".
+fn conflict(barred: &Ask) -> WireRefusal {
+    match barred {
+        Ask::Locking { .. } | Ask::LockRange { .. } => WireRefusal::LockNotGranted,
+        _ => WireRefusal::FileLockConflict,
     }
 }
 

@@ -1,8 +1,9 @@
 //! Counts what a history reaches of opening by name (document 02, request 6).
 
-use super::{refusal_name, reply_blocks, status, Tally};
+use super::{refusal_name, reply_blocks, Tally};
 use second::grammar::{Block, CLOSE, OPEN_ANDX};
 use second::request::{Request, JUST_OPENED};
+use second::status::class_and_code;
 use second::tables::Tables;
 
 /// With the least count.
@@ -55,10 +56,10 @@ impl Tally {
         before: &Tables,
     ) {
         let places = reply_blocks(reply);
-        let refused = status(reply) != (0, 0);
+        let refused = class_and_code(reply) != (0, 0);
         for (index, (block, &place)) in blocks.iter().zip(&places).enumerate() {
             let answer = match refused && index + 1 == places.len() {
-                true => refusal_name(status(reply)),
+                true => refusal_name(class_and_code(reply)),
                 false => "done".to_string(),
             };
             if block.command == OPEN_ANDX {

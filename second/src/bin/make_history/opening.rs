@@ -323,19 +323,19 @@ impl Users {
         ] {
             let mut message = message.clone();
             message[place] = byte;
-            maker.take_for(TERMINAL, message, (2, 1));
+            maker.take_for(TERMINAL, message, Some(NotASentence));
         }
         let mut longer = message.clone();
         longer.push(0);
         longer[63] = 7;
-        maker.take_for(TERMINAL, longer, (2, 1));
+        maker.take_for(TERMINAL, longer, Some(NotASentence));
         for next in [open(0, 4, b"alias"), write(1, 0, b""), Ask::Logoff] {
             let message = maker.message(self.terminal, &[open(0, 4, b"alias"), next]);
-            maker.take_for(TERMINAL, message, (2, 1));
+            maker.take_for(TERMINAL, message, Some(NotASentence));
         }
         let asks = [read(1, 0, 1), open(0, 4, b"alias")];
         let message = maker.message(self.terminal, &asks);
-        maker.take_for(TERMINAL, message, (2, 1));
+        maker.take_for(TERMINAL, message, Some(NotASentence));
     }
 
     /// "all 64 FIDs in use", and one given up that is used again.

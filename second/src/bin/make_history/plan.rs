@@ -45,7 +45,7 @@ fn worked_case(maker: &mut Maker) {
     maker.load(0, 120);
     let user = maker.user(9, 1, 7);
     maker.open(user, 0, 2);
-    let answer = maker.take_for(9, worked(), (0, 0));
+    let answer = maker.take_for(9, worked(), None);
     // Case 13: reply 76 bytes, data offset 66.
     if answer.value != 76 || answer.reply[52..54] != [66, 0] {
         maker.complaints.push(format!("case 13: {answer:?}"));
@@ -53,10 +53,10 @@ fn worked_case(maker: &mut Maker) {
     maker.done(user, &[locking(1, 0, &[(7, 100, 10)], &[])]);
     let mut message = worked();
     message[35] = 60;
-    maker.take_for(9, message.clone(), (2, 1));
+    maker.take_for(9, message.clone(), Some(NotASentence));
     message[35] = 62;
     message.insert(61, 0xAA);
-    maker.take_for(9, message, (0, 0));
+    maker.take_for(9, message, None);
 }
 
 /// Files, sessions, trees and opens for the day.
@@ -99,17 +99,17 @@ fn lock_cases(maker: &mut Maker) {
         maker.refused(
             other,
             &[locking(behind, exclusive, &[], &[(42, 9, 1)])],
-            Conflict,
+            LockNotGranted,
         );
         maker.refused(
             other,
             &[locking(behind, shared, &[], &[(42, 0, 1)])],
-            Conflict,
+            LockNotGranted,
         );
         maker.refused(
             one,
             &[locking(fid, exclusive, &[], &[(41, 0, 10)])],
-            Conflict,
+            LockNotGranted,
         );
         maker.done(other, &[locking(behind, exclusive, &[], &[(42, 5, 0)])]);
         maker.done(
@@ -120,7 +120,7 @@ fn lock_cases(maker: &mut Maker) {
         maker.refused(
             other,
             &[locking(behind, exclusive, &[], &[(42, 49, 1)])],
-            Conflict,
+            LockNotGranted,
         );
         // The first alike goes first; a release keeps nothing of itself when
         // a lock behind it is refused.
@@ -129,13 +129,13 @@ fn lock_cases(maker: &mut Maker) {
         maker.refused(
             one,
             &[locking(fid, exclusive, &again, &[(41, 12, 1)])],
-            Conflict,
+            LockNotGranted,
         );
         maker.done(one, &[locking(fid, exclusive, &again, &[])]);
         maker.refused(
             one,
             &[locking(fid, exclusive, &[], &[(41, 60, 2), (41, 61, 1)])],
-            Conflict,
+            LockNotGranted,
         );
         maker.done(
             one,
@@ -154,17 +154,17 @@ fn far_ranges(maker: &mut Maker) {
     maker.refused(
         other,
         &[locking(behind, 0x10, &[], &[(42, top, 1)])],
-        Conflict,
+        LockNotGranted,
     );
     maker.refused(
         other,
         &[locking(behind, 0x11, &[], &[(42, top - 9, 10)])],
-        Conflict,
+        LockNotGranted,
     );
     maker.refused(
         other,
         &[locking(behind, 0x10, &[], &[(42, 1, top)])],
-        Conflict,
+        LockNotGranted,
     );
     for (offset, length) in [(top, 2), (2, top), (top, top), (1 << 63, (1 << 63) + 1)] {
         let asked = [(41, offset, length)];
@@ -184,15 +184,15 @@ fn far_ranges(maker: &mut Maker) {
     );
     // Reads at the far end find the shared locks no bar and no bytes.
     maker.done(other, &[read(behind, top, 200)]);
-    maker.refused(one, &[write(fid, top, b"x")], Conflict);
+    maker.refused(one, &[write(fid, top, b"x")], FileLockConflict);
     maker.done(one, &[write(fid, top, b"")]);
     maker.done(one, &[locking(fid, 0x10, &[(41, 1, top)], &[])]);
     maker.done(
         one,
         &[locking(fid, 0x00, &[], &[(41, 0xFFFF_FFFF, 0xFFFF_FFFF)])],
     );
-    maker.refused(other, &[write(behind, 1 << 32, b"y")], Conflict);
-    maker.refused(other, &[read(behind, 1 << 32, 1)], Conflict);
+    maker.refused(other, &[write(behind, 1 << 32, b"y")], FileLockConflict);
+    maker.refused(other, &[read(behind, 1 << 32, 1)], FileLockConflict);
     maker.refused(one, &[write(fid, 1 << 32, b"y")], FileFull);
     drop_pair(maker);
 }
@@ -230,7 +230,7 @@ fn reads_and_writes(maker: &mut Maker) {
     // A message of the most bytes, the last of them free.
     let mut message = maker.message(user, &[write(whole, 2, &page[..4094])]);
     message.resize(8192, 0x5A);
-    maker.take_for(OFFICE, message.clone(), (0, 0));
+    maker.take_for(OFFICE, message.clone(), None);
     message.push(0);
     maker.dropped(OFFICE, message);
     maker.done(user, &[read(whole, 4000, 96)]);
@@ -245,17 +245,17 @@ fn bars(maker: &mut Maker) {
     maker.done(one, &[locking(fid, 0, &[], &[(41, 10, 10), (77, 20, 10)])]);
     maker.done(one, &[locking(fid, 1, &[], &[(41, 40, 10)])]);
     maker.done(one, &[read(fid, 10, 10)]);
-    maker.refused(one, &[read(fid, 10, 11)], Conflict);
+    maker.refused(one, &[read(fid, 10, 11)], FileLockConflict);
     maker.done(child, &[read(fid, 20, 10)]);
-    maker.refused(child, &[read(fid, 19, 2)], Conflict);
-    maker.refused(other, &[read(behind, 0, 11)], Conflict);
+    maker.refused(child, &[read(fid, 19, 2)], FileLockConflict);
+    maker.refused(other, &[read(behind, 0, 11)], FileLockConflict);
     maker.done(other, &[read(behind, 0, 10)]);
     maker.done(other, &[read(behind, 15, 0)]);
     maker.done(other, &[read(behind, 40, 10)]);
     maker.done(one, &[write(fid, 10, b"0123456789")]);
-    maker.refused(one, &[write(fid, 40, b"!")], Conflict);
-    maker.refused(other, &[write(behind, 49, b"!")], Conflict);
-    maker.refused(other, &[write(behind, 19, b"!")], Conflict);
+    maker.refused(one, &[write(fid, 40, b"!")], FileLockConflict);
+    maker.refused(other, &[write(behind, 49, b"!")], FileLockConflict);
+    maker.refused(other, &[write(behind, 19, b"!")], FileLockConflict);
     maker.done(other, &[write(behind, 15, b"")]);
     maker.done(other, &[write(behind, 50, b"free")]);
     drop_pair(maker);
@@ -323,7 +323,7 @@ fn chains_refused(maker: &mut Maker) {
     let good = write(fid, 20, b"stands");
     let elsewhere = Ask::Close { fid: behind };
     let lock = |place| locking(fid, 1, &[], &[(41, place, 3)]);
-    maker.refused(one, &[lock(600), barred.clone()], Conflict);
+    maker.refused(one, &[lock(600), barred.clone()], FileLockConflict);
     maker.refused(one, &[lock(610), past.clone()], FileFull);
     maker.refused(one, &[read(fid, 0, 20), elsewhere.clone()], NoOpen);
     maker.refused(one, &[good.clone(), past.clone()], FileFull);
@@ -333,21 +333,25 @@ fn chains_refused(maker: &mut Maker) {
     maker.refused(
         one,
         &[locking(fid, 0, &[], &[(41, 509, 1)]), good.clone()],
-        Conflict,
+        LockNotGranted,
     );
     maker.refused(
         one,
         &[locking(fid, 0, &[(41, 600, 4)], &[]), read(fid, 0, 9)],
         NotLocked,
     );
-    maker.refused(one, &[barred, Ask::Close { fid }], Conflict);
+    maker.refused(one, &[barred, Ask::Close { fid }], FileLockConflict);
     maker.refused(one, &[past.clone(), Ask::Close { fid }], FileFull);
     maker.refused(one, &[past.clone(), read(fid, 0, 9)], FileFull);
     // The third refused, the first two standing.
     let first = write(fid, 70, b"first");
     maker.refused(one, &[lock(620), first.clone(), past], FileFull);
     maker.refused(one, &[first, good.clone(), elsewhere.clone()], NoOpen);
-    maker.refused(one, &[lock(630), good.clone(), read(fid, 495, 6)], Conflict);
+    maker.refused(
+        one,
+        &[lock(630), good.clone(), read(fid, 495, 6)],
+        FileLockConflict,
+    );
     maker.refused(one, &[good, read(fid, 0, 30), elsewhere], NoOpen);
     maker.done(one, &[read(fid, 15, 60), Ask::Close { fid }]);
     maker.done(other, &[locking(behind, 0, &[], &[(42, 600, 40)])]);
@@ -465,7 +469,7 @@ fn orders(maker: &mut Maker) {
             locking(fid, 0x10, &[(41, 0, 4)], &passing),
             RangePasses,
         ),
-        (one, write(fid, 4090, b"past the end"), Conflict),
+        (one, write(fid, 4090, b"past the end"), FileLockConflict),
     ];
     for (user, ask, refusal) in cases {
         maker.refused(user, &[ask], refusal);
@@ -491,30 +495,41 @@ fn malformed(maker: &mut Maker) {
     let write = maker.message(user, &[write(fid, 0, b"never")]);
     for command in [0x00, OPEN_ANDX, 0x72, 0x73, 0x75, 0xA2, 0xFF] {
         // No OPEN_ANDX has the words of a WRITE.
-        let wanted = if command == OPEN_ANDX {
-            (2, 1)
-        } else {
-            (2, 22)
+        let refusal = match command {
+            OPEN_ANDX => NotASentence,
+            _ => NotServed,
         };
-        maker.take_for(OFFICE, changed(&write, &[(4, command)]), wanted);
+        maker.take_for(OFFICE, changed(&write, &[(4, command)]), Some(refusal));
     }
-    maker.take_for(OFFICE, changed(&write, &[(4, 0x25), (32, 99)]), (2, 22));
+    maker.take_for(
+        OFFICE,
+        changed(&write, &[(4, 0x25), (32, 99)]),
+        Some(NotServed),
+    );
     for ask in seven(fid) {
         let message = maker.message(user, &[ask]);
         let words = message[32] + 1;
-        maker.take_for(OFFICE, changed(&message, &[(32, words)]), (2, 1));
+        maker.take_for(
+            OFFICE,
+            changed(&message, &[(32, words)]),
+            Some(NotASentence),
+        );
     }
     let lock = maker.message(user, &[locking(fid, 0, &[], &[(41, 0, 1)])]);
     let read = maker.message(user, &[read(fid, 0, 8)]);
     for message in not_sentences(&lock, &read, &write) {
-        maker.take_for(OFFICE, message, (2, 1));
+        maker.take_for(OFFICE, message, Some(NotASentence));
     }
     // 2/1 before 2/91, and before the first write is carried out.
-    maker.take_for(STORE, changed(&read, &[(28, 77), (32, 11)]), (2, 1));
+    maker.take_for(
+        STORE,
+        changed(&read, &[(28, 77), (32, 11)]),
+        Some(NotASentence),
+    );
     let ask = Ask::Close { fid };
     let mut message = maker.message(user, &[self::write(fid, 0, b"never"), ask]);
     message.pop();
-    maker.take_for(OFFICE, message, (2, 1));
+    maker.take_for(OFFICE, message, Some(NotASentence));
     maker.done(user, &[self::read(fid, 0, 8)]);
     maker.drop_connection(OFFICE);
 }
@@ -564,7 +579,7 @@ fn not_sentences(lock: &[u8], read: &[u8], write: &[u8]) -> Vec<Vec<u8>> {
 fn dropped(maker: &mut Maker) {
     let user = maker.user(OFFICE, 1, 41);
     let message = maker.message(user, &[Ask::ProcessExit]);
-    maker.take_for(OFFICE, message.clone(), (0, 0));
+    maker.take_for(OFFICE, message.clone(), None);
     maker.dropped(OFFICE, Vec::new());
     maker.dropped(OFFICE, message[..34].to_vec());
     maker.dropped(UNKNOWN, message[..4].to_vec());
@@ -597,7 +612,7 @@ fn lock_table_full(maker: &mut Maker) {
     maker.refused(
         one,
         &[locking(fid, 0, &[], &[(41, 0, 1), (41, 601, 1)])],
-        Conflict,
+        LockNotGranted,
     );
     maker.refused(
         one,
@@ -642,7 +657,7 @@ fn hanging(maker: &mut Maker) {
         maker.done(one, &[locking(second, 1, &[], &[(9, 805, 5)])]);
         maker.done(third, &[locking(elsewhere, 0x11, &[], &[(41, 805, 9)])]);
         let wanted = locking(behind, 0, &[], &[(42, 800, 10)]);
-        maker.refused(other, from_ref(&wanted), Conflict);
+        maker.refused(other, from_ref(&wanted), LockNotGranted);
         maker.done(User { pid, ..one }, &[removal]);
         maker.send(other, &[wanted]);
         maker.send(one, &[read(high, 0, 3)]);
@@ -785,7 +800,7 @@ fn night(maker: &mut Maker) {
     maker.load(5, 3);
     let message = vec![0xFF, 0x53, 0x4D, 0x42, PROCESS_EXIT];
     let message = [message, vec![0; 30]].concat();
-    maker.take_for(UNKNOWN, message, (2, 91));
+    maker.take_for(UNKNOWN, message, Some(NoSession));
     let user = maker.user(UNKNOWN, 0, 7);
     let fid = maker.open(user, 5, 0);
     maker.done(user, &[read(fid, 0, 200), Ask::Close { fid }]);

@@ -180,10 +180,10 @@ impl Bench {
         };
         let ask = read(self.fid, 0, 5);
         let message = maker.message(top, std::slice::from_ref(&ask));
-        for (place, byte, status) in [(4, 0x2D, (2, 1)), (32, 11, (2, 1))] {
+        for (place, byte) in [(4, 0x2D), (32, 11)] {
             let mut message = message.clone();
             message[place] = byte;
-            maker.take_for(BENCH, message, status);
+            maker.take_for(BENCH, message, Some(NotASentence));
         }
         let nobody = User { uid: 0, ..top };
         maker.refused(nobody, std::slice::from_ref(&ask), NoSession);

@@ -2,6 +2,7 @@
 
 mod core_tally;
 mod open_tally;
+pub mod status_tally;
 
 use crate::calls::Answer;
 use second::call::Call;
@@ -15,6 +16,7 @@ use second::messages::SUCCESSIONS;
 use second::processes::{above_65_535, twins};
 use second::refusals::WireRefusal;
 use second::request::{Ranges, Request, TYPE_LARGE};
+use second::status::{class_and_code, Status};
 use second::tables::{Lock, Range, Tables, FILE_BYTES, LOCKS, OPENS, SESSIONS, TREES};
 use std::collections::{BTreeMap, BTreeSet};
 
@@ -160,11 +162,12 @@ impl Tally {
         unchanged: bool,
     ) {
         self.note_holder(message, answer, after);
+        self.note_status(message, &answer.reply);
         match listing::answer(message) {
             listing::Answer::Dropped(reason) => self.count(format!("dropped: {reason:?}")),
             listing::Answer::NotAChain(reason) => {
                 self.count(format!("not a chain: {:?}", reason.why));
-                self.count(refusal_name(status(&answer.reply)));
+                self.count(refusal_name(class_and_code(&answer.reply)));
             }
             listing::Answer::Chain(blocks) => {
                 self.note_chain(message, &blocks, &answer.reply, !unchanged);
@@ -179,7 +182,7 @@ impl Tally {
 
     /// What stands in the words for the holder, with each answer.
     fn note_holder(&mut self, message: &[u8], answer: &Answer, after: &Tables) {
-        let what = match (answer.number, status(&answer.reply)) {
+        let what = match (answer.number, class_and_code(&answer.reply)) {
             (0, (0, 0)) => "done".to_string(),
             (0, status) => refusal_name(status),
             (number, _) => format!("number {number}"),
@@ -265,7 +268,7 @@ impl Tally {
 
     /// The commands and successions, done or refused.
     fn note_chain(&mut self, message: &[u8], blocks: &[Block], reply: &[u8], changed: bool) {
-        let status = status(reply);
+        let status = class_and_code(reply);
         let places = reply_blocks(reply);
         let last = places.len() - 1;
         for (index, (block, &place)) in blocks.iter().zip(&places).enumerate() {
@@ -273,6 +276,7 @@ impl Tally {
             if status != (0, 0) && index == last {
                 self.count(refusal_name(status));
                 self.count(format!("{name} {}", refusal_name(status)));
+                self.count(format!("{name} Status {}", Status::of(reply)));
                 self.count_if(
                     index > 0 && changed,
                     "chain refused behind a command that stands",
@@ -372,7 +376,7 @@ impl Tally {
         after: &Tables,
     ) {
         let (uid, _, process) = header_numbers(message);
-        let done = status(&answer.reply) == (0, 0) || reply_blocks(&answer.reply).len() > 1;
+        let done = class_and_code(&answer.reply) == (0, 0) || reply_blocks(&answer.reply).len() > 1;
         match Request::read(message, block) {
             Request::ProcessExit => {
                 let takes = match after.opens.count < before.opens.count {
@@ -395,7 +399,7 @@ impl Tally {
                 self.count_if(above && !locks.is_empty(), &what);
                 let what = format!("{form} unlocked with PIDHigh not 0");
                 self.count_if(above && !unlocks.is_empty(), &what);
-                if status(&answer.reply) == WireRefusal::NotLocked.class_and_code() {
+                if class_and_code(&answer.reply) == WireRefusal::NotLocked.class_and_code() {
                     self.note_not_locked(fid, unlocks, form, before);
                 }
             }
@@ -457,11 +461,15 @@ pub fn required() -> Vec<(String, usize)> {
         all.push((format!("{before} then {behind}, chain done"), 5));
         all.push((format!("{before} then {behind}, chain refused"), 2));
     }
-    all.extend(refusals_by_command());
+    for (refusal, command) in refusals_by_command() {
+        let refusal = refusal_name(refusal.class_and_code());
+        all.push((format!("{} {refusal}", name(command)), 2));
+    }
     all.extend(holders());
     all.extend(processes());
     all.extend(core_tally::required());
     all.extend(open_tally::required());
+    all.extend(status_tally::required());
     all
 }
 
@@ -470,7 +478,7 @@ fn holders() -> Vec<(String, usize)> {
     let mut all: Vec<_> = WireRefusal::ALL
         .map(|refusal| {
             let holder = match refusal {
-                WireRefusal::Conflict => "a holder",
+                WireRefusal::LockNotGranted | WireRefusal::FileLockConflict => "a holder",
                 _ => "nobody holds",
             };
             let refused = refusal_name(refusal.class_and_code());
@@ -501,13 +509,13 @@ fn processes() -> Vec<(String, usize)> {
     all
 }
 
-/// Each command with each refusal that it can get.
-fn refusals_by_command() -> Vec<(String, usize)> {
+/// Each refusal with the commands that can get it.
+fn refusals_by_command() -> Vec<(WireRefusal, u8)> {
     use WireRefusal::*;
     let (locking, read, write) = (LOCKING_ANDX, READ_ANDX, WRITE_ANDX);
     let (lock, unlock) = (LOCK_BYTE_RANGE, UNLOCK_BYTE_RANGE);
     let with_open = [locking, read, write, READ, WRITE, lock, unlock, CLOSE];
-    let commands: [(WireRefusal, &[u8]); 15] = [
+    let commands: [(WireRefusal, &[u8]); 16] = [
         (NoSession, &SERVED),
         (NoTree, &with_open),
         (NoTree, &[TREE_DISCONNECT, OPEN_ANDX]),
@@ -520,17 +528,14 @@ fn refusals_by_command() -> Vec<(String, usize)> {
         (NoFid, &[OPEN_ANDX]),
         (NotLocked, &[locking, unlock]),
         (RangePasses, &[locking]),
-        (Conflict, &BARRED),
+        (LockNotGranted, &[locking, lock]),
+        (FileLockConflict, &[read, write, READ, WRITE]),
         (NoLockRecord, &[locking, lock]),
         (FileFull, &[write, WRITE]),
     ];
-    let thing = |refusal: WireRefusal, command: u8| {
-        let refusal = refusal_name(refusal.class_and_code());
-        (format!("{} {refusal}", name(command)), 2)
-    };
     commands
         .into_iter()
-        .flat_map(|(refusal, of)| of.iter().map(move |&command| thing(refusal, command)))
+        .flat_map(|(refusal, of)| of.iter().map(move |&command| (refusal, command)))
         .collect()
 }
 
@@ -562,16 +567,8 @@ fn alike(one: &Lock, other: &Lock) -> bool {
     Lock { shared, ..*one } == *other
 }
 
-/// Class and code of a reply; none of a call without one.
-pub fn status(reply: &[u8]) -> (u8, u16) {
-    if reply.is_empty() {
-        return (0, 0);
-    }
-    (reply[5], u16_at(reply, 7))
-}
-
 /// The places of a reply's blocks.
-fn reply_blocks(reply: &[u8]) -> Vec<usize> {
+pub fn reply_blocks(reply: &[u8]) -> Vec<usize> {
     let mut places = vec![32];
     let (mut command, mut place) = (reply[4], 32);
     while is_andx(command) && reply[place] > 0 && reply[place + 1] != 0xFF {

@@ -6,7 +6,7 @@ use crate::maker::{lengthened, read, write, Maker, User};
 use second::builder::{core_read, core_write, lock_range, locking, open, unlock_range, Ask, Asked};
 use second::listing::{self, Answer};
 use second::messages::{all, worked};
-use second::refusals::WireRefusal::*;
+use second::refusals::WireRefusal::{self, *};
 use second::request::JUST_OPENED;
 use second::tables::{LOCKS, OPENS};
 use std::collections::BTreeMap;
@@ -35,15 +35,11 @@ const READ_ONLY: u16 = 3;
 
 struct Sent<'a> {
     maker: &'a mut Maker,
-    messages: Vec<Vec<u8>>,
 }
 
-/// The messages, in the order sent.
-pub fn messages(maker: &mut Maker) -> Vec<Vec<u8>> {
-    let mut sent = Sent {
-        maker,
-        messages: Vec::new(),
-    };
+/// Sends all messages, in order: the maker's history has them.
+pub fn send_all(maker: &mut Maker) {
+    let mut sent = Sent { maker };
     sent.any(worked());
     sent.refusals();
     sent.drawn();
@@ -54,29 +50,24 @@ pub fn messages(maker: &mut Maker) -> Vec<Vec<u8>> {
     sent.opening();
     sent.opens_full();
     sent.leaving();
-    sent.messages
 }
 
 impl Sent<'_> {
     /// A message whose answer is not foretold.
     fn any(&mut self, message: Vec<u8>) {
-        self.maker.take(CONNECTION, message.clone());
-        self.messages.push(message);
+        self.maker.take(CONNECTION, message);
     }
 
-    fn with(&mut self, user: User, asks: &[Ask], wanted: (u8, u16)) {
-        let message = self.maker.message(user, asks);
-        self.maker.take_for(CONNECTION, message.clone(), wanted);
-        self.messages.push(message);
+    fn refused(&mut self, user: User, asks: &[Ask], refusal: WireRefusal) {
+        self.maker.refused(user, asks, refusal);
     }
 
     fn done(&mut self, user: User, asks: &[Ask]) {
-        self.with(user, asks, (0, 0));
+        self.maker.done(user, asks);
     }
 
     fn dropped(&mut self, message: Vec<u8>) {
-        self.maker.dropped(CONNECTION, message.clone());
-        self.messages.push(message);
+        self.maker.dropped(CONNECTION, message);
     }
 
     /// Each refusal of a chain but a full lock table's, first in it or second.
@@ -93,31 +84,30 @@ impl Sent<'_> {
             (TERMINAL, locking(FID, 2, &[], &[]), NotSupported),
             (TERMINAL, locking(FID, 0, &[held], &[]), NotLocked),
             (TERMINAL, locking(FID, 0x10, &[], &passes), RangePasses),
-            (TERMINAL, read(FID, 195, 9), Conflict),
+            (TERMINAL, read(FID, 195, 9), FileLockConflict),
             (TERMINAL, write(FID, 4096, b"x"), FileFull),
         ];
         for (user, ask, refusal) in refused {
-            let wanted = refusal.class_and_code();
-            self.with(user, std::slice::from_ref(&ask), wanted);
+            self.refused(user, std::slice::from_ref(&ask), refusal);
             if !matches!(ask, Ask::Locking { .. }) {
-                self.with(user, &[stands.clone(), ask], wanted);
+                self.refused(user, &[stands.clone(), ask], refusal);
             }
         }
         for kind in [0x02, 0x80] {
             let ask = locking(FID, kind, &[], &[(7, 0, 1)]);
-            self.with(TERMINAL, &[ask], NotSupported.class_and_code());
+            self.refused(TERMINAL, &[ask], NotSupported);
         }
         let near = locking(FID, 0, &[(7, 0, 1)], &[]);
-        self.with(TERMINAL, &[near], NotLocked.class_and_code());
+        self.refused(TERMINAL, &[near], NotLocked);
         let far = locking(FID, 0x11, &[], &[(7, 2, u64::MAX)]);
-        self.with(TERMINAL, &[far], RangePasses.class_and_code());
+        self.refused(TERMINAL, &[far], RangePasses);
         self.done(OTHER, &[locking(BEHIND, 0, &[held], &[])]);
     }
 
     /// Chains drawn by lot that remove nothing, a few of them damaged.
     fn drawn(&mut self) {
-        let before = self.messages.len();
-        while self.messages.len() < before + DRAWN {
+        let before = self.maker.calls;
+        while self.maker.calls < before + DRAWN {
             let tables = self.maker.tables();
             let rng = &mut self.maker.rng;
             let open = rng.pick(tables.opens.in_use());
@@ -172,8 +162,7 @@ impl Sent<'_> {
             .maker
             .message(TERMINAL, &[write(FID, 2, &page[..4094])]);
         message.resize(8192, 0x5A);
-        self.maker.take_for(CONNECTION, message.clone(), (0, 0));
-        self.messages.push(message);
+        self.maker.take_for(CONNECTION, message, None);
         self.dropped(vec![0x5A; 8192]);
     }
 
@@ -194,9 +183,8 @@ impl Sent<'_> {
         let ranges: Vec<Asked> = (0..LOCKS as u64).map(|n| (7, 600 + 2 * n, 2)).collect();
         self.done(TERMINAL, &[locking(FID, 0, &[], &ranges)]);
         let one = locking(BEHIND, 1, &[], &[(8, 0, 1)]);
-        let wanted = NoLockRecord.class_and_code();
-        self.with(OTHER, std::slice::from_ref(&one), wanted);
-        self.with(OTHER, &[one.clone(), read(BEHIND, 0, 9)], wanted);
+        self.refused(OTHER, std::slice::from_ref(&one), NoLockRecord);
+        self.refused(OTHER, &[one.clone(), read(BEHIND, 0, 9)], NoLockRecord);
         self.done(TERMINAL, &[locking(FID, 0, &ranges, &[])]);
         self.done(OTHER, &[one]);
     }
@@ -218,24 +206,23 @@ impl Sent<'_> {
         }
         self.done(TERMINAL, &[locking(FID, 0, &[], &[]), core_read(FID, 0, 9)]);
         let refused = [
-            (core_read(BEHIND, 109, 1), Conflict),
-            (core_write(BEHIND, 109, b"x"), Conflict),
-            (core_write(BEHIND, 105, b""), Conflict),
+            (core_read(BEHIND, 109, 1), FileLockConflict),
+            (core_write(BEHIND, 109, b"x"), FileLockConflict),
+            (core_write(BEHIND, 105, b""), FileLockConflict),
             (core_write(BEHIND, 4096, b"x"), FileFull),
             (core_write(BEHIND, 4097, b""), FileFull),
             (core_read(9, 0, 9), NoOpen),
         ];
         for (ask, refusal) in refused {
-            let wanted = refusal.class_and_code();
-            self.with(OTHER, std::slice::from_ref(&ask), wanted);
-            self.with(OTHER, &[locking(BEHIND, 0, &[], &[]), ask], wanted);
+            self.refused(OTHER, std::slice::from_ref(&ask), refusal);
+            self.refused(OTHER, &[locking(BEHIND, 0, &[], &[]), ask], refusal);
         }
         for (ask, refusal) in [
-            (lock_range(BEHIND, 109, 1), Conflict),
+            (lock_range(BEHIND, 109, 1), LockNotGranted),
             (unlock_range(BEHIND, 100, 10), NotLocked),
             (core_write(READ_ONLY, 0, b""), Access),
         ] {
-            self.with(OTHER, &[ask], refusal.class_and_code());
+            self.refused(OTHER, &[ask], refusal);
         }
         let asks = [locking(FID, 0, &[held], &[]), core_write(FID, 50, b"w")];
         self.done(TERMINAL, &asks);
@@ -268,9 +255,8 @@ impl Sent<'_> {
             (open(0, 2, b"revoked.TXT"), Sharing),
         ];
         for (ask, refusal) in refused {
-            let wanted = refusal.class_and_code();
-            self.with(TERMINAL, std::slice::from_ref(&ask), wanted);
-            self.with(TERMINAL, &[ask, just.clone()], wanted);
+            self.refused(TERMINAL, std::slice::from_ref(&ask), refusal);
+            self.refused(TERMINAL, &[ask, just.clone()], refusal);
         }
         let mode = Ask::Open {
             flags: 0,
@@ -278,13 +264,12 @@ impl Sent<'_> {
             open_mode: 2,
             name: b"notes".to_vec(),
         };
-        self.with(TERMINAL, &[mode], NotSupported.class_and_code());
+        self.refused(TERMINAL, &[mode], NotSupported);
         let asks = [open(1, 4, b"notes"), just.clone()];
-        self.with(TERMINAL, &asks, Access.class_and_code());
-        self.with(TERMINAL, &[just], NoOpen.class_and_code());
+        self.refused(TERMINAL, &asks, Access);
+        self.refused(TERMINAL, &[just], NoOpen);
         self.done(OTHER, &[open(2, 1, b"empty")]);
-        let barred = Sharing.class_and_code();
-        self.with(TERMINAL, &[open(0, 4, b"EMPTY")], barred);
+        self.refused(TERMINAL, &[open(0, 4, b"EMPTY")], Sharing);
     }
 
     /// Every FID in use, and none for one more.
@@ -292,28 +277,26 @@ impl Sent<'_> {
         while self.maker.tables().opens.count < OPENS {
             self.done(OTHER, &[open(0, 4, b"notes")]);
         }
-        let wanted = NoFid.class_and_code();
-        self.with(TERMINAL, &[open(0, 4, b"notes")], wanted);
+        self.refused(TERMINAL, &[open(0, 4, b"notes")], NoFid);
         let asks = [open(0, 4, b"notes"), read(JUST_OPENED, 0, 9)];
-        self.with(TERMINAL, &asks, wanted);
+        self.refused(TERMINAL, &asks, NoFid);
     }
 
     /// The opens, the tree and the session go, and what is asked of them then.
     fn leaving(&mut self) {
-        let wanted = NoOpen.class_and_code();
         self.done(
             TERMINAL,
             &[write(FID, 10, b"last"), Ask::Close { fid: FID }],
         );
-        self.with(TERMINAL, &[read(FID, 0, 4)], wanted);
+        self.refused(TERMINAL, &[read(FID, 0, 4)], NoOpen);
         self.done(TERMINAL, &[read(READ_ONLY, 0, 40)]);
         self.done(TERMINAL, &[Ask::Close { fid: READ_ONLY }]);
         self.done(OTHER, &[Ask::ProcessExit]);
-        self.with(OTHER, &[read(BEHIND, 0, 4)], wanted);
+        self.refused(OTHER, &[read(BEHIND, 0, 4)], NoOpen);
         self.done(TERMINAL, &[Ask::TreeDisconnect]);
-        self.with(TERMINAL, &[read(FID, 0, 4)], NoTree.class_and_code());
+        self.refused(TERMINAL, &[read(FID, 0, 4)], NoTree);
         self.done(TERMINAL, &[Ask::Logoff]);
-        self.with(TERMINAL, &[Ask::Logoff], NoSession.class_and_code());
+        self.refused(TERMINAL, &[Ask::Logoff], NoSession);
     }
 }
 
