@@ -3,7 +3,7 @@
 //! and the successions that are not in the grammar.
 
 use crate::sides::Given;
-use crate::tally::{commands, enough, status};
+use crate::tally::{commands, enough, LEAST};
 use second::call::Call;
 use second::grammar::{
     blocks, Block, Why, CORE, DATA_BLOCK_HEAD, DATA_MARK, LOCKING_ANDX, LOCK_BYTE_RANGE, READ,
@@ -13,33 +13,38 @@ use second::header::header_numbers;
 use second::listing::dropped;
 use second::refusals::WireRefusal::{self, *};
 use second::request::Request;
+use second::status::class_and_code;
 use second::tables::{Lock, Range, Tables, FILES, FILE_BYTES};
 use second::words::{unpack, Words};
 use std::cmp::Ordering;
 use std::collections::BTreeMap;
 
-/// Fewest times for each thing.
-const LEAST: usize = 50;
-
 const AMONG: [&str; 2] = ["alone", "behind LOCKING"];
 
 /// What each command can be refused for; "2/65535 and 1/87 can't arise for LOCK".
 const ALONE: [(u8, &[WireRefusal]); 4] = [
-    (READ, &[NoSession, NoTree, NoOpen, Access, Conflict]),
+    (READ, &[NoSession, NoTree, NoOpen, Access, FileLockConflict]),
     (
         WRITE,
-        &[NoSession, NoTree, NoOpen, Access, Conflict, FileFull],
+        &[
+            NoSession,
+            NoTree,
+            NoOpen,
+            Access,
+            FileLockConflict,
+            FileFull,
+        ],
     ),
     (
         LOCK_BYTE_RANGE,
-        &[NoSession, NoTree, NoOpen, Conflict, NoLockRecord],
+        &[NoSession, NoTree, NoOpen, LockNotGranted, NoLockRecord],
     ),
     (UNLOCK_BYTE_RANGE, &[NoSession, NoTree, NoOpen, NotLocked]),
 ];
 /// Behind a LOCKING that was done there are a session and a tree.
 const BEHIND: [(u8, &[WireRefusal]); 2] = [
-    (READ, &[NoOpen, Access, Conflict]),
-    (WRITE, &[NoOpen, Access, Conflict, FileFull]),
+    (READ, &[NoOpen, Access, FileLockConflict]),
+    (WRITE, &[NoOpen, Access, FileLockConflict, FileFull]),
 ];
 
 const READS: [&str; 5] = [
@@ -236,7 +241,7 @@ impl CoreCommands {
         let shared = held.iter().any(|lock| over(lock) && lock.shared);
         let what = format!("size {change} over an own exclusive lock");
         self.met_if(told.done && exclusive, &what);
-        let barred = told.status == Conflict.class_and_code();
+        let barred = told.status == FileLockConflict.class_and_code();
         self.met_if(barred && shared, "size refused for an own shared lock");
         if told.done {
             let bars = |lock: &Lock| lock.shared || !own(lock);
@@ -400,8 +405,8 @@ impl<'m> Told<'m> {
             command: block.command,
             request,
             process,
-            status: status(reply),
-            done: status(reply) == (0, 0),
+            status: class_and_code(reply),
+            done: class_and_code(reply) == (0, 0),
             before,
             file,
             size: file.map(|file| before.files[file].size),

@@ -4,18 +4,16 @@
 
 use crate::core_commands::between;
 use crate::sides::Given;
-use crate::tally::{commands, enough, status};
+use crate::tally::{commands, enough, LEAST};
 use second::grammar::{blocks, LOCKING_ANDX, LOCK_BYTE_RANGE, READ, READ_ANDX, WRITE};
 use second::header::header_numbers;
 use second::processes::{above_65_535, twins};
 use second::refusals::WireRefusal;
 use second::request::{OwnedRange, Request, TYPE_SHARED};
+use second::status::class_and_code;
 use second::tables::{Lock, Range, Tables};
 use second::words::{unpack, HolderWords, Words};
 use std::collections::BTreeMap;
-
-/// Fewest times for each thing.
-const LEAST: usize = 50;
 
 /// Where the command that a lock barred stood.
 const PLACES: [&str; 4] = ["alone", "before others", "second", "third or later"];
@@ -87,7 +85,7 @@ pub struct Holders {
 impl Holders {
     /// Counts a message, these being the words after it.
     pub fn count(&mut self, message: &[u8], given: Given, reply: &[u8], words: &Words) {
-        let answer = match (given.number, status(reply)) {
+        let answer = match (given.number, class_and_code(reply)) {
             (0, (0, 0)) => "done".to_string(),
             (0, (class, code)) => format!("{class}/{code}"),
             (number, _) => format!("number {number}"),
@@ -100,7 +98,7 @@ impl Holders {
         };
         let entry = self.answers.entry(format!("{answer}: {written}"));
         *entry.or_default() += 1;
-        if let (0, (1, 33), Some(holder)) = (given.number, status(reply), given.holder) {
+        if let (0, (1, 33), Some(holder)) = (given.number, class_and_code(reply), given.holder) {
             let begun = commands(message, reply).len();
             match Conflict::new(message, begun, holder, words) {
                 Ok(conflict) => conflict.count(self),
@@ -155,7 +153,7 @@ fn answers() -> Vec<String> {
     for refusal in WireRefusal::ALL {
         let (class, code) = refusal.class_and_code();
         let written = match refusal {
-            WireRefusal::Conflict => "a holder",
+            WireRefusal::LockNotGranted | WireRefusal::FileLockConflict => "a holder",
             _ => "nobody",
         };
         all.push(format!("{class}/{code}: {written}"));

@@ -17,6 +17,7 @@ mod plan;
 mod processes;
 mod report;
 mod sides;
+mod statuses;
 mod stream;
 mod tally;
 

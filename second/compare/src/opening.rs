@@ -6,14 +6,11 @@ mod asked;
 
 use crate::catalogues::{broken, RULES};
 use crate::sides::Given;
-use crate::tally::enough;
+use crate::tally::{enough, LEAST};
 use second::call::Call;
 use second::tables::{Tables, DENY_NONE};
 use second::words::{unpack, Words, CATALOGUE};
 use std::collections::{BTreeMap, BTreeSet};
-
-/// Fewest times for each thing.
-const LEAST: usize = 50;
 
 const CATALOGUES: [&str; 4] = [
     "catalogue set: empty",

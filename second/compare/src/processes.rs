@@ -4,18 +4,16 @@
 
 use crate::core_commands::between;
 use crate::sides::Given;
-use crate::tally::{commands, enough, status};
+use crate::tally::{commands, enough, LEAST};
 use second::call::Call;
 use second::grammar::{blocks, READ, WRITE};
 use second::header::header_numbers;
 use second::processes::{above_65_535, twins};
 use second::request::{OwnedRange, Request, TYPE_LARGE};
+use second::status::class_and_code;
 use second::tables::{Lock, Open, Range, Tables};
 use second::words::{unpack, Words};
 use std::collections::BTreeMap;
-
-/// Fewest times for each thing.
-const LEAST: usize = 50;
 
 /// What is to be met.
 const MET: [&str; 12] = [
@@ -91,7 +89,7 @@ impl Processes {
             return;
         };
         let (uid, _, process) = header_numbers(message);
-        let done = status(reply) == (0, 0) || commands(message, reply).len() > 1;
+        let done = class_and_code(reply) == (0, 0) || commands(message, reply).len() > 1;
         let held = before.locks.in_use();
         let request = Request::read(message, &block);
         let covered = covered(block.command, &request, before);
@@ -107,7 +105,7 @@ impl Processes {
                 kind,
                 unlocks,
                 locks,
-            } if done || status(reply) == (1, 158) => {
+            } if done || class_and_code(reply) == (1, 158) => {
                 let form = match kind & TYPE_LARGE {
                     0 => "10 bytes",
                     _ => "20 bytes",
@@ -119,7 +117,7 @@ impl Processes {
             Request::Lock { .. } if done => {
                 self.met_if(above_65_535(process), &format!("LOCK: {TAKEN}"));
             }
-            Request::Unlock { fid, range } if done || status(reply) == (1, 158) => {
+            Request::Unlock { fid, range } if done || class_and_code(reply) == (1, 158) => {
                 let unlock = OwnedRange { process, range };
                 self.count_unlocks(fid, std::iter::once(unlock), "UNLOCK", held, done);
             }

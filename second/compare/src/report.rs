@@ -6,6 +6,7 @@ use second::call::Call;
 use second::header::header_numbers;
 use second::listing::{answer, Answer};
 use second::request::{Ranges, Request};
+use second::status::Form;
 use second::words::{HolderWords, Words, WORDS};
 
 /// Most differences of one kind that are printed.
@@ -177,7 +178,8 @@ fn explained(message: &[u8]) -> String {
         }
         Answer::Chain(blocks) => {
             let (uid, tid, process) = header_numbers(message);
-            let mut text = format!("  TID {tid}, process {process}, UID {uid}\n");
+            let form = Form::of(message);
+            let mut text = format!("  TID {tid}, process {process}, UID {uid}, {form:?} status\n");
             for block in blocks {
                 let request = request(&Request::read(message, &block));
                 text += &format!("  {:02X}: {request}\n", block.command);

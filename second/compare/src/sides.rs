@@ -2,9 +2,10 @@
 
 use crate::call::{own, theirs, Places, Trial};
 use crate::report;
-use crate::tally::status;
 use linked::guarded::{Guarded, Side};
+use second::header::HEADER;
 use second::rng::Rng;
+use second::status::Status;
 use second::tables::MEMORY_BYTES;
 use second::words::{HolderWords, Words, HOLDER_WORDS, WORDS};
 
@@ -73,10 +74,10 @@ impl Sides {
         differences.extend(self.holders_differing(trial, side, &lent));
         if number != their_number {
             differences.insert(0, format!("number: {number}, library's {their_number}"));
-        } else if !differences.is_empty() && number == 0 && trial.room() > 9 {
+        } else if !differences.is_empty() && number == 0 && trial.room() >= HEADER {
             let room = self.library.room.place(trial.room(), side);
-            let (own, theirs) = (status(&self.room), status(room));
-            differences.insert(0, format!("status: {own:?}, library's {theirs:?}"));
+            let (own, theirs) = (Status::of(&self.room), Status::of(room));
+            differences.insert(0, format!("status: {own}, library's {theirs}"));
         }
         if !differences.is_empty() {
             return Err(report::whole(trial, side, &before, &differences));

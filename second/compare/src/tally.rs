@@ -6,14 +6,16 @@ use crate::holders::Holders;
 use crate::opening::Opening;
 use crate::processes::Processes;
 use crate::sides::Given;
+use crate::statuses::{possible, refusal, Statuses};
 use second::call::Call;
 use second::grammar::{is_andx, SERVED};
 use second::refusals::WireRefusal;
+use second::status::{Form, Status};
 use second::words::Words;
 use std::collections::BTreeMap;
 
-/// Fewest times for a number of a call, and for a refusal on the wire.
-const LEAST: usize = 50;
+/// Fewest times for each thing that must be met, of calls and of streams.
+pub const LEAST: usize = 50;
 /// Fewest times for a refusal of a given command.
 const LEAST_OF_COMMAND: usize = 20;
 
@@ -33,6 +35,7 @@ pub struct Tally {
     successions: BTreeMap<(u8, u8), usize>,
     lengths: BTreeMap<&'static str, usize>,
     longest: usize,
+    statuses: Statuses,
     /// Most sessions, trees, opens, locks and names at a time.
     most: [u64; 5],
     holders: Holders,
@@ -90,28 +93,6 @@ const WIDE: [&str; 7] = [
     "a load's file",
 ];
 
-/// Whether a command can be refused so.
-fn possible(refusal: WireRefusal, command: u8) -> bool {
-    let commands: &[u8] = match refusal {
-        WireRefusal::NotServed => &[],
-        WireRefusal::NotASentence | WireRefusal::NoSession => &SERVED,
-        WireRefusal::NoTree => &[0x04, 0x0A, 0x0B, 0x0C, 0x0D, 0x24, 0x2D, 0x2E, 0x2F, 0x71],
-        WireRefusal::NoOpen => &[0x04, 0x0A, 0x0B, 0x0C, 0x0D, 0x24, 0x2E, 0x2F],
-        WireRefusal::Access => &[0x0A, 0x0B, 0x2D, 0x2E, 0x2F],
-        WireRefusal::Conflict => &[0x0A, 0x0B, 0x0C, 0x24, 0x2E, 0x2F],
-        WireRefusal::NotSupported => &[0x24, 0x2D],
-        WireRefusal::RangePasses => &[0x24],
-        WireRefusal::NotLocked => &[0x0D, 0x24],
-        WireRefusal::NoLockRecord => &[0x0C, 0x24],
-        WireRefusal::FileFull => &[0x0B, 0x2F],
-        WireRefusal::AccessCode
-        | WireRefusal::NoName
-        | WireRefusal::Sharing
-        | WireRefusal::NoFid => &[0x2D],
-    };
-    commands.contains(&command)
-}
-
 fn length_class(blocks: usize) -> &'static str {
     match blocks {
         1 => "  1",
@@ -122,14 +103,6 @@ fn length_class(blocks: usize) -> &'static str {
         10..=99 => " 10 to 99",
         100..=199 => "100 to 199",
         _ => "200 and more",
-    }
-}
-
-/// Class and code of a reply; 0 of none.
-pub fn status(reply: &[u8]) -> (u8, u16) {
-    match reply {
-        [] => (0, 0),
-        _ => (reply[5], u16::from_le_bytes([reply[7], reply[8]])),
     }
 }
 
@@ -196,21 +169,17 @@ impl Tally {
     }
 
     fn count_reply(&mut self, message: &[u8], reply: &[u8]) {
-        let (commands, status) = (commands(message, reply), status(reply));
+        let commands = commands(message, reply);
         for pair in commands.windows(2) {
             self.succession(pair[0], pair[1]);
         }
+        let last = commands[commands.len() - 1];
+        self.statuses.count(message, reply, last);
         let mut done = &commands[..];
-        if status != (0, 0) {
-            let last = commands[commands.len() - 1];
-            let refusal = WireRefusal::ALL
-                .into_iter()
-                .find(|r| r.class_and_code() == status);
-            let refusal = refusal.expect("a code of the table");
-            let of = if refusal == WireRefusal::NotServed {
-                0
-            } else {
-                last
+        if let Some(refusal) = refusal(Status::of(reply), last) {
+            let of = match refusal {
+                WireRefusal::NotServed => 0,
+                _ => last,
             };
             *self.refused.entry((refusal, of)).or_default() += 1;
             if commands.len() > 1 {
@@ -251,6 +220,7 @@ impl Tally {
             self.print_refused(),
             self.print_done(),
             self.print_chains(),
+            self.statuses.print(),
             self.holders.print(),
             self.processes.print(),
             self.core.print(),
@@ -302,13 +272,14 @@ impl Tally {
             let all: usize = of.iter().map(|(_, count)| count).sum();
             let later = self.refused_later.get(&refusal).copied().unwrap_or(0);
             let by: Vec<String> = of.iter().map(|(c, n)| format!("{c:02X}: {n}")).collect();
-            let (class, code) = refusal.class_and_code();
-            println!("  {class}/{code}: {all}; {later}; {}", by.join(", "));
-            good &= enough(all, LEAST, &format!("{class}/{code}"));
+            let [smb, nt] = Form::BOTH.map(|form| refusal.status(form));
+            let name = format!("{smb}, {nt}");
+            println!("  {name}: {all}; {later}; {}", by.join(", "));
+            good &= enough(all, LEAST, &name);
             for command in SERVED {
                 if possible(refusal, command) {
                     let count = self.refused.get(&(refusal, command)).copied().unwrap_or(0);
-                    let what = format!("{class}/{code} for {command:02X}");
+                    let what = format!("{name} for {command:02X}");
                     good &= enough(count, LEAST_OF_COMMAND, &what);
                 }
             }

@@ -2,7 +2,7 @@
 //! reply, and the tables before and after.
 
 use super::Opening;
-use crate::tally::{commands, status};
+use crate::tally::commands;
 use second::grammar::{
     blocks, Block, Why, CLOSE, LOCKING_ANDX, LOCK_BYTE_RANGE, READ, READ_ANDX, UNLOCK_BYTE_RANGE,
     WRITE, WRITE_ANDX,
@@ -11,6 +11,7 @@ use second::header::header_numbers;
 use second::listing::dropped;
 use second::refusals::WireRefusal::{self, *};
 use second::request::{Request, ToOpen, JUST_OPENED};
+use second::status::class_and_code;
 use second::tables::{denied, Open, Tables, OPENS};
 
 const AMONG: [&str; 2] = ["OPEN alone", "OPEN before READ"];
@@ -144,7 +145,7 @@ impl<'m> Sentence<'m> {
             begun: requests.collect(),
             blocks: read.len(),
             asker: header_numbers(message),
-            status: status(reply),
+            status: class_and_code(reply),
             given: match reply[32] {
                 15 => Some(u16::from_le_bytes([reply[37], reply[38]])),
                 _ => None,

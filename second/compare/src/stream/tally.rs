@@ -1,11 +1,10 @@
 //! Counts what the streams met, and says what was not met often enough.
 
 use super::plan::{Kind, Stream, BAD};
+use crate::tally::{enough, LEAST};
+use second::status::Status;
 use second::stream_words::{StepWords, StreamWords, IN_BUFFER, IN_PIECE, NO_STATE};
 use std::collections::BTreeMap;
-
-/// Fewest times for each.
-const LEAST: usize = 50;
 
 /// What must be met, besides the classes of bad headers.
 const MET: [&str; 51] = [
@@ -191,7 +190,7 @@ impl StreamTally {
     /// A message of the history and its reply.
     pub fn taken(&mut self, number: u8, reply: &[u8]) {
         self.met(match number {
-            0 if reply[5] == 0 => "history: message done",
+            0 if Status::of(reply).value == 0 => "history: message done",
             0 => "history: message refused on the wire",
             _ => "history: message dropped",
         });
@@ -204,7 +203,7 @@ impl StreamTally {
         for what in MET.into_iter().chain(BAD.map(|(name, _)| name)) {
             let count = self.counts.get(what).copied().unwrap_or(0);
             println!("  {what}: {count}");
-            good &= crate::tally::enough(count, LEAST, what);
+            good &= enough(count, LEAST, what);
         }
         good
     }
