@@ -206,8 +206,8 @@ fn flags2_of_replies() {
     }
 }
 
-/// "Without the bit every byte is as before", and with it only the bit and Status
-/// are other bytes; what is done is the same.
+/// The bit and Status apart, the two replies have the same bytes; what is done and
+/// who holds the lock are the same too.
 #[test]
 fn the_form_changes_nothing_else() {
     for (world, ask, _) in refused() {
