@@ -5,6 +5,7 @@
 #include <stdbool.h>
 #include <stdio.h>
 
+#define NT_STATUS 0x4000 /* the bit of Flags2, at 10 of a header, with which Status is an NTSTATUS */
 #define FIRST_BLOCK 32 /* the first block stands behind the header */
 #define NO_COMMAND 0xFF /* an AndXCommand that ends the chain */
 #define CORE_READ 0x0A
@@ -13,31 +14,39 @@
 #define DATA_BLOCK 3 /* bytes before a core READ's data: a mark, and the length in two bytes */
 #define DUMP_WIDTH 16
 
-/* A status as it stands in a header: class at 5, 0, code at 7. */
+/*
+ * A status in both of its forms, as it stands in a header at 5: class, 0 and code, or, with NT_STATUS in Flags2, an NTSTATUS,
+ * with its name in [MS-CIFS] and [MS-ERREF]. 1/33 is two of these: a lock refused, then a read or write refused.
+ */
 struct status {
     unsigned class, code;
+    unsigned long nt;
+    const char *name;
     const char *words;
 };
 
 static const struct status statuses[] = {
-    {0, 0, "done"},
-    {1, 2, "no such name"},
-    {1, 4, "all 64 FIDs in use"},
-    {1, 5, "access refused"},
-    {1, 6, "no open of that FID, UID and TID"},
-    {1, 8, "no lock record free"},
-    {1, 12, "access or sharing code not served"},
-    {1, 32, "sharing conflict"},
-    {1, 33, "lock conflict"},
-    {1, 87, "lock range passes 2^64"},
-    {1, 158, "no such lock to release"},
-    {2, 1, "not a sentence of the grammar"},
-    {2, 5, "no tree of that TID and UID"},
-    {2, 22, "command not served"},
-    {2, 91, "no session of that UID on this connection"},
-    {2, 65535, "lock type or OpenMode not served"},
-    {3, 39, "write would end past 4,096"},
+    {0, 0, 0x00000000, "STATUS_SUCCESS", "done"},
+    {1, 2, 0xC000000F, "STATUS_NO_SUCH_FILE", "no such name"},
+    {1, 4, 0xC000011F, "STATUS_TOO_MANY_OPENED_FILES", "all 64 FIDs in use"},
+    {1, 5, 0xC0000022, "STATUS_ACCESS_DENIED", "access refused"},
+    {1, 6, 0xC0000008, "STATUS_INVALID_HANDLE", "no open of that FID, UID and TID"},
+    {1, 8, 0xC0000205, "STATUS_INSUFF_SERVER_RESOURCES", "no lock record free"},
+    {1, 12, 0x000C0001, "STATUS_OS2_INVALID_ACCESS", "access or sharing code not served"},
+    {1, 32, 0xC0000043, "STATUS_SHARING_VIOLATION", "sharing conflict"},
+    {1, 33, 0xC0000055, "STATUS_LOCK_NOT_GRANTED", "lock conflict"},
+    {1, 33, 0xC0000054, "STATUS_FILE_LOCK_CONFLICT", "lock conflict"},
+    {1, 87, 0xC000000D, "STATUS_INVALID_PARAMETER", "lock range passes 2^64"},
+    {1, 158, 0xC000007E, "STATUS_RANGE_NOT_LOCKED", "no such lock to release"},
+    {2, 1, 0x00010002, "STATUS_INVALID_SMB", "not a sentence of the grammar"},
+    {2, 5, 0x00050002, "STATUS_SMB_BAD_TID", "no tree of that TID and UID"},
+    {2, 22, 0x00160002, "STATUS_SMB_BAD_COMMAND", "command not served"},
+    {2, 91, 0x005B0002, "STATUS_SMB_BAD_UID", "no session of that UID on this connection"},
+    {2, 65535, 0xC00000BB, "STATUS_NOT_SUPPORTED", "lock type or OpenMode not served"},
+    {3, 39, 0xC000007F, "STATUS_DISK_FULL", "write would end past 4,096"},
 };
+
+static const struct status not_defined = {0, 0, 0, "of no name", "a status that is not defined"};
 
 struct command {
     unsigned number;
@@ -108,14 +117,6 @@ const char *stream_number_in_words(uint8_t number)
     return "a number that is not defined";
 }
 
-static const char *status_in_words(unsigned class, unsigned code)
-{
-    for (size_t place = 0; place < sizeof statuses / sizeof statuses[0]; place++)
-        if (statuses[place].class == class && statuses[place].code == code)
-            return statuses[place].words;
-    return "a status that is not defined";
-}
-
 static const struct command *find_command(unsigned number)
 {
     for (size_t place = 0; place < sizeof commands / sizeof commands[0]; place++)
@@ -148,6 +149,32 @@ static unsigned get_word(const uint8_t *bytes)
 static unsigned long get_double(const uint8_t *bytes)
 {
     return get_word(bytes) | (unsigned long)get_word(bytes + 2) << 16;
+}
+
+static bool has_nt_status(const uint8_t *reply)
+{
+    return (get_word(reply + 10) & NT_STATUS) != 0;
+}
+
+static const struct status *find_status(const uint8_t *reply)
+{
+    for (size_t place = 0; place < sizeof statuses / sizeof statuses[0]; place++) {
+        const struct status *status = &statuses[place];
+        if (has_nt_status(reply) ? status->nt == get_double(reply + 5)
+                                 : status->class == reply[5] && status->code == get_word(reply + 7))
+            return status;
+    }
+    return &not_defined;
+}
+
+/* The status in the form that its reply has. */
+static void show_status(const uint8_t *reply)
+{
+    const struct status *status = find_status(reply);
+    if (has_nt_status(reply))
+        printf("  status %08lX %s: %s\n", get_double(reply + 5), status->name, status->words);
+    else
+        printf("  status %u/%u: %s\n", reply[5], get_word(reply + 7), status->words);
 }
 
 static void put_hex(const uint8_t *bytes, size_t length)
@@ -333,8 +360,7 @@ void show_taken(uint8_t number, const uint8_t *reply, size_t length, const struc
 {
     printf("  returned %u: %s\n", (unsigned)number, number_in_words(number));
     if (number == GATEWAY_DONE && length >= FIRST_BLOCK) {
-        unsigned class = reply[5], code = get_word(reply + 7);
-        printf("  status %u/%u: %s\n", class, code, status_in_words(class, code));
+        show_status(reply);
         show_holder(tables, holder);
         show_blocks(reply, length);
         printf("  reply, %zu bytes:\n", length);
