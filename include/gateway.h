@@ -5,6 +5,10 @@
  * commands of the oldest benches: like their ANDX counterparts, but for what docs/HOST.md says of them. OPEN_ANDX opens the
  * files that the host has named in the catalogue.
  *
+ * A reply's Status is class and code, or an NTSTATUS if the request has bit 0x4000 of Flags2, which the reply then has too. The
+ * request alone decides it and nothing is to be set. Refusals are named here by class and code, whatever the form: 1/33 is
+ * C0000055 of a lock and C0000054 of a read or write. docs/HOST.md has the list, and what a host must say in NEGOTIATE.
+ *
  * The host owns all memory. The tables are one struct of 64-bit words that the host keeps between calls, as it does the
  * file memory; the library keeps nothing. Start with gateway_empty. Calls on the same tables or the same file memory must
  * not run at the same time.
@@ -135,7 +139,7 @@ struct gateway_tables {
  * and the bytes are given beside it. The open of that FID always stands in those tables.
  */
 struct gateway_holder {
-    uint64_t held;    /* 1 if the reply's Status is 1/33; otherwise 0, and so is all else */
+    uint64_t held;    /* 1 if the reply's Status is 1/33, in either form; otherwise 0, and so is all else */
     uint64_t fid;     /* of the open through which the lock is held */
     uint64_t process; /* the owner's process, as in its lock */
     uint64_t place;   /* the lock's place in that list, from 0 */
@@ -199,7 +203,8 @@ uint8_t gateway_set_catalogue(struct gateway_tables *tables, const struct gatewa
 /*
  * Carries out one request message of a connection. On GATEWAY_DONE the reply is the first *reply_length bytes of the
  * room, the bytes behind it are as they were, and *holder says whose lock is in the way, or is all 0 if the message was not
- * refused 1/33; the reply does not tell it. memory_length must be GATEWAY_MEMORY and room_length at least GATEWAY_ROOM.
+ * refused 1/33; the reply does not tell it. The reply's Status has the form that the request asks for. memory_length must be
+ * GATEWAY_MEMORY and room_length at least GATEWAY_ROOM.
  *
  * A file's size grows by a write that ends behind it. A core WRITE of count 0 sets it to the offset, at most 4,096: where the
  * file grows zeros are put behind the old size; where it shrinks the bytes stay in the file memory, but are not sent again,
