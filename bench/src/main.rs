@@ -1,6 +1,6 @@
 //! Measures the gateway library beside the second program, in one run: what a
-//! message costs, how the cost grows with a chain, what the stream adds, and
-//! how much stack a call uses. Prints tables in Markdown.
+//! message costs, in both forms of its Status, how the cost grows with a chain,
+//! what the stream adds, and how much stack a call uses. Prints tables in Markdown.
 
 mod clock;
 mod measure;
@@ -36,6 +36,7 @@ fn main() {
     };
     let scenes = scene::all();
     message_table(&scenes, rounds);
+    status_table(&scenes, rounds);
     chain_table(&scenes, rounds);
     stream::table(&scenes[0], rounds);
     stack_table(&scenes);
@@ -76,6 +77,33 @@ fn message_line(scene: &Scene, request: &Request, rounds: usize) {
         cost.library / cost.words,
         cost.library / cost.own
     );
+}
+
+/// What NTSTATUS costs: each request in both forms, in the same rounds.
+fn status_table(scenes: &[Scene], rounds: usize) {
+    println!("Nanoseconds for a message that asks for class and code, and for NTSTATUS (nt), by the library (a) and the second program over the same words (b).");
+    println!();
+    println!("| request | tables | a | a, nt | nt / a | b | b, nt | nt / b |");
+    println!("|---|---|--:|--:|--:|--:|--:|--:|");
+    for scene in scenes {
+        for both in requests::in_both_forms(scene) {
+            let [plain, nt] = costs(scene, &both, rounds)[..] else {
+                unreachable!()
+            };
+            println!(
+                "| {} | {} | {:.0} | {:.0} | {:.2} | {:.0} | {:.0} | {:.2} |",
+                both[0].name,
+                scene.name,
+                plain.0,
+                nt.0,
+                nt.0 / plain.0,
+                plain.1,
+                nt.1,
+                nt.1 / plain.1
+            );
+        }
+    }
+    println!();
 }
 
 /// Chains of writes. Of writes that carry a byte 291 fit, of empty ones 302.

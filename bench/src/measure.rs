@@ -16,6 +16,7 @@ use crate::requests::Request;
 use crate::scene::Scene;
 use linked as gateway;
 use second::message::{take_message, ROOM_BYTES};
+use second::status::{class_and_code, Form};
 use second::words::{self, HolderWords, Words, HOLDER_WORDS};
 use std::hint::black_box;
 
@@ -205,11 +206,9 @@ fn check(scene: &Scene, request: &Request) {
         && (words, &lent.memory, &lent.room) == (own_words, &own.memory, &own.room)
         && lent.holder == own.holder;
     assert!(same, "the programs differ: {}", request.name);
-    let status = (
-        lent.room[5],
-        u16::from_le_bytes([lent.room[7], lent.room[8]]),
-    );
-    assert_eq!(status, request.status, "{}", request.name);
+    let answered = (Form::of(&lent.room), class_and_code(&lent.room));
+    let wanted = (Form::of(message), request.status);
+    assert_eq!(answered, wanted, "{}", request.name);
 }
 
 /// A request by each program.

@@ -2,17 +2,20 @@
 
 use crate::scene::{Scene, PROCESS};
 use second::builder::{
-    core_read, core_write, lock_range, message, open, unlock_range, Ask, Asked, Header,
+    core_read, core_write, lock_range, message, open, set_form, unlock_range, Ask, Asked, Header,
 };
 use second::request::JUST_OPENED;
+use second::status::Form;
 use second::tables::{DENY_NONE, FILE_BYTES};
 
 const LARGEST: usize = 8192;
 
-/// Stands in every byte that document 01 does not look at.
+/// Stands in every byte that the papers do not look at.
 const FILL: u8 = 0x5B;
 
-/// A message, and the status (class, code) with which it is answered.
+/// A message, and the status (class, code) with which it is answered, in the form
+/// that it asks for.
+#[derive(Clone)]
 pub struct Request {
     pub name: String,
     pub bytes: Vec<u8>,
@@ -27,7 +30,8 @@ impl Request {
     }
 
     fn from(name: &str, header: Header, asks: &[Ask]) -> Request {
-        let bytes = message(header, asks, &mut || 0, &mut || FILL);
+        let mut bytes = message(header, asks, &mut || 0, &mut || FILL);
+        set_form(&mut bytes, Form::Smb);
         assert!(bytes.len() <= LARGEST);
         Request {
             name: name.to_string(),
@@ -173,6 +177,20 @@ fn barred_read(scene: &Scene) -> Option<Request> {
         status: CONFLICT,
         ..Request::from("READ (refused 1/33 by the last lock)", header, &[ask])
     })
+}
+
+/// What is measured in both forms of Status (document 02, request 7): a READ
+/// and, where it is one, a refused lock. Each without the bit of Flags2, then with
+/// it.
+pub fn in_both_forms(scene: &Scene) -> Vec<[Request; 2]> {
+    let read = Request::new("READ, 64 bytes", scene, &[read(scene)]);
+    let both = |request: Request| {
+        let mut asked = request.clone();
+        set_form(&mut asked.bytes, Form::Nt);
+        [request, asked]
+    };
+    let requests = [Some(read), barred_lock(scene)];
+    requests.into_iter().flatten().map(both).collect()
 }
 
 /// A request, where the scene is one in which it is answered so.
