@@ -63,17 +63,17 @@ pub data EqualReadWrite (s : List ℕ) (at : ℕ) (t : List ℕ) (to : ℕ) : �
       → (coreCount s at ≡ 0 → ⊥) → part t (dataOffset t to) (dataLength t to) ≡ part s (markedData s at) (coreCount s at) → EqualReadWrite s at t to CORE-WRITE WRITE
 
 -- the range of a LOCK_BYTE_RANGE or an UNLOCK_BYTE_RANGE: "the process from the header"
-abbrev pub coreRange : List ℕ → LockRange
-coreRange s = record { process = senderProcess s; offset = rangeOffset s FIRST; length = rangeLength s FIRST }
+abbrev pub coreRangeOn : List ℕ → LockRange
+coreRangeOn s = record { process = senderProcess s; offset = rangeOffset s FIRST; length = rangeLength s FIRST }
 
 -- a core command's block at 32 in s and its counterpart's at 32 in t have equal fields. LOCK_BYTE_RANGE: "the lock is exclusive", and the LOCKING locks that one range
 -- and unlocks none; UNLOCK_BYTE_RANGE: it unlocks that one range and locks none. Its range is in either form (LockEffects.antt: `RangeOn`).
 pub data EqualFields (s t : List ℕ) : ℕ → ℕ → Type 0 where
   read-or-write : {core other : ℕ} → EqualReadWrite s FIRST t FIRST core other → EqualFields s t core other
   lock-fields : fidAfterAndx t FIRST ≡ firstFid s FIRST → OnlyTwoBits (lockType t FIRST) → lockType t FIRST % 2 ≡ 0 → unlockCount t FIRST ≡ 0 → lockCount t FIRST ≡ 1
-      → RangeOn t 0 (coreRange s) → EqualFields s t LOCK_BYTE_RANGE LOCKING
+      → RangeOn t 0 (coreRangeOn s) → EqualFields s t LOCK_BYTE_RANGE LOCKING
   unlock-fields : fidAfterAndx t FIRST ≡ firstFid s FIRST → OnlyTwoBits (lockType t FIRST) → unlockCount t FIRST ≡ 1 → lockCount t FIRST ≡ 0
-      → RangeOn t 0 (coreRange s) → EqualFields s t UNLOCK_BYTE_RANGE LOCKING
+      → RangeOn t 0 (coreRangeOn s) → EqualFields s t UNLOCK_BYTE_RANGE LOCKING
 
 -- one reply block of each, with the Status of both: refused alike, or done and what each says of the same
 pub data BlocksAlike (place : ℕ) : Status → List ℕ → List ℕ → Type 0 where
@@ -144,7 +144,7 @@ one-range-on (long-range z p o l) (short-range y p′ o′ l′) = absurd (omega
 one-range-on (long-range z p o l) (long-range y p′ o′ l′) = (p ∙ sym p′, o ∙ sym o′, l ∙ sym l′)
 
 -- the LOCKING block's byte area is that one range
-just-range : {s t : List ℕ} → Bytes s → IsBlock t FIRST LOCKING → unlockCount t FIRST + lockCount t FIRST ≡ 1 → RangeOn t 0 (coreRange s) → senderProcess t ≡ senderProcess s
+just-range : {s t : List ℕ} → Bytes s → IsBlock t FIRST LOCKING → unlockCount t FIRST + lockCount t FIRST ≡ 1 → RangeOn t 0 (coreRangeOn s) → senderProcess t ≡ senderProcess s
     → (c : Caller) → c .process ≡ senderProcess s → JustRange c (rangeFields s FIRST) (large t) (areaAt t FIRST)
 unfolding areaOf blockAt ofHeader
 just-range {s} {t} b h one on same c of =
