@@ -43,6 +43,7 @@ formsOf NoSuchFile = forms 1 2 0xC000000F
 formsOf BadShare = forms 1 32 0xC0000043
 formsOf NoFids = forms 1 4 0xC000011F
 
+-- a refusal's class and code, and its NTSTATUS
 abbrev pub statusOf : Refusal → Status
 statusOf why = formsOf why .status
 
