@@ -2,8 +2,9 @@
 //! and behind a LOCKING, the reads, the sizes set, the data blocks that are none,
 //! and the successions that are not in the grammar.
 
+use crate::counts::Counts;
 use crate::sides::Given;
-use crate::tally::{commands, enough, LEAST};
+use crate::tally::commands;
 use second::call::Call;
 use second::grammar::{
     blocks, Block, Why, CORE, DATA_BLOCK_HEAD, DATA_MARK, LOCKING_ANDX, LOCK_BYTE_RANGE, READ,
@@ -17,7 +18,6 @@ use second::status::class_and_code;
 use second::tables::{Lock, Range, Tables, FILES, FILE_BYTES};
 use second::words::{unpack, Words};
 use std::cmp::Ordering;
-use std::collections::BTreeMap;
 
 const AMONG: [&str; 2] = ["alone", "behind LOCKING"];
 
@@ -96,7 +96,7 @@ const DATA_BLOCKS: [&str; 9] = [
 
 #[derive(Default)]
 pub struct CoreCommands {
-    met: BTreeMap<String, usize>,
+    counts: Counts,
     /// Of each file, the size before it was lowered, up to which bytes are left.
     left: [u64; FILES],
     /// Of each file, bytes left by a lowering that were made 0 and not written.
@@ -124,16 +124,6 @@ impl CoreCommands {
         }
     }
 
-    fn met(&mut self, what: impl Into<String>) {
-        *self.met.entry(what.into()).or_default() += 1;
-    }
-
-    fn met_if(&mut self, holds: bool, what: &str) {
-        if holds {
-            self.met(what);
-        }
-    }
-
     fn count_message(&mut self, message: &[u8], reply: &[u8], before: &Tables) {
         if dropped(message).is_some() {
             return;
@@ -152,14 +142,16 @@ impl CoreCommands {
         let begun = commands(message, reply).len() == read.len();
         let among = AMONG[usize::from(read.len() > 1)];
         if CORE.contains(&last.command) && !begun {
-            self.met(format!("{} behind a LOCKING refused", name(last.command)));
+            let what = format!("{} behind a LOCKING refused", name(last.command));
+            self.counts.met(what);
         }
         if !simple || !begun {
             return self.forget(message, read, before);
         }
         let told = Told::new(message, last, reply, before);
         if CORE.contains(&last.command) {
-            self.met(format!("{} {among}: {}", name(last.command), told.answer()));
+            let (command, answer) = (name(last.command), told.answer());
+            self.counts.met(format!("{command} {among}: {answer}"));
             self.count_read(&told, reply, among);
             self.count_size(&told, among);
         }
@@ -192,9 +184,10 @@ impl CoreCommands {
             (count, asked) if count < asked => READS[2],
             _ => READS[3],
         };
-        self.met(format!("READ {among}: {what}"));
+        self.counts.met(format!("READ {among}: {what}"));
         let whole = count == FILE_BYTES as u64;
-        self.met_if(whole, &format!("READ {among}: {}", READS[4]));
+        let what = format!("READ {among}: {}", READS[4]);
+        self.counts.met_if(whole, &what);
     }
 
     fn count_size(&mut self, told: &Told, among: &str) {
@@ -206,7 +199,7 @@ impl CoreCommands {
             false => format!("refused {}", told.answer()),
         };
         let Some(old) = told.size else {
-            return self.met(format!("size {among}: {refused}"));
+            return self.counts.met(format!("size {among}: {refused}"));
         };
         let change = match size.cmp(&old) {
             _ if size > FILE_BYTES as u64 => "past 4,096",
@@ -214,13 +207,11 @@ impl CoreCommands {
             Ordering::Less => "lowered",
             Ordering::Equal => "kept",
         };
-        match refused.as_str() {
-            "" => self.met(format!("size {among}: {change}")),
-            "refused 1/33" | "refused 3/39" => {
-                self.met(format!("size {among}: {change}, {refused}"))
-            }
-            _ => self.met(format!("size {among}: {refused}")),
-        }
+        self.counts.met(match refused.as_str() {
+            "" => format!("size {among}: {change}"),
+            "refused 1/33" | "refused 3/39" => format!("size {among}: {change}, {refused}"),
+            _ => format!("size {among}: {refused}"),
+        });
         self.count_locks_between(told, fid, size, change);
     }
 
@@ -240,15 +231,17 @@ impl CoreCommands {
         let exclusive = held.iter().any(|lock| over(lock) && !lock.shared);
         let shared = held.iter().any(|lock| over(lock) && lock.shared);
         let what = format!("size {change} over an own exclusive lock");
-        self.met_if(told.done && exclusive, &what);
+        self.counts.met_if(told.done && exclusive, &what);
         let barred = told.status == FileLockConflict.class_and_code();
-        self.met_if(barred && shared, "size refused for an own shared lock");
+        let what = "size refused for an own shared lock";
+        self.counts.met_if(barred && shared, what);
         if told.done {
             let bars = |lock: &Lock| lock.shared || !own(lock);
             let barring = held.iter().filter(|lock| bars(lock)).map(|l| l.range);
             self.count_beside(barring, size, change);
             let empty = held.iter().any(|lock| strictly_inside(lock.range, range));
-            self.met_if(empty, "size changed over a lock of length 0");
+            let what = "size changed over a lock of length 0";
+            self.counts.met_if(empty, what);
         }
     }
 
@@ -265,7 +258,7 @@ impl CoreCommands {
         let length = 1;
         let at = byte.map(|offset| Range { offset, length });
         let beside = at.is_some_and(|byte| barring.any(|range| range.overlaps(byte)));
-        self.met_if(beside, what);
+        self.counts.met_if(beside, what);
     }
 
     /// Follows what lowerings leave past the sizes.
@@ -289,13 +282,13 @@ impl CoreCommands {
                     LEFT[4]
                 };
                 let shown = self.made_zero[file].is_some_and(|zero| zero.overlaps(range));
-                return self.met_if(shown, what);
+                return self.counts.met_if(shown, what);
             }
             _ => return,
         };
         let end = to.min(self.left[file]);
         if old < end {
-            self.met(what);
+            self.counts.met(what);
             let (offset, length) = (old, end - old);
             self.made_zero[file] = Some(Range { offset, length });
         } else if matches!(told.request, Request::Write { .. }) {
@@ -315,11 +308,12 @@ impl CoreCommands {
         match why {
             Why::Follower if CORE.contains(&message[place + 1]) => {
                 let next = name(message[place + 1]);
-                self.met(format!("{next} after {}: no sentence", name(command)));
+                let what = format!("{next} after {}: no sentence", name(command));
+                self.counts.met(what);
             }
             Why::ByteCount | Why::DataMark | Why::DataLength if command == WRITE => {
                 for what in wrong_parts(message, place) {
-                    self.met(format!("data block {among}: {what}"));
+                    self.counts.met(format!("data block {among}: {what}"));
                 }
             }
             _ => {}
@@ -328,14 +322,7 @@ impl CoreCommands {
 
     /// Prints the counts. False if something was met too seldom.
     pub fn print(&self) -> bool {
-        let mut good = true;
-        println!("core commands:");
-        for what in required() {
-            let count = self.met.get(&what).copied().unwrap_or(0);
-            println!("  {what}: {count}");
-            good &= enough(count, LEAST, &what);
-        }
-        good
+        self.counts.print("core commands", required())
     }
 }
 

@@ -3,8 +3,9 @@
 //! what the words say must be in it at that place.
 
 use crate::core_commands::between;
+use crate::counts::Counts;
 use crate::sides::Given;
-use crate::tally::{commands, enough, LEAST};
+use crate::tally::commands;
 use second::grammar::{blocks, LOCKING_ANDX, LOCK_BYTE_RANGE, READ, READ_ANDX, WRITE};
 use second::header::header_numbers;
 use second::processes::{above_65_535, twins};
@@ -13,7 +14,6 @@ use second::request::{OwnedRange, Request, TYPE_SHARED};
 use second::status::class_and_code;
 use second::tables::{Lock, Range, Tables};
 use second::words::{unpack, HolderWords, Words};
-use std::collections::BTreeMap;
 
 /// Where the command that a lock barred stood.
 const PLACES: [&str; 4] = ["alone", "before others", "second", "third or later"];
@@ -76,8 +76,8 @@ const ABOVE: &str = "a lock of a process above 65,535";
 #[derive(Default)]
 pub struct Holders {
     /// What was written with each answer.
-    answers: BTreeMap<String, usize>,
-    met: BTreeMap<String, usize>,
+    answers: Counts,
+    counts: Counts,
     /// What should not be.
     wrong: Vec<String>,
 }
@@ -96,8 +96,7 @@ impl Holders {
             Some([1, ..]) => "a holder",
             Some(_) => "no such words",
         };
-        let entry = self.answers.entry(format!("{answer}: {written}"));
-        *entry.or_default() += 1;
+        self.answers.met(format!("{answer}: {written}"));
         if let (0, (1, 33), Some(holder)) = (given.number, class_and_code(reply), given.holder) {
             let begun = commands(message, reply).len();
             match Conflict::new(message, begun, holder, words) {
@@ -107,38 +106,11 @@ impl Holders {
         }
     }
 
-    fn met(&mut self, what: impl Into<String>) {
-        *self.met.entry(what.into()).or_default() += 1;
-    }
-
-    fn met_if(&mut self, holds: bool, what: &str) {
-        if holds {
-            self.met(what);
-        }
-    }
-
     /// Prints the counts. False if something was met too seldom, or was wrong.
     pub fn print(&self) -> bool {
-        let mut good = true;
-        println!("words for the holder of a lock, by answer:");
-        let expected = answers();
-        for (answer, count) in &self.answers {
-            println!("  {answer}: {count}");
-            if !expected.contains(answer) {
-                println!("FAILED: met, and must not be: {answer}");
-                good = false;
-            }
-        }
-        for answer in expected {
-            let count = self.answers.get(&answer).copied().unwrap_or(0);
-            good &= enough(count, LEAST, &answer);
-        }
-        println!("holders:");
-        for what in holders() {
-            let count = self.met.get(&what).copied().unwrap_or(0);
-            println!("  {what}: {count}");
-            good &= enough(count, LEAST, &what);
-        }
+        let title = "words for the holder of a lock, by answer";
+        let mut good = self.answers.print_all(title, &answers());
+        good &= self.counts.print("holders", holders());
         for what in self.wrong.iter().take(5) {
             println!("FAILED: {what}");
         }
@@ -276,8 +248,8 @@ impl<'m> Conflict<'m> {
             (1, _) => PLACES[2],
             _ => PLACES[3],
         };
-        holders.met(format!("{command} {place}"));
-        holders.met_if(
+        holders.counts.met(format!("{command} {place}"));
+        holders.counts.met_if(
             above_65_535(self.holder().process),
             &format!("{command}: {ABOVE}"),
         );
@@ -286,20 +258,20 @@ impl<'m> Conflict<'m> {
                 self.count_locking(holders, fid, kind & TYPE_SHARED != 0)
             }
             Request::Lock { fid, range } => {
-                self.count_around(holders, fid, range, |_| true);
-                self.count_lock(holders, fid);
+                self.count_around(&mut holders.counts, fid, range, |_| true);
+                self.count_lock(&mut holders.counts, fid);
             }
             Request::Read { fid, range } => {
                 let own = |lock: &Lock| self.owns(fid, lock);
-                self.count_around(holders, fid, range, |l| !l.shared && !own(l));
-                self.count_read(holders, fid);
+                self.count_around(&mut holders.counts, fid, range, |l| !l.shared && !own(l));
+                self.count_read(&mut holders.counts, fid);
             }
             Request::Write { fid, offset, data } => {
                 let length = data.len() as u64;
-                self.count_write(holders, fid, Range { offset, length });
+                self.count_write(&mut holders.counts, fid, Range { offset, length });
             }
             Request::Resize { fid, size } => {
-                self.count_write(holders, fid, between(&self.tables, fid, size));
+                self.count_write(&mut holders.counts, fid, between(&self.tables, fid, size));
             }
             _ => holders
                 .wrong
@@ -311,9 +283,9 @@ impl<'m> Conflict<'m> {
         };
         let earlier = self.place >= self.tables.locks.count - granted;
         let what = "a lock granted by an earlier command of the chain";
-        holders.met_if(self.refused > 0 && earlier, what);
+        holders.counts.met_if(self.refused > 0 && earlier, what);
         let what = format!("{command}: {GRANTED}");
-        holders.met_if(self.refused == 1 && earlier, &what);
+        holders.counts.met_if(self.refused == 1 && earlier, &what);
     }
 
     /// Whether the sender holds the lock through the FID.
@@ -321,7 +293,7 @@ impl<'m> Conflict<'m> {
         (lock.fid, lock.process) == (fid, self.process)
     }
 
-    fn count_lock(&self, holders: &mut Holders, fid: u16) {
+    fn count_lock(&self, counts: &mut Counts, fid: u16) {
         let whose = match self.owns(fid, self.holder()) {
             true => "the asker's own",
             false => "another's",
@@ -330,18 +302,18 @@ impl<'m> Conflict<'m> {
             true => "shared",
             false => "exclusive",
         };
-        holders.met(format!("LOCK: {whose} {kind} lock"));
+        counts.met(format!("LOCK: {whose} {kind} lock"));
     }
 
-    fn count_read(&self, holders: &mut Holders, fid: u16) {
+    fn count_read(&self, counts: &mut Counts, fid: u16) {
         let [elsewhere, same, twin] = MET_BY_READS;
         let what = if self.holder().fid == fid {
             same
         } else {
             elsewhere
         };
-        holders.met(format!("{}: {what}", self.command));
-        holders.met_if(self.is_twins(fid), &format!("{}: {twin}", self.command));
+        counts.met(format!("{}: {what}", self.command));
+        counts.met_if(self.is_twins(fid), &format!("{}: {twin}", self.command));
     }
 
     /// Whether the holder's process differs in the upper half only.
@@ -350,25 +322,25 @@ impl<'m> Conflict<'m> {
     }
 
     /// A write, or a size set, that covers the range.
-    fn count_write(&self, holders: &mut Holders, fid: u16, range: Range) {
+    fn count_write(&self, counts: &mut Counts, fid: u16, range: Range) {
         let own = |lock: &Lock| self.owns(fid, lock);
-        self.count_around(holders, fid, range, |l| l.shared || !own(l));
+        self.count_around(counts, fid, range, |l| l.shared || !own(l));
         let [own_shared, shared, exclusive, twin] = MET_BY_WRITES;
         let what = match (own(self.holder()), self.holder().shared) {
             (true, _) => own_shared,
             (false, true) => shared,
             (false, false) => exclusive,
         };
-        holders.met(format!("{}: {what}", self.command));
+        counts.met(format!("{}: {what}", self.command));
         let twins = self.is_twins(fid) && !self.holder().shared;
-        holders.met_if(twins, &format!("{}: {twin}", self.command));
+        counts.met_if(twins, &format!("{}: {twin}", self.command));
     }
 
     /// Counts the others in the way, and those that are not, around the holder.
     /// The test does not look at file and range.
     fn count_around(
         &self,
-        holders: &mut Holders,
+        counts: &mut Counts,
         fid: u16,
         range: Range,
         in_the_way: impl Fn(&Lock) -> bool,
@@ -387,7 +359,7 @@ impl<'m> Conflict<'m> {
             }),
         ];
         for (what, found) in MET_BY_EACH.into_iter().zip(found) {
-            holders.met_if(found, &format!("{}: {what}", self.command));
+            counts.met_if(found, &format!("{}: {what}", self.command));
         }
     }
 
@@ -406,20 +378,21 @@ impl<'m> Conflict<'m> {
                 .wrong
                 .push("a holder that bars no range".to_string());
         };
+        let counts = &mut holders.counts;
         let at = from + at;
         let range = asked[at].range;
-        self.count_around(holders, fid, range, |l| !(l.shared && shared));
-        holders.met_if(shared, "LOCKING: for a shared lock");
+        self.count_around(counts, fid, range, |l| !(l.shared && shared));
+        counts.met_if(shared, "LOCKING: for a shared lock");
         match (own, self.list[self.place].0) {
             (None, Some(in_table)) => {
                 let owner = (fid, asked[at].process);
                 let own = (self.holder().fid, self.holder().process) == owner;
-                holders.met_if(own, "LOCKING: the asker's own lock");
-                self.count_moved(holders, in_table, !unlocks.is_empty());
+                counts.met_if(own, "LOCKING: the asker's own lock");
+                self.count_moved(counts, in_table, !unlocks.is_empty());
                 let later = "LOCKING: a lock held, in the way of a range behind the first";
-                holders.met_if(at > 0, later);
+                counts.met_if(at > 0, later);
             }
-            _ => self.count_own(holders, !unlocks.is_empty()),
+            _ => self.count_own(counts, !unlocks.is_empty()),
         }
         let earlier = &self.list[..self.place.min(kept)];
         let crossed = asked[at + 1..].iter().any(|asked| {
@@ -427,28 +400,28 @@ impl<'m> Conflict<'m> {
             let same = |lock: &Lock| self.file(lock.fid) == self.file(fid);
             earlier.iter().any(|(_, lock)| same(lock) && meets(lock))
         });
-        holders.met_if(
+        counts.met_if(
             crossed,
             "LOCKING: while a later range meets an earlier lock",
         );
-        holders.met_if(self.place > 127, "LOCKING: at a place above 127");
+        counts.met_if(self.place > 127, "LOCKING: at a place above 127");
     }
 
-    fn count_moved(&self, holders: &mut Holders, in_table: usize, unlocks: bool) {
+    fn count_moved(&self, counts: &mut Counts, in_table: usize, unlocks: bool) {
         let moved = in_table != self.place;
-        holders.met_if(moved, "LOCKING: moved by unlocks of the same request");
+        counts.met_if(moved, "LOCKING: moved by unlocks of the same request");
         let behind = "LOCKING: in a request whose unlocks are all behind it";
-        holders.met_if(unlocks && !moved, behind);
+        counts.met_if(unlocks && !moved, behind);
     }
 
-    fn count_own(&self, holders: &mut Holders, unlocks: bool) {
-        holders.met("LOCKING: an own earlier range");
-        holders.met_if(unlocks, "LOCKING: an own earlier range behind unlocks");
+    fn count_own(&self, counts: &mut Counts, unlocks: bool) {
+        counts.met("LOCKING: an own earlier range");
+        counts.met_if(unlocks, "LOCKING: an own earlier range behind unlocks");
         let other = self.holder().process != self.process;
         let what = "LOCKING: an own earlier range of another process than the header's";
-        holders.met_if(other, what);
+        counts.met_if(other, what);
         let what = "LOCKING: an own earlier range of a process above 65,535";
-        holders.met_if(above_65_535(self.holder().process), what);
+        counts.met_if(above_65_535(self.holder().process), what);
     }
 }
 

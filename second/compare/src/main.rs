@@ -9,6 +9,7 @@
 mod call;
 mod catalogues;
 mod core_commands;
+mod counts;
 mod crash;
 mod damage;
 mod holders;

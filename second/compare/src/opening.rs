@@ -5,12 +5,12 @@
 mod asked;
 
 use crate::catalogues::{broken, RULES};
+use crate::counts::Counts;
 use crate::sides::Given;
-use crate::tally::{enough, LEAST};
 use second::call::Call;
 use second::tables::{Tables, DENY_NONE};
 use second::words::{unpack, Words, CATALOGUE};
-use std::collections::{BTreeMap, BTreeSet};
+use std::collections::BTreeSet;
 
 const CATALOGUES: [&str; 4] = [
     "catalogue set: empty",
@@ -31,7 +31,7 @@ const MOST_OPENS: u64 = 64;
 
 #[derive(Default)]
 pub struct Opening {
-    met: BTreeMap<String, usize>,
+    counts: Counts,
     /// The FIDs that the host's calls gave last.
     hosts: BTreeSet<u16>,
 }
@@ -39,16 +39,6 @@ pub struct Opening {
 impl Opening {
     pub fn begin_history(&mut self) {
         self.hosts.clear();
-    }
-
-    fn met(&mut self, what: impl Into<String>) {
-        *self.met.entry(what.into()).or_default() += 1;
-    }
-
-    fn met_if(&mut self, holds: bool, what: &str) {
-        if holds {
-            self.met(what);
-        }
     }
 
     /// Counts a call, these being the words before and after it.
@@ -86,7 +76,7 @@ impl Opening {
         let opens = before.opens.in_use().iter();
         let mut named = opens.filter(|open| !self.hosts.contains(&open.fid));
         let gone = named.any(|open| !after.opens.in_use().contains(open));
-        self.met_if(gone, &asked::removed(by));
+        self.counts.met_if(gone, &asked::removed(by));
     }
 
     fn count_set(&mut self, given: &[u64], number: u8, before: &Words) {
@@ -97,8 +87,8 @@ impl Opening {
                     16 => CATALOGUES[2],
                     _ => CATALOGUES[1],
                 };
-                self.met(which);
-                self.met_if(before[OPENS] > 0, CATALOGUES[3]);
+                self.counts.met(which);
+                self.counts.met_if(before[OPENS] > 0, CATALOGUES[3]);
             }
             7 => self.count_rule("catalogue refused", given),
             _ => {}
@@ -110,7 +100,7 @@ impl Opening {
         let broken = broken(words);
         let mut rules = RULES.iter().zip(broken).filter(|(_, broken)| *broken);
         if let (Some((rule, _)), None) = (rules.next(), rules.next()) {
-            self.met(format!("{what}: {rule} alone"));
+            self.counts.met(format!("{what}: {rule} alone"));
         }
     }
 
@@ -132,9 +122,9 @@ impl Opening {
             for code in codes.map(|word| before[word]) {
                 match code {
                     1..=4 => {}
-                    0 => self.met(SHARING[0]),
-                    5..=255 => self.met(SHARING[1]),
-                    _ => self.met(SHARING[2]),
+                    0 => self.counts.met(SHARING[0]),
+                    5..=255 => self.counts.met(SHARING[1]),
+                    _ => self.counts.met(SHARING[2]),
                 }
             }
         }
@@ -142,14 +132,7 @@ impl Opening {
 
     /// Prints the counts. False if something was met too seldom.
     pub fn print(&self) -> bool {
-        println!("opening by name:");
-        let mut good = true;
-        for what in required() {
-            let count = self.met.get(&what).copied().unwrap_or(0);
-            println!("  {what}: {count}");
-            good &= enough(count, LEAST, &what);
-        }
-        good
+        self.counts.print("opening by name", required())
     }
 }
 

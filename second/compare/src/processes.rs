@@ -3,8 +3,9 @@
 //! holders are counted with the holders.
 
 use crate::core_commands::between;
+use crate::counts::Counts;
 use crate::sides::Given;
-use crate::tally::{commands, enough, LEAST};
+use crate::tally::commands;
 use second::call::Call;
 use second::grammar::{blocks, READ, WRITE};
 use second::header::header_numbers;
@@ -13,7 +14,6 @@ use second::request::{OwnedRange, Request, TYPE_LARGE};
 use second::status::class_and_code;
 use second::tables::{Lock, Open, Range, Tables};
 use second::words::{unpack, Words};
-use std::collections::BTreeMap;
 
 /// What is to be met.
 const MET: [&str; 12] = [
@@ -42,7 +42,7 @@ const MET_BY_RELEASE: [&str; 3] = [
 
 #[derive(Default)]
 pub struct Processes {
-    met: BTreeMap<String, usize>,
+    counts: Counts,
 }
 
 impl Processes {
@@ -63,22 +63,15 @@ impl Processes {
             Call::AddOpen { uid, process, .. } => {
                 let mut opens = before.opens.in_use().iter();
                 let beside = opens.any(|o| u32::from(o.uid) == uid && twins(o.process, process));
-                self.met_if(
-                    above_65_535(process),
-                    "open added for a process above 65,535",
-                );
-                self.met_if(beside, "open added beside a twin's of the same UID");
+                let what = "open added for a process above 65,535";
+                self.counts.met_if(above_65_535(process), what);
+                let what = "open added beside a twin's of the same UID";
+                self.counts.met_if(beside, what);
             }
             Call::TakeMessage { ref message, .. } if blocks(message).all(|block| block.is_ok()) => {
                 self.count_first(message, reply, &before, &after)
             }
             _ => {}
-        }
-    }
-
-    fn met_if(&mut self, holds: bool, what: &str) {
-        if holds {
-            *self.met.entry(what.to_string()).or_default() += 1;
         }
     }
 
@@ -111,11 +104,12 @@ impl Processes {
                     _ => "20 bytes",
                 };
                 let taken = done && !locks.is_empty() && above_65_535(process);
-                self.met_if(taken, &format!("{form}: {TAKEN}"));
+                self.counts.met_if(taken, &format!("{form}: {TAKEN}"));
                 self.count_unlocks(fid, unlocks.iter(), form, held, done);
             }
             Request::Lock { .. } if done => {
-                self.met_if(above_65_535(process), &format!("LOCK: {TAKEN}"));
+                let what = format!("LOCK: {TAKEN}");
+                self.counts.met_if(above_65_535(process), &what);
             }
             Request::Unlock { fid, range } if done || class_and_code(reply) == (1, 158) => {
                 let unlock = OwnedRange { process, range };
@@ -132,7 +126,7 @@ impl Processes {
         let over = held
             .iter()
             .any(|lock| own(lock) && lock.range.overlaps(range));
-        self.met_if(over && above_65_535(owner.1), &what);
+        self.counts.met_if(over && above_65_535(owner.1), &what);
     }
 
     /// So many opens there were before.
@@ -152,11 +146,11 @@ impl Processes {
             true => "PROCESS_EXIT takes opens, a twin's stays",
             false => "PROCESS_EXIT takes nothing, a twin's open stays",
         };
-        self.met_if(!left.is_empty(), what);
+        self.counts.met_if(!left.is_empty(), what);
         let what = "PROCESS_EXIT takes opens, a twin's stays with its lock";
-        self.met_if(takes && locked, what);
+        self.counts.met_if(takes && locked, what);
         let what = "PROCESS_EXIT of a process above 65,535 takes opens";
-        self.met_if(takes && above_65_535(process), what);
+        self.counts.met_if(takes && above_65_535(process), what);
     }
 
     /// The unlocks in turn, up to the first that finds no lock.
@@ -175,33 +169,33 @@ impl Processes {
             let is_twins = |lock: &Lock| alike(lock) && twins(lock.process, unlock.process);
             let Some(place) = list.iter().position(equal) else {
                 let what = format!("{form}: unlock refused 1/158, a twin holding such a lock");
-                return self.met_if(list.iter().any(is_twins), &what);
+                return self.counts.met_if(list.iter().any(is_twins), &what);
             };
             let behind = list[..place].iter().any(is_twins);
             list.remove(place);
             let what = format!("{form}: unlock done with PIDHigh not 0");
-            self.met_if(done && above_65_535(unlock.process), &what);
+            let above = above_65_535(unlock.process);
+            self.counts.met_if(done && above, &what);
             let what = format!("{form}: unlock done, a twin's lock alike standing before it");
-            self.met_if(done && behind, &what);
+            self.counts.met_if(done && behind, &what);
         }
     }
 
     /// Prints the counts. False if something was met too seldom.
     pub fn print(&self) -> bool {
-        let mut good = true;
-        println!("processes above 65,535, and twins, which differ in the upper half only:");
-        let mut all: Vec<String> = MET.map(str::to_string).into();
-        all.extend(["10 bytes", "20 bytes"].map(|form| format!("{form}: {TAKEN}")));
-        for form in RELEASES {
-            all.extend(MET_BY_RELEASE.map(|what| format!("{form}: {what}")));
-        }
-        for what in all {
-            let count = self.met.get(&what).copied().unwrap_or(0);
-            println!("  {what}: {count}");
-            good &= enough(count, LEAST, &what);
-        }
-        good
+        let title = "processes above 65,535, and twins, which differ in the upper half only";
+        self.counts.print(title, required())
     }
+}
+
+/// All that must be met.
+fn required() -> Vec<String> {
+    let mut all: Vec<String> = MET.map(str::to_string).into();
+    all.extend(["10 bytes", "20 bytes"].map(|form| format!("{form}: {TAKEN}")));
+    for form in RELEASES {
+        all.extend(MET_BY_RELEASE.map(|what| format!("{form}: {what}")));
+    }
+    all
 }
 
 /// What a read or a write is called here, its FID, and the bytes that it covers.

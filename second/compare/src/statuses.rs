@@ -1,7 +1,7 @@
 //! Counts the Status of replies in its two forms (document 02, request 7), read
 //! from the replies' bytes, and the messages that ask for each form.
 
-use crate::tally::{enough, LEAST};
+use crate::counts::{enough, LEAST};
 use second::grammar::SERVED;
 use second::header::FLAGS2;
 use second::refusals::WireRefusal;

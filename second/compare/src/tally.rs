@@ -2,6 +2,7 @@
 
 use crate::call::Trial;
 use crate::core_commands::CoreCommands;
+use crate::counts::{enough, LEAST};
 use crate::holders::Holders;
 use crate::opening::Opening;
 use crate::processes::Processes;
@@ -14,8 +15,6 @@ use second::status::{Form, Status};
 use second::words::Words;
 use std::collections::BTreeMap;
 
-/// Fewest times for each thing that must be met, of calls and of streams.
-pub const LEAST: usize = 50;
 /// Fewest times for a refusal of a given command.
 const LEAST_OF_COMMAND: usize = 20;
 
@@ -328,11 +327,4 @@ impl Tally {
         }
         good
     }
-}
-
-pub fn enough(count: usize, least: usize, what: &str) -> bool {
-    if count < least {
-        println!("FAILED: met {count} times only: {what}");
-    }
-    count >= least
 }

@@ -186,9 +186,9 @@ impl Opening {
             }
             // ByteCount of a first block of 15 words.
             Err(reason) => match (reason.why, message.get(63..65)) {
-                (Why::NameEnd, Some([0, 0])) => self.met(MALFORMED[1]),
-                (Why::NameEnd, _) => self.met(MALFORMED[0]),
-                (Why::NameZero, _) => self.met(MALFORMED[2]),
+                (Why::NameEnd, Some([0, 0])) => self.counts.met(MALFORMED[1]),
+                (Why::NameEnd, _) => self.counts.met(MALFORMED[0]),
+                (Why::NameZero, _) => self.counts.met(MALFORMED[2]),
                 _ => {}
             },
         }
@@ -199,7 +199,7 @@ impl Opening {
             return;
         };
         let answer = sentence.answer(0);
-        self.met(format!(
+        self.counts.met(format!(
             "{}: {answer}",
             AMONG[usize::from(sentence.blocks > 1)]
         ));
@@ -208,10 +208,10 @@ impl Opening {
         match answer.as_str() {
             "1/12" => {
                 let known = (1..5).contains(&sharing);
-                self.met_if(known, CODES[0]);
-                self.met_if(!known && access < 3, CODES[1]);
+                self.counts.met_if(known, CODES[0]);
+                self.counts.met_if(!known && access < 3, CODES[1]);
             }
-            "1/2" => self.met(match asked.name.len() {
+            "1/2" => self.counts.met(match asked.name.len() {
                 0 => NAMES[0],
                 13.. => NAMES[1],
                 _ if before.catalogue.count == 0 => NAMES[2],
@@ -219,7 +219,7 @@ impl Opening {
             }),
             "1/32" => self.count_sharing(sentence, &asked, (access, sharing), before),
             "done" => {
-                self.met(opened_with(access, sharing));
+                self.counts.met(opened_with(access, sharing));
                 self.count_opened(sentence, &asked, before);
             }
             _ => {}
@@ -256,7 +256,7 @@ impl Opening {
         .into_iter()
         .zip(IN_THE_WAY)
         {
-            self.met_if(holds, what);
+            self.counts.met_if(holds, what);
         }
     }
 
@@ -285,7 +285,7 @@ impl Opening {
         .into_iter()
         .zip(OPENED)
         {
-            self.met_if(holds, what);
+            self.counts.met_if(holds, what);
         }
     }
 
@@ -300,12 +300,12 @@ impl Opening {
                 fid if fid == given => "the FID given",
                 _ => "another FID",
             };
-            let answer = sentence.answer(1);
-            self.met(format!("READ of {which} behind OPEN: {answer}"));
+            let what = format!("READ of {which} behind OPEN: {}", sentence.answer(1));
+            self.counts.met(what);
         }
         if let Some((_, Request::Close { fid })) = sentence.begun.get(2) {
             let closed = *fid == given && sentence.answer(2) == "done";
-            self.met_if(closed, BEHIND[6]);
+            self.counts.met_if(closed, BEHIND[6]);
         }
     }
 
@@ -318,7 +318,7 @@ impl Opening {
         if fid_of(request) != Some(JUST_OPENED) || behind || sentence.status != (1, 6) {
             return;
         }
-        self.met(elsewhere(match *command {
+        self.counts.met(elsewhere(match *command {
             LOCKING_ANDX => "LOCKING",
             READ_ANDX if place > 0 => "READ behind others",
             READ_ANDX => "READ",

@@ -96,7 +96,8 @@ impl Streams {
         let mut words = before;
         words[self.rng().below(before.len())] = self.rng().pick(&VALUES);
         if unpack(&words, &self.readers.buffer).is_none() {
-            self.tally.met("damaged in a stream, which then goes on");
+            let what = "damaged in a stream, which then goes on";
+            self.tally.counts.met(what);
             self.on_damaged(words, piece)?;
             self.readers.words = before;
         }
@@ -107,7 +108,7 @@ impl Streams {
         self.readers.words = words;
         let (number, _) = self.step(piece)?;
         if number != 5 {
-            self.tally.met("damaged, but a state");
+            self.tally.counts.met("damaged, but a state");
         } else {
             super::expect(&self.readers.words, &words, "words with 5")?;
         }

@@ -127,7 +127,8 @@ impl Streams {
             let (number, step) = self.step(rest)?;
             if number != 0 {
                 if messages.len() >= 2 {
-                    self.tally.met("two messages and a bad header in one piece");
+                    let what = "two messages and a bad header in one piece";
+                    self.tally.counts.met(what);
                 }
                 return Ok((messages, number));
             }
@@ -159,7 +160,7 @@ impl Streams {
         let side = self.rng().pick(&[Side::Start, Side::End]);
         let words = &self.readers.words;
         let state = second::stream_words::unpack(words, &self.readers.buffer);
-        self.tally.met(match state {
+        self.tally.counts.met(match state {
             None => "reset: no state",
             Some(_) if words[0] != 0 => "reset: stopped",
             Some(_) if *words == [0; 7] => "reset: nothing begun",

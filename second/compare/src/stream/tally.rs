@@ -1,10 +1,9 @@
 //! Counts what the streams met, and says what was not met often enough.
 
 use super::plan::{Kind, Stream, BAD};
-use crate::tally::{enough, LEAST};
+use crate::counts::Counts;
 use second::status::Status;
 use second::stream_words::{StepWords, StreamWords, IN_BUFFER, IN_PIECE, NO_STATE};
-use std::collections::BTreeMap;
 
 /// What must be met, besides the classes of bad headers.
 const MET: [&str; 51] = [
@@ -63,20 +62,10 @@ const MET: [&str; 51] = [
 
 #[derive(Default)]
 pub struct StreamTally {
-    counts: BTreeMap<&'static str, usize>,
+    pub counts: Counts,
 }
 
 impl StreamTally {
-    pub fn met(&mut self, what: &'static str) {
-        *self.counts.entry(what).or_default() += 1;
-    }
-
-    fn met_if(&mut self, condition: bool, what: &'static str) {
-        if condition {
-            self.met(what);
-        }
-    }
-
     /// A step of a reader that was in state `before` and is in `after`.
     pub fn step(
         &mut self,
@@ -87,7 +76,7 @@ impl StreamTally {
         step: StepWords,
     ) {
         let again = before[0] != 0 && number != NO_STATE;
-        self.met(match (number, again) {
+        self.counts.met(match (number, again) {
             (0, _) => "read: 0",
             (1, false) => "read: 1",
             (2, false) => "read: 2",
@@ -100,7 +89,7 @@ impl StreamTally {
             _ => "read: 5",
         });
         if piece.is_empty() {
-            self.met(match number {
+            self.counts.met(match number {
                 0 => "empty piece: 0",
                 NO_STATE => "empty piece: 5",
                 _ => "empty piece: a stopped reader's number",
@@ -114,20 +103,21 @@ impl StreamTally {
     fn done(&mut self, before: &StreamWords, after: &StreamWords, step: StepWords) {
         let [_, event, at, length] = step;
         let begun = *before != [0; 7];
+        let counts = &mut self.counts;
         if event == IN_PIECE {
-            self.met("message in the piece");
-            self.met_if(begun, "message in the piece, begun before");
-            self.met_if(at >= 8, "message in the piece behind a keep-alive");
-            self.met_if(length == 0, "message of length 0");
-            self.met_if(length == 0 && begun, "message of length 0, begun before");
-            self.met_if(length == 8191, "message of 8,191 in the piece");
-            self.met_if(length == 8192, "message of 8,192 in the piece");
+            counts.met("message in the piece");
+            counts.met_if(begun, "message in the piece, begun before");
+            counts.met_if(at >= 8, "message in the piece behind a keep-alive");
+            counts.met_if(length == 0, "message of length 0");
+            counts.met_if(length == 0 && begun, "message of length 0, begun before");
+            counts.met_if(length == 8191, "message of 8,191 in the piece");
+            counts.met_if(length == 8192, "message of 8,192 in the piece");
         } else if event == IN_BUFFER {
-            self.met("message in the buffer");
-            self.met_if(length == 8191, "message of 8,191 in the buffer");
-            self.met_if(length == 8192, "message of 8,192 in the buffer");
+            counts.met("message in the buffer");
+            counts.met_if(length == 8191, "message of 8,191 in the buffer");
+            counts.met_if(length == 8192, "message of 8,192 in the buffer");
         } else {
-            self.met(match (after[1], after[5]) {
+            counts.met(match (after[1], after[5]) {
                 (0, 0) => "more wanted, nothing begun",
                 (_, 0) => "more wanted, header begun",
                 _ => "more wanted, message begun",
@@ -139,10 +129,10 @@ impl StreamTally {
     pub fn stream(&mut self, stream: &Stream, pieces: &[usize]) {
         let long = stream.bytes.len() > 1;
         let single = long && pieces.iter().all(|&length| length == 1);
-        self.met_if(single, "stream in pieces of one byte");
+        self.counts.met_if(single, "stream in pieces of one byte");
         for part in &stream.parts {
             if let Kind::Bad(class) = part.kind {
-                self.met(BAD[class].0);
+                self.counts.met(BAD[class].0);
             }
         }
         let mut place = 0;
@@ -156,40 +146,41 @@ impl StreamTally {
 
     fn cut(&mut self, stream: &Stream, place: usize) {
         let Some(part) = stream.cut_part(place) else {
-            return self.met("cut between");
+            return self.counts.met("cut between");
         };
         match (part.kind, place - part.start) {
-            (Kind::Message, 1..=3) => self.met("cut in a message's header"),
-            (Kind::Message, 4) => self.met("cut behind a message's header"),
-            (Kind::Message, _) => self.met("cut in a message"),
-            (Kind::KeepAlive, _) => self.met("cut in a keep-alive"),
-            (Kind::Bad(_), _) => self.met("cut in a bad header"),
+            (Kind::Message, 1..=3) => self.counts.met("cut in a message's header"),
+            (Kind::Message, 4) => self.counts.met("cut behind a message's header"),
+            (Kind::Message, _) => self.counts.met("cut in a message"),
+            (Kind::KeepAlive, _) => self.counts.met("cut in a keep-alive"),
+            (Kind::Bad(_), _) => self.counts.met("cut in a bad header"),
             (Kind::HeaderBegun | Kind::Behind, _) => {}
         }
     }
 
     /// A message written, or not, to a room.
     pub fn write(&mut self, length: usize, room: usize, number: u8) {
+        let counts = &mut self.counts;
         match number {
             0 => {
-                self.met("write: 0");
-                self.met_if(room == length + 4, "write: 0, room exact");
-                self.met_if(length > 8192, "write: 0, above 8,192");
+                counts.met("write: 0");
+                counts.met_if(room == length + 4, "write: 0, room exact");
+                counts.met_if(length > 8192, "write: 0, above 8,192");
             }
             1 => {
-                self.met("write: 1");
-                self.met_if(room < length + 4, "write: 1, too little room as well");
+                counts.met("write: 1");
+                counts.met_if(room < length + 4, "write: 1, too little room as well");
             }
             _ => {
-                self.met("write: 2");
-                self.met_if(room == length + 3, "write: 2, one byte missing");
+                counts.met("write: 2");
+                counts.met_if(room == length + 3, "write: 2, one byte missing");
             }
         }
     }
 
     /// A message of the history and its reply.
     pub fn taken(&mut self, number: u8, reply: &[u8]) {
-        self.met(match number {
+        self.counts.met(match number {
             0 if Status::of(reply).value == 0 => "history: message done",
             0 => "history: message refused on the wire",
             _ => "history: message dropped",
@@ -198,13 +189,7 @@ impl StreamTally {
 
     /// Prints the counts. False if something was met too seldom.
     pub fn print(&self) -> bool {
-        let mut good = true;
-        println!("streams:");
-        for what in MET.into_iter().chain(BAD.map(|(name, _)| name)) {
-            let count = self.counts.get(what).copied().unwrap_or(0);
-            println!("  {what}: {count}");
-            good &= enough(count, LEAST, what);
-        }
-        good
+        let required = MET.into_iter().chain(BAD.map(|(name, _)| name));
+        self.counts.print("streams", required)
     }
 }

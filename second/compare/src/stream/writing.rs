@@ -68,7 +68,7 @@ impl Streams {
         };
         super::expect(&(messages, number), &planned, "written, then read")?;
         if number == 0 {
-            self.tally.met("read back");
+            self.tally.counts.met("read back");
             super::expect(&self.readers.words, &[0; 7], "state after reading back")?;
         }
         Ok(())
