@@ -16,7 +16,7 @@ use crate::requests::Request;
 use crate::scene::Scene;
 use linked as gateway;
 use second::message::{take_message, ROOM_BYTES};
-use second::status::{class_and_code, Form};
+use second::status::{class_and_code, StatusForm};
 use second::words::{self, HolderWords, Words, HOLDER_WORDS};
 use std::hint::black_box;
 
@@ -206,8 +206,8 @@ fn check(scene: &Scene, request: &Request) {
         && (words, &lent.memory, &lent.room) == (own_words, &own.memory, &own.room)
         && lent.holder == own.holder;
     assert!(same, "the programs differ: {}", request.name);
-    let answered = (Form::of(&lent.room), class_and_code(&lent.room));
-    let wanted = (Form::of(message), request.status);
+    let answered = (StatusForm::of(&lent.room), class_and_code(&lent.room));
+    let wanted = (StatusForm::of(message), request.status);
     assert_eq!(answered, wanted, "{}", request.name);
 }
 

@@ -2,10 +2,11 @@
 
 use crate::scene::{Scene, PROCESS};
 use second::builder::{
-    core_read, core_write, lock_range, message, open, set_form, unlock_range, Ask, Asked, Header,
+    core_read, core_write, lock_range, message, open, set_status_form, unlock_range, Ask, Asked,
+    Header,
 };
 use second::request::JUST_OPENED;
-use second::status::Form;
+use second::status::StatusForm;
 use second::tables::{DENY_NONE, FILE_BYTES};
 
 const LARGEST: usize = 8192;
@@ -31,7 +32,7 @@ impl Request {
 
     fn from(name: &str, header: Header, asks: &[Ask]) -> Request {
         let mut bytes = message(header, asks, &mut || 0, &mut || FILL);
-        set_form(&mut bytes, Form::Smb);
+        set_status_form(&mut bytes, StatusForm::Smb);
         assert!(bytes.len() <= LARGEST);
         Request {
             name: name.to_string(),
@@ -186,7 +187,7 @@ pub fn in_both_forms(scene: &Scene) -> Vec<[Request; 2]> {
     let read = Request::new("READ, 64 bytes", scene, &[read(scene)]);
     let both = |request: Request| {
         let mut asked = request.clone();
-        set_form(&mut asked.bytes, Form::Nt);
+        set_status_form(&mut asked.bytes, StatusForm::Nt);
         [request, asked]
     };
     let requests = [Some(read), barred_lock(scene)];

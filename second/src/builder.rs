@@ -6,7 +6,7 @@ use crate::grammar::{
     PROCESS_EXIT, READ, READ_ANDX, TREE_DISCONNECT, UNLOCK_BYTE_RANGE, WRITE, WRITE_ANDX,
 };
 use crate::header::{FLAGS2, FLAGS2_NT_STATUS};
-use crate::status::Form;
+use crate::status::StatusForm;
 
 /// The fields of a header that a reply or an answer depends on.
 #[derive(Clone, Copy, Debug, Default, PartialEq, Eq)]
@@ -381,12 +381,12 @@ pub fn header(command: u8, numbers: Header, fill: &mut impl FnMut() -> u8) -> Ve
 
 /// Makes a message ask for this form of Status, if it is so long that it has
 /// Flags2.
-pub fn set_form(message: &mut [u8], form: Form) {
+pub fn set_status_form(message: &mut [u8], form: StatusForm) {
     if let Some(field) = message.get_mut(FLAGS2..FLAGS2 + 2) {
         let others = u16::from_le_bytes([field[0], field[1]]) & !FLAGS2_NT_STATUS;
         let bit = match form {
-            Form::Smb => 0,
-            Form::Nt => FLAGS2_NT_STATUS,
+            StatusForm::Smb => 0,
+            StatusForm::Nt => FLAGS2_NT_STATUS,
         };
         field.copy_from_slice(&(others | bit).to_le_bytes());
     }

@@ -1,6 +1,6 @@
 //! The two tables of refusals of document 01.
 
-use crate::status::{Form, Status};
+use crate::status::{Status, StatusForm};
 
 /// "What a call returns": the numbers other than 0.
 #[derive(Clone, Copy, Debug, PartialEq, Eq, PartialOrd, Ord)]
@@ -125,11 +125,11 @@ impl WireRefusal {
     }
 
     /// The header's Status. "SMBSTATUS is class, 0, code."
-    pub fn status(self, form: Form) -> Status {
+    pub fn status(self, form: StatusForm) -> Status {
         let ((class, code), nt_status) = self.forms();
         let value = match form {
-            Form::Smb => u32::from(class) | u32::from(code) << 16,
-            Form::Nt => nt_status,
+            StatusForm::Smb => u32::from(class) | u32::from(code) << 16,
+            StatusForm::Nt => nt_status,
         };
         Status { form, value }
     }

@@ -6,7 +6,7 @@ use crate::grammar::{DATA_BLOCK_HEAD, DATA_MARK, READ, WRITE};
 use crate::header::{COMMAND, FLAGS, FLAGS2, FLAGS2_NT_STATUS, HEADER, PID_HIGH, STATUS, TID};
 use crate::refusals::WireRefusal;
 use crate::request::u16_at;
-use crate::status::Form;
+use crate::status::StatusForm;
 
 /// "Flags2 keeps only 0x0001", and "with the bit set in a request, the reply sets
 /// it" (document 02, request 7).
@@ -84,7 +84,7 @@ impl<'r> Reply<'r> {
     pub fn refused(&mut self, command: u8, refusal: WireRefusal) {
         self.link(command);
         self.block::<0>([], &[]);
-        let status = refusal.status(Form::of(self.room));
+        let status = refusal.status(StatusForm::of(self.room));
         self.room[STATUS..STATUS + 4].copy_from_slice(&status.value.to_le_bytes());
     }
 

@@ -7,22 +7,22 @@ use std::fmt;
 
 /// "Source document 002 wants NTSTATUS when Flags2 bit 0x4000 is set".
 #[derive(Clone, Copy, Debug, PartialEq, Eq, PartialOrd, Ord)]
-pub enum Form {
+pub enum StatusForm {
     /// SMBSTATUS
     Smb,
     /// NTSTATUS
     Nt,
 }
 
-impl Form {
-    pub const BOTH: [Form; 2] = [Form::Smb, Form::Nt];
+impl StatusForm {
+    pub const BOTH: [StatusForm; 2] = [StatusForm::Smb, StatusForm::Nt];
 
     /// The form that a header's Flags2 names: a request's asks for it, and "the
     /// reply sets it".
-    pub fn of(header: &[u8]) -> Form {
+    pub fn of(header: &[u8]) -> StatusForm {
         match u16_at(header, FLAGS2) & FLAGS2_NT_STATUS {
-            0 => Form::Smb,
-            _ => Form::Nt,
+            0 => StatusForm::Smb,
+            _ => StatusForm::Nt,
         }
     }
 }
@@ -30,7 +30,7 @@ impl Form {
 /// A Status in one of the forms.
 #[derive(Clone, Copy, Debug, PartialEq, Eq, PartialOrd, Ord)]
 pub struct Status {
-    pub form: Form,
+    pub form: StatusForm,
     /// Four bytes of the header, little-endian; 0 is success in both forms.
     pub value: u32,
 }
@@ -39,7 +39,7 @@ impl Status {
     /// The Status of a reply, in the form that the reply itself names.
     pub fn of(reply: &[u8]) -> Status {
         Status {
-            form: Form::of(reply),
+            form: StatusForm::of(reply),
             value: u32_at(reply, STATUS),
         }
     }
@@ -66,9 +66,9 @@ impl fmt::Display for Status {
     fn fmt(&self, text: &mut fmt::Formatter) -> fmt::Result {
         let [class, zero, low, high] = self.value.to_le_bytes();
         match (self.form, zero) {
-            (Form::Smb, 0) => write!(text, "{class}/{}", u16::from_le_bytes([low, high])),
-            (Form::Smb, _) => write!(text, "no SMBSTATUS: {:08X}", self.value),
-            (Form::Nt, _) => write!(text, "{:08X}", self.value),
+            (StatusForm::Smb, 0) => write!(text, "{class}/{}", u16::from_le_bytes([low, high])),
+            (StatusForm::Smb, _) => write!(text, "no SMBSTATUS: {:08X}", self.value),
+            (StatusForm::Nt, _) => write!(text, "{:08X}", self.value),
         }
     }
 }

@@ -9,7 +9,7 @@ use second::builder::{
 use second::grammar::{blocks, is_andx, Block, OPEN_ANDX, WRITE_ANDX};
 use second::host;
 use second::rng::Rng;
-use second::status::Form;
+use second::status::StatusForm;
 
 #[test]
 fn a_chain_of_four() {
@@ -274,7 +274,7 @@ fn chains_are_their_messages_in_turn() {
             opened = (done && block.command == OPEN_ANDX).then(|| [reply[37], reply[38]]);
             replies.push(reply);
             if !done {
-                refused[Form::of(&chain) as usize] += 1;
+                refused[StatusForm::of(&chain) as usize] += 1;
                 break;
             }
         }

@@ -4,10 +4,10 @@
 mod common;
 
 use common::{catalogue, hex, lock, read, status, unlock, write, World};
-use second::builder::{core_read, core_write, lock_range, locking, open, set_form, Ask};
+use second::builder::{core_read, core_write, lock_range, locking, open, set_status_form, Ask};
 use second::host;
 use second::refusals::WireRefusal::{self, *};
-use second::status::{Form, Status};
+use second::status::{Status, StatusForm};
 
 /// SMBSTATUS, "class, 0, code", and NTSTATUS, as they stand in the header from 5.
 const LIST: [(WireRefusal, &str, &str); 17] = [
@@ -31,14 +31,14 @@ const LIST: [(WireRefusal, &str, &str); 17] = [
 ];
 
 /// The refusal's four bytes in a form.
-fn bytes(refusal: WireRefusal, form: Form) -> Vec<u8> {
+fn bytes(refusal: WireRefusal, form: StatusForm) -> Vec<u8> {
     let row = LIST.iter().find(|row| row.0 == refusal).unwrap();
     hex([row.1, row.2][form as usize])
 }
 
 /// FID 1 of file 0 to read and write, FID 2 to read; process 8 has locked bytes 50
 /// to 59 through FID 1. Catalogue: LIST, file 0.
-fn world(form: Form) -> World {
+fn world(form: StatusForm) -> World {
     let mut world = World::with_size(100);
     world.form = form;
     assert_eq!(host::add_open(&mut world.tables, 1, 1, 7, 1, 0), Ok(2));
@@ -48,7 +48,7 @@ fn world(form: Form) -> World {
 }
 
 /// The world with all its lock records in use.
-fn full_of_locks(form: Form) -> World {
+fn full_of_locks(form: StatusForm) -> World {
     let mut world = world(form);
     let ranges: Vec<_> = (0..127).map(|n| (7, 5000 + n, 1)).collect();
     assert_eq!(world.status(lock(1, &ranges)), (0, 0));
@@ -56,7 +56,7 @@ fn full_of_locks(form: Form) -> World {
 }
 
 /// The world with all its FIDs in use.
-fn full_of_opens(form: Form) -> World {
+fn full_of_opens(form: StatusForm) -> World {
     let mut world = world(form);
     while host::add_open(&mut world.tables, 1, 1, 7, 0, 0).is_ok() {}
     world
@@ -72,7 +72,7 @@ fn mode_0() -> Ask {
 }
 
 /// Requests with their refusals, in each world.
-fn refused() -> Vec<(fn(Form) -> World, Ask, WireRefusal)> {
+fn refused() -> Vec<(fn(StatusForm) -> World, Ask, WireRefusal)> {
     let common: [(Ask, WireRefusal); 20] = [
         (Ask::Close { fid: 9 }, NoOpen),
         (write(2, 0, b"x"), Access),
@@ -95,8 +95,8 @@ fn refused() -> Vec<(fn(Form) -> World, Ask, WireRefusal)> {
         (open(0, 4, b"NONE"), NoName),
         (open(0, 1, b"LIST"), Sharing),
     ];
-    let mut all: Vec<(fn(Form) -> World, Ask, WireRefusal)> = Vec::new();
-    all.extend(common.map(|(ask, refusal)| (world as fn(Form) -> World, ask, refusal)));
+    let mut all: Vec<(fn(StatusForm) -> World, Ask, WireRefusal)> = Vec::new();
+    all.extend(common.map(|(ask, refusal)| (world as fn(StatusForm) -> World, ask, refusal)));
     all.push((full_of_locks, lock(1, &[(7, 0, 1)]), NoLockRecord));
     all.push((full_of_locks, lock_range(1, 0, 1), NoLockRecord));
     all.push((full_of_opens, open(0, 4, b"LIST"), NoFid));
@@ -105,7 +105,7 @@ fn refused() -> Vec<(fn(Form) -> World, Ask, WireRefusal)> {
 
 /// The reply to a refusal: Flags2, Status and an empty block; its Flags2 otherwise
 /// 0, for the request's is.
-fn expect_refused(reply: &[u8], refusal: WireRefusal, form: Form) {
+fn expect_refused(reply: &[u8], refusal: WireRefusal, form: StatusForm) {
     assert_eq!(reply[5..9], bytes(refusal, form), "{refusal:?} {form:?}");
     let flags2 = hex(["0000", "0040"][form as usize]);
     assert_eq!((&reply[10..12], &reply[32..]), (&flags2[..], &[0; 3][..]));
@@ -114,7 +114,7 @@ fn expect_refused(reply: &[u8], refusal: WireRefusal, form: Form) {
 
 #[test]
 fn each_refusal_in_both_forms() {
-    for form in Form::BOTH {
+    for form in StatusForm::BOTH {
         for (world, ask, refusal) in refused() {
             let reply = world(form).ask(&[ask]);
             expect_refused(&reply, refusal, form);
@@ -125,7 +125,7 @@ fn each_refusal_in_both_forms() {
 /// 2/22, 2/1, 2/91 and 2/5 are the header's or the whole message's.
 #[test]
 fn refusals_of_a_message_in_both_forms() {
-    for form in Form::BOTH {
+    for form in StatusForm::BOTH {
         let mut world = world(form);
         let message = world.message(&[read(1, 0, 1)]);
         for (place, byte, refusal) in [
@@ -148,7 +148,7 @@ fn refusals_of_a_message_in_both_forms() {
 fn the_list_is_read_alike() {
     assert_eq!(LIST.map(|row| row.0), WireRefusal::ALL);
     for (refusal, ..) in LIST {
-        for form in Form::BOTH {
+        for form in StatusForm::BOTH {
             let value = u32::from_le_bytes(bytes(refusal, form).try_into().unwrap());
             let read = Status { form, value };
             assert_eq!(refusal.status(form), read);
@@ -156,7 +156,7 @@ fn the_list_is_read_alike() {
             assert_eq!(read.class_and_code(), Some(code));
             let found: Vec<_> = read.refusals().collect();
             match (form, code) {
-                (Form::Smb, (1, 33)) => assert_eq!(found, [LockNotGranted, FileLockConflict]),
+                (StatusForm::Smb, (1, 33)) => assert_eq!(found, [LockNotGranted, FileLockConflict]),
                 _ => assert_eq!(found, [refusal]),
             }
         }
@@ -166,15 +166,15 @@ fn the_list_is_read_alike() {
 #[test]
 fn no_status_of_the_list() {
     let read = |form, value| Status { form, value }.class_and_code();
-    for form in Form::BOTH {
+    for form in StatusForm::BOTH {
         assert_eq!(read(form, 0), Some((0, 0)));
     }
     // The other form's, and nearly one of the list.
     for value in [0xC000_0055, 0x0021_0101, 0x0022_0001, 1] {
-        assert_eq!(read(Form::Smb, value), None, "{value:08X}");
+        assert_eq!(read(StatusForm::Smb, value), None, "{value:08X}");
     }
     for value in [0x0021_0001, 0xC000_0056, 0x0000_0055, 0xFFFF_0002, 1] {
-        assert_eq!(read(Form::Nt, value), None, "{value:08X}");
+        assert_eq!(read(StatusForm::Nt, value), None, "{value:08X}");
     }
 }
 
@@ -197,7 +197,7 @@ fn flags2_of_replies() {
         (0xC843, 0x4001),
     ] {
         for ask in [read(1, 0, 1), read(1, 50, 1), Ask::Logoff] {
-            let mut world = world(Form::Smb);
+            let mut world = world(StatusForm::Smb);
             let mut message = world.message(&[ask]);
             message[10..12].copy_from_slice(&u16::to_le_bytes(flags2));
             let reply = world.take(&message).unwrap();
@@ -211,7 +211,7 @@ fn flags2_of_replies() {
 #[test]
 fn the_form_changes_nothing_else() {
     for (world, ask, _) in refused() {
-        let (mut old, mut new) = (world(Form::Smb), world(Form::Nt));
+        let (mut old, mut new) = (world(StatusForm::Smb), world(StatusForm::Nt));
         for ask in [ask, read(1, 0, 9), Ask::Close { fid: 1 }] {
             let (old_reply, new_reply) = (old.ask(&[ask.clone()]), new.ask(&[ask]));
             assert_eq!(status(&old_reply), status(&new_reply));
@@ -235,7 +235,7 @@ fn expect_chain(world: &mut World, asks: &[Ask], start: &str, blocks: &str) {
 /// "By the command refused", not by the chain's first.
 #[test]
 fn chains() {
-    let nt = || world(Form::Nt);
+    let nt = || world(StatusForm::Nt);
     let locked = || lock(1, &[(7, 0, 5)]);
     let (at_2e, at_2f) = ("02 2E002700 0000 00 0000", "02 2F002700 0000 00 0000");
     let conflict = "24 540000C0 80 0040";
@@ -259,7 +259,7 @@ fn chains() {
     expect_chain(&mut nt(), &asks, "24 00000000 80 0040", done);
     // In the old form the two are one.
     let asks = [locked(), read(1, 55, 9)];
-    let mut old = world(Form::Smb);
+    let mut old = world(StatusForm::Smb);
     expect_chain(&mut old, &asks, "24 01002100 80 0000", at_2e);
 }
 
@@ -267,7 +267,7 @@ fn chains() {
 /// that of the one refused.
 #[test]
 fn a_chain_stands_in_part() {
-    let mut world = world(Form::Nt);
+    let mut world = world(StatusForm::Nt);
     let asks = [write(1, 0, b"a"), write(1, 59, b"b"), Ask::Close { fid: 1 }];
     let blocks = "06 2F002F00 0100 FFFF 00000000 0000 00 0000";
     expect_chain(&mut world, &asks, "2F 540000C0 80 0040", blocks);
@@ -277,21 +277,21 @@ fn a_chain_stands_in_part() {
 }
 
 #[test]
-fn set_form_changes_the_bit_alone() {
+fn set_status_form_changes_the_bit_alone() {
     for flags2 in [0u16, 0x4000, 0xFFFF, 0xBFFF, 0x0040] {
         let mut message = vec![0xA5; 40];
         message[10..12].copy_from_slice(&flags2.to_le_bytes());
-        for (form, bit) in [(Form::Smb, 0), (Form::Nt, 0x4000)] {
+        for (form, bit) in [(StatusForm::Smb, 0), (StatusForm::Nt, 0x4000)] {
             let mut wanted = message.clone();
             wanted[10..12].copy_from_slice(&(flags2 & 0xBFFF | bit).to_le_bytes());
             let mut given = message.clone();
-            set_form(&mut given, form);
+            set_status_form(&mut given, form);
             assert_eq!(given, wanted);
-            assert_eq!(Form::of(&given), form);
+            assert_eq!(StatusForm::of(&given), form);
         }
     }
     // Too short for a Flags2.
     let mut short = [0; 11];
-    set_form(&mut short, Form::Nt);
+    set_status_form(&mut short, StatusForm::Nt);
     assert_eq!(short, [0; 11]);
 }

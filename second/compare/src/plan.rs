@@ -8,7 +8,7 @@ use crate::call::Trial;
 use crate::catalogues;
 use crate::sides::LARGEST;
 use core_asks::set_across;
-use second::builder::{locking, message, set_form, Ask, Asked, Header};
+use second::builder::{locking, message, set_status_form, Ask, Asked, Header};
 use second::call::Call;
 use second::grammar::blocks;
 use second::header::whole_process;
@@ -17,7 +17,7 @@ use second::message::ROOM_BYTES;
 use second::messages::{all, Made};
 use second::processes::twins;
 use second::rng::Rng;
-use second::status::Form;
+use second::status::StatusForm;
 use second::tables::{Lock, Tables};
 use second::words::pack_catalogue;
 
@@ -339,7 +339,7 @@ impl Planner {
             self.damage_name(&mut message);
         }
         // Half of all messages ask for NTSTATUS.
-        set_form(&mut message, self.rng.pick(&Form::BOTH));
+        set_status_form(&mut message, self.rng.pick(&StatusForm::BOTH));
         Trial::Call {
             call: Call::TakeMessage {
                 connection: scene.connection,

@@ -6,7 +6,7 @@ use second::call::Call;
 use second::header::header_numbers;
 use second::listing::{answer, Answer};
 use second::request::{Ranges, Request};
-use second::status::Form;
+use second::status::StatusForm;
 use second::words::{HolderWords, Words, WORDS};
 
 /// Most differences of one kind that are printed.
@@ -178,7 +178,7 @@ fn explained(message: &[u8]) -> String {
         }
         Answer::Chain(blocks) => {
             let (uid, tid, process) = header_numbers(message);
-            let form = Form::of(message);
+            let form = StatusForm::of(message);
             let mut text = format!("  TID {tid}, process {process}, UID {uid}, {form:?} status\n");
             for block in blocks {
                 let request = request(&Request::read(message, &block));

@@ -5,7 +5,7 @@ use crate::counts::{enough, LEAST};
 use second::grammar::SERVED;
 use second::header::FLAGS2;
 use second::refusals::WireRefusal;
-use second::status::{Form, Status};
+use second::status::{Status, StatusForm};
 use std::collections::{BTreeMap, BTreeSet};
 
 /// "Reply Flags2 = request's & 0x4001."
@@ -26,7 +26,7 @@ pub struct Statuses {
 impl Statuses {
     /// Counts a reply. The command is the one refused, if one is.
     pub fn count(&mut self, message: &[u8], reply: &[u8], command: u8) {
-        self.asked[Form::of(message) as usize] += 1;
+        self.asked[StatusForm::of(message) as usize] += 1;
         let status = Status::of(reply);
         *self.met.entry(status).or_default() += 1;
         let [asked, told] = [message, reply].map(|header| [header[FLAGS2], header[FLAGS2 + 1]]);
@@ -66,8 +66,8 @@ impl Statuses {
 /// Success and every refusal, in both forms.
 fn listed() -> BTreeSet<Status> {
     let refusals = |form| WireRefusal::ALL.map(|refusal| refusal.status(form));
-    let mut all: BTreeSet<Status> = Form::BOTH.into_iter().flat_map(refusals).collect();
-    all.extend(Form::BOTH.map(|form| Status { form, value: 0 }));
+    let mut all: BTreeSet<Status> = StatusForm::BOTH.into_iter().flat_map(refusals).collect();
+    all.extend(StatusForm::BOTH.map(|form| Status { form, value: 0 }));
     all
 }
 

@@ -11,7 +11,7 @@ use crate::statuses::{possible, refusal, Statuses};
 use second::call::Call;
 use second::grammar::{is_andx, SERVED};
 use second::refusals::WireRefusal;
-use second::status::{Form, Status};
+use second::status::{Status, StatusForm};
 use second::words::Words;
 use std::collections::BTreeMap;
 
@@ -271,7 +271,7 @@ impl Tally {
             let all: usize = of.iter().map(|(_, count)| count).sum();
             let later = self.refused_later.get(&refusal).copied().unwrap_or(0);
             let by: Vec<String> = of.iter().map(|(c, n)| format!("{c:02X}: {n}")).collect();
-            let [smb, nt] = Form::BOTH.map(|form| refusal.status(form));
+            let [smb, nt] = StatusForm::BOTH.map(|form| refusal.status(form));
             let name = format!("{smb}, {nt}");
             println!("  {name}: {all}; {later}; {}", by.join(", "));
             good &= enough(all, LEAST, &name);

@@ -1,13 +1,13 @@
 //! A small gateway to try messages on.
 #![allow(dead_code)]
 
-use second::builder::{locking, message, set_form, Ask, Asked, Header};
+use second::builder::{locking, message, set_status_form, Ask, Asked, Header};
 use second::catalogue::{Catalogue, Name};
 use second::holder::Holder;
 use second::host;
 use second::message::{take_message, Taken, ROOM_BYTES};
 use second::refusals::Outcome;
-use second::status::Form;
+use second::status::StatusForm;
 use second::tables::{Table, Tables, MEMORY_BYTES};
 
 /// FID, process, place, offset and length.
@@ -21,7 +21,7 @@ pub struct World {
     pub connection: u32,
     pub header: Header,
     /// The form of Status that its messages ask for.
-    pub form: Form,
+    pub form: StatusForm,
     /// Who held the lock when the last message was refused 1/33.
     pub holder: Option<Holder>,
 }
@@ -48,7 +48,7 @@ impl World {
                 pid: 7,
                 uid: 1,
             },
-            form: Form::Smb,
+            form: StatusForm::Smb,
             holder: None,
         }
     }
@@ -74,7 +74,7 @@ impl World {
 
     pub fn message(&self, asks: &[Ask]) -> Vec<u8> {
         let mut message = message(self.header, asks, &mut || 0, &mut || 0);
-        set_form(&mut message, self.form);
+        set_status_form(&mut message, self.form);
         message
     }
 

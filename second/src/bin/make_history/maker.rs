@@ -2,12 +2,12 @@
 
 use crate::calls::{encode, Answer, State};
 use crate::tally::{reply_blocks, Tally};
-use second::builder::{self, set_form, Ask, Header};
+use second::builder::{self, set_status_form, Ask, Header};
 use second::call::Call;
 use second::catalogue::Name;
 use second::refusals::WireRefusal;
 use second::rng::Rng;
-use second::status::Form::{self, Nt, Smb};
+use second::status::StatusForm::{self, Nt, Smb};
 use second::status::{class_and_code, Status};
 use second::tables::{Table, Tables};
 use second::words::{pack_catalogue, unpack, CatalogueWords, HOLDER_WORDS};
@@ -32,7 +32,7 @@ pub struct Maker {
     /// Draws the form of Status that a message asks for.
     forms: Rng,
     /// The form that the next message to be answered so asks for.
-    owed: BTreeMap<Option<WireRefusal>, Form>,
+    owed: BTreeMap<Option<WireRefusal>, StatusForm>,
     pub history: Vec<u8>,
     pub lines: String,
     pub calls: usize,
@@ -167,7 +167,7 @@ impl Maker {
         mut message: Vec<u8>,
         planned: Option<WireRefusal>,
     ) -> Answer {
-        set_form(&mut message, self.form(planned));
+        set_status_form(&mut message, self.form(planned));
         self.call(Call::TakeMessage {
             connection,
             message,
@@ -176,7 +176,7 @@ impl Maker {
 
     /// Of each two messages that are planned to be refused alike one asks for
     /// each form, and a lot says which of them.
-    fn form(&mut self, planned: Option<WireRefusal>) -> Form {
+    fn form(&mut self, planned: Option<WireRefusal>) -> StatusForm {
         self.owed.remove(&planned).unwrap_or_else(|| {
             let (form, other) = self.forms.pick(&[(Smb, Nt), (Nt, Smb)]);
             self.owed.insert(planned, other);

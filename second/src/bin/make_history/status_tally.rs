@@ -2,26 +2,26 @@
 
 use super::{name, refusals_by_command, Tally};
 use second::refusals::WireRefusal::{self, *};
-use second::status::{Form, Status};
+use second::status::{Status, StatusForm};
 
 impl Tally {
     /// The form that a message asks for, and the Status that its reply has.
     pub(super) fn note_status(&mut self, message: &[u8], reply: &[u8]) {
         if !reply.is_empty() {
-            self.count(asked(Form::of(message)));
+            self.count(asked(StatusForm::of(message)));
             self.count(format!("Status {}", Status::of(reply)));
         }
     }
 }
 
-fn asked(form: Form) -> String {
+fn asked(form: StatusForm) -> String {
     format!("messages that ask for {form:?} status")
 }
 
 /// So many messages of each form, and every refusal in both forms.
 pub fn in_both_forms(messages: usize, refusals: usize) -> Vec<(String, usize)> {
     let mut all = Vec::new();
-    for form in Form::BOTH {
+    for form in StatusForm::BOTH {
         all.push((asked(form), messages));
         let text = |refusal: WireRefusal| format!("Status {}", refusal.status(form));
         all.extend(WireRefusal::ALL.map(|refusal| (text(refusal), refusals)));
@@ -35,7 +35,7 @@ pub fn required() -> Vec<(String, usize)> {
     let mut all = in_both_forms(700, 2);
     for (refusal, command) in refusals_by_command() {
         if let LockNotGranted | FileLockConflict | Access | NotSupported = refusal {
-            let status = refusal.status(Form::Nt);
+            let status = refusal.status(StatusForm::Nt);
             all.push((format!("{} Status {status}", name(command)), 1));
         }
     }
