@@ -48,7 +48,7 @@ use Rattle.message.specs.JustOpened.{NOBODY, openedBy, bodyMeant}
 use Rattle.message.specs.Message.{areaOf, dataOf, linkTo, Ran, after, afterGiven, run, served, onlyStatus, runChain, answered, replyOf, Taken, notTaken, replied, take-message}
 use Rattle.message.specs.Reply.{two, four, ntBit, statusNumber, replyHeader, replyBlock, replySize}
 use Rattle.message.specs.declared.refusal.Forms.{Forms}
-use Rattle.claims.specs.StatusList.{smb-bytes, answered-listed, listed-says}
+use Rattle.claims.specs.StatusList.{smb-bytes, answered-ended, ended-says}
 use Rattle.claims.specs.YesOrNo.{Gave, refusedWith, onward, plainly, openIn, opened, grantsBefore, afterReleasesBefore, requestBefore, lockingBefore, unlessConflict, readBefore, writingBefore, writeBefore, coreGave, rangeBefore, setSizeBefore, coreWriteBefore, performBefore, RanBefore, refusedBefore, inFront, afterGave, runBefore, chainBefore, answeredBefore, TakenBefore, header01, untaken, repliedBefore, takeBefore}
 
 -- what the call gives back, the holder left out
@@ -59,15 +59,14 @@ withoutHolder k = record { number = k .number; length = k .length; tables = k .t
 unfoldable pub ranWithout : Ran → RanBefore
 ranWithout r = record { status = r .forms .status; tables = r .tables; memory = r .memory; blocks = r .blocks }
 
--- the same choice, before a function and behind it
-chosen : {A B : Type 0} (f : A → B) (b : Bool) {x y : B} {u v : A} → x ≡ f u → y ≡ f v → cond b x y ≡ f (cond b u v)
-chosen f true p q = p
-chosen f false p q = q
-
--- and behind two functions
+-- the same choice behind two functions
 pub both-chosen : {A B C : Type 0} (f : A → C) (g : B → C) (b : Bool) {x y : A} {u v : B} → f x ≡ g u → f y ≡ g v → f (cond b x y) ≡ g (cond b u v)
 both-chosen f g true p q = p
 both-chosen f g false p q = q
+
+-- and before a function and behind it
+chosen : {A B : Type 0} (f : A → B) (b : Bool) {x y : B} {u v : A} → x ≡ f u → y ≡ f v → cond b x y ≡ f (cond b u v)
+chosen f b p q = both-chosen (λ x. x) f b p q
 
 -- ---- a conflict
 
@@ -282,7 +281,7 @@ before-holder connection s t memory room clear =
     (chosen withoutHolder (not (sound t)) refl
     (chosen withoutHolder (dropped s) refl
     (ap (repliedBefore s room) (answered-before connection s t memory)
-    ∙ replied-before s room (answered connection s t memory) (listed-says (answered-listed connection s t memory) .class) clear)))
+    ∙ replied-before s room (answered connection s t memory) (ended-says (answered-ended connection s t memory) .class) clear)))
 
 -- a reply but for Status and the upper byte of Flags2, bytes 5 to 8 and 11
 unfoldable pub blank : List ℕ → List ℕ

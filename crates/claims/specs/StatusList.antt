@@ -7,7 +7,7 @@ use mathlib.Core.Bool.{Bool, true, false, cond, not, _&&_}
 use mathlib.Core.List.{List, [], _∷_, map, List·Memᴰ as In, List·Memᴰ·head as first, List·Memᴰ·tail as later}
 use mathlib.Core.Option.{Option, none, some}
 use lib.Dec.{eqb, ltb}
-use lib.ListN.{length, getD}
+use lib.ListN.{getD}
 use native.Mathlib.Omega.{arith}
 use borrow.Author.Tests.{eqb-true, eqb-false, eq-eqb, ne-eqb, ltb-true, not-true}
 use Rattle.lists.specs.Walk.{all}
@@ -22,9 +22,11 @@ use Rattle.chain.specs.Chain.{blocks}
 use Rattle.chain.specs.declared.block.Block.{Block}
 use Rattle.message.specs.Caller.{callerOf}
 use Rattle.message.specs.declared.caller.Caller.{Caller}
-use Rattle.message.specs.Refusal.{status, forms, success, formsOf, statusOf, ntOf}
+use Rattle.message.specs.Refusal.{status, forms, success, formsOf, statusOf, ntOf, holderOf}
 use Rattle.message.specs.declared.refusal.Status.{Status}
 use Rattle.message.specs.declared.refusal.Forms.{Forms}
+use Rattle.message.specs.declared.refusal.HeldBy.{HeldBy}
+use Rattle.message.specs.declared.refusal.HeldBy.the-variants.{Nobody}
 use Rattle.message.specs.declared.refusal.Refusal.{Refusal}
 use Rattle.message.specs.declared.refusal.Refusal.the-variants.{NotServed, NotSentence, NoSession, NoTree, NoOpen, NoAccess, LockType, NoSuchLock, PassesEnd, LockNotGranted, FileLockConflict, NoRecord, NoSpace, OpenMode, BadAccess, NoSuchFile, BadShare, NoFids}
 use Rattle.message.specs.Reply.{smbNumber}
@@ -92,10 +94,10 @@ asOne nt = cond (eqb nt 0xC0000054) 0xC0000055 nt
 
 -- ---- tests over the whole list
 
-unfoldable sameStatus : Status → Status → Bool
+unfoldable pub sameStatus : Status → Status → Bool
 sameStatus a b = eqb (a .class) (b .class) && eqb (a .code) (b .code)
 
-same-status : (a b : Status) → sameStatus a b ≡ true → a ≡ b
+pub same-status : (a b : Status) → sameStatus a b ≡ true → a ≡ b
 unfolding sameStatus
 same-status a b e =
     let h = both-hold (eqb (a .class) (b .class)) (eqb (a .code) (b .code)) e in
@@ -254,35 +256,38 @@ smb-bytes s small =
     let low : 256 * s .code % 256 ≡ 0 = omega arith in
     (omega arith, ap (λ (n : ℕ). n % 256) half ∙ low, omega arith)
 
--- ---- the statuses that messages have
+-- ---- how a message ends
 
--- success, or a row of the list
-pub data DoneOrListed : Forms → Type 0 where
-  all-done : DoneOrListed success
-  a-refusal : (why : Refusal) → DoneOrListed (formsOf why)
+-- with success and nobody's lock, or with a refusal: a row of the list, and the holder that it names
+pub data Ended : Forms → HeldBy → Type 0 where
+  all-done : Ended success Nobody
+  a-refusal : (why : Refusal) → Ended (formsOf why) (holderOf why)
 
-given-listed : (g : Given) (bs : List Block) (place : ℕ) (t : Tables) (memory : List ℕ) (rest : ℕ → ℕ → Tables → List ℕ → Ran)
-    → ((j p : ℕ) (u : Tables) (m : List ℕ) → DoneOrListed (rest j p u m .forms)) → DoneOrListed (afterGiven g bs place t memory rest .forms)
+abbrev RanEnded : Ran → Type 0
+RanEnded r = Ended (r .forms) (r .holder)
+
+given-ended : (g : Given) (bs : List Block) (place : ℕ) (t : Tables) (memory : List ℕ) (rest : ℕ → ℕ → Tables → List ℕ → Ran)
+    → ((j p : ℕ) (u : Tables) (m : List ℕ) → RanEnded (rest j p u m)) → RanEnded (afterGiven g bs place t memory rest)
 unfolding afterGiven after
-given-listed (refused why) bs place t memory rest f = a-refusal why
-given-listed (done u m said) bs place t memory rest f = f _ _ u m
+given-ended (refused why) bs place t memory rest f = a-refusal why
+given-ended (done u m said) bs place t memory rest f = f _ _ u m
 
-run-listed : (c : Caller) (s : List ℕ) (just : ℕ) (bs : List Block) (place : ℕ) (t : Tables) (memory : List ℕ) → DoneOrListed (run c s just bs place t memory .forms)
+run-ended : (c : Caller) (s : List ℕ) (just : ℕ) (bs : List Block) (place : ℕ) (t : Tables) (memory : List ℕ) → RanEnded (run c s just bs place t memory)
 unfolding run
-run-listed c s just [] place t memory = all-done
-run-listed c s just (b ∷ bs) place t memory =
-    given-listed (perform c t memory (bodyMeant just (b .body)) (areaOf s b) (dataOf s b)) bs place t memory _ (λ j p u m. run-listed c s j bs p u m)
+run-ended c s just [] place t memory = all-done
+run-ended c s just (b ∷ bs) place t memory =
+    given-ended (perform c t memory (bodyMeant just (b .body)) (areaOf s b) (dataOf s b)) bs place t memory _ (λ j p u m. run-ended c s j bs p u m)
 
-chain-listed : (c : Caller) (s : List ℕ) (o : Option (List Block)) (t : Tables) (memory : List ℕ) → DoneOrListed (runChain c s o t memory .forms)
-unfolding runChain onlyStatus
-chain-listed c s none t memory = a-refusal NotSentence
-chain-listed c s (some bs) t memory = run-listed c s NOBODY bs FIRST t memory
+chain-ended : (c : Caller) (s : List ℕ) (o : Option (List Block)) (t : Tables) (memory : List ℕ) → RanEnded (runChain c s o t memory)
+unfolding runChain onlyStatus holderOf
+chain-ended c s none t memory = a-refusal NotSentence
+chain-ended c s (some bs) t memory = run-ended c s NOBODY bs FIRST t memory
 
-pub answered-listed : (connection : ℕ) (s : List ℕ) (t : Tables) (memory : List ℕ) → DoneOrListed (answered connection s t memory .forms)
-unfolding answered onlyStatus
-answered-listed connection s t memory =
-    cond-case (λ (r : Ran). DoneOrListed (r .forms)) (served (headerCommand s)) (runChain (callerOf connection s) s (blocks s) t memory) (onlyStatus (formsOf NotServed) t memory)
-    (λ _. chain-listed (callerOf connection s) s (blocks s) t memory) (λ _. a-refusal NotServed)
+pub answered-ended : (connection : ℕ) (s : List ℕ) (t : Tables) (memory : List ℕ) → Ended (answered connection s t memory .forms) (answered connection s t memory .holder)
+unfolding answered onlyStatus holderOf
+answered-ended connection s t memory =
+    cond-case RanEnded (served (headerCommand s)) (runChain (callerOf connection s) s (blocks s) t memory) (onlyStatus (formsOf NotServed) t memory)
+    (λ _. chain-ended (callerOf connection s) s (blocks s) t memory) (λ _. a-refusal NotServed)
 
 -- each form fits its place and reads back, and one is 0 exactly if the other is
 pub record FormsSay (f : Forms) : Type 0 where
@@ -297,9 +302,9 @@ zero-read : readNt 0 ≡ status 0 0
 unfolding readNt besideNt statusList refusals formsOf status
 zero-read = refl
 
-pub listed-says : {f : Forms} → DoneOrListed f → FormsSay f
+pub ended-says : {f : Forms} {h : HeldBy} → Ended f h → FormsSay f
 unfolding status
-listed-says all-done = record { class = omega arith; code = omega arith; nt = omega arith; reads-back = zero-read; zero-old = λ _. refl; zero-nt = λ _. refl }
-listed-says (a-refusal why) =
+ended-says all-done = record { class = omega arith; code = omega arith; nt = omega arith; reads-back = zero-read; zero-old = λ _. refl; zero-nt = λ _. refl }
+ended-says (a-refusal why) =
     let r = row-says why in
     record { class = r .class; code = r .code; nt = r .nt; reads-back = r .reads-back; zero-old = λ z. absurd (r .old-not-zero z); zero-nt = λ z. absurd (r .nt-not-zero z) }

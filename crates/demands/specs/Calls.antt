@@ -2,13 +2,12 @@
 -- sent one to a message. Assumes nothing.
 use mathlib.Core.Path.{_≡_, sym, ap, _∙_}
 use mathlib.Core.Logic.{_↔_}
-use Prim.Native.Nat.{ℕ, _+_, _*_, _/_, _%_, _≤_, _<_}
+use Prim.Native.Nat.{ℕ, _+_, _≤_}
 use native.Mathlib.Omega.{arith}
 use mathlib.Core.Bool.{true}
 use mathlib.Core.List.{List, map}
 use mathlib.Core.Option.{some}
 use lib.ListN.{length, length-append}
-use Rattle.lists.specs.Put.{put}
 use Rattle.wire.specs.LittleEndian.{le32At}
 use Rattle.records.specs.declared.Tables.{Tables}
 use Rattle.chain.specs.Layout.{headerCommand, FIRST}
@@ -20,11 +19,10 @@ use Rattle.invariants.specs.ReaderSound.{spanOf}
 use Rattle.invariants.specs.Chained.{read-chained}
 use Rattle.message.specs.Caller.{callerOf}
 use Rattle.message.specs.Refusal.{status}
-use Rattle.message.specs.declared.refusal.Status.{Status}
 use Rattle.message.specs.JustOpened.{NOBODY}
 use Rattle.message.specs.Reply.{statusNumber, replyHeader}
-use Rattle.message.specs.Message.{Ran, run, runChain, served, answered, replyOf, Taken, replied, take-message}
-use Rattle.claims.specs.StatusList.{answered-listed, listed-says}
+use Rattle.message.specs.Message.{run, runChain, served, answered, replyOf, Taken, replied, take-message}
+use Rattle.claims.specs.StatusList.{answered-ended, ended-says}
 use Rattle.demands.specs.StatusRead.{statusRead, status-number-replied, status-replied}
 use Rattle.demands.specs.Malformed.{malformed}
 use Rattle.invariants.specs.ReplySize.{length-header}
@@ -40,14 +38,14 @@ pub status-call : (connection : ℕ) (s : List ℕ) (t : Tables) (memory room : 
 unfolding replied
 status-call connection s t memory room f =
     ap (λ (k : Taken). statusRead (k .room)) (fit-answered connection s t memory room f)
-    ∙ status-replied s room (answered connection s t memory) (listed-says (answered-listed connection s t memory))
+    ∙ status-replied s room (answered connection s t memory) (ended-says (answered-ended connection s t memory))
 
 -- and its number at 5, in the form asked for
 pub status-number-call : (connection : ℕ) (s : List ℕ) (t : Tables) (memory room : List ℕ) → Fit s t memory room
     → le32At (take-message connection s t memory room .room) 5 ≡ statusNumber s (answered connection s t memory .forms)
 status-number-call connection s t memory room f =
     ap (λ (k : Taken). le32At (k .room) 5) (fit-answered connection s t memory room f)
-    ∙ status-number-replied s room (answered connection s t memory) (listed-says (answered-listed connection s t memory))
+    ∙ status-number-replied s room (answered connection s t memory) (ended-says (answered-ended connection s t memory))
 
 -- a sentence is answered by its commands in turn, and the reply's length is the header's and theirs
 module _ (connection : ℕ) (s : List ℕ) (t : Tables) (memory : List ℕ) where

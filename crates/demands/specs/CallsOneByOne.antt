@@ -1,37 +1,26 @@
 -- Demand 3's single claim, said of the calls themselves (document 01, "Sent one to a message" and "Compared"): the chain's call gives the number,
 -- holder, tables, file memory and reply that the calls of its blocks' own messages give. Assumes nothing.
 use mathlib.Core.Path.{_≡_, refl, sym, _∙_, ap}
-use Prim.Native.Nat.{ℕ, _/_, _%_, _≤_, _<_}
+use Prim.Native.Nat.{ℕ, _≤_}
 use native.Mathlib.Omega.{arith}
 use mathlib.Core.Bool.{Bool, true, false, cond, _&&_, false≢true}
 use mathlib.Core.List.{List, [], _∷_, _++_}
-use mathlib.Core.Option.{Option, none, some}
+use mathlib.Core.Option.{some}
 use lib.ListN.{length, take, set}
 use lib.Seq.{take-append-seam}
 use lib.Dec.{eqb}
-use borrow.Author.Tests.{eqb-true, eq-eqb}
 use Rattle.lists.specs.Put.{put}
-use Rattle.lists.specs.Truth.{both-hold, hold-both, same-truth}
-use Rattle.wire.specs.LittleEndian.{byteAt}
 use Rattle.records.specs.declared.Tables.{Tables}
 use Rattle.chain.specs.Layout.{headerCommand, FIRST}
 use Rattle.chain.specs.Chain.{blocks}
 use Rattle.chain.specs.declared.block.Block.{Block}
-use Rattle.message.specs.Caller.{callerOf}
 use Rattle.message.specs.declared.refusal.Forms.{Forms}
-use Rattle.message.specs.declared.caller.Caller.{Caller}
 use Rattle.message.specs.Refusal.{status, success}
-use Rattle.message.specs.declared.refusal.Status.{Status}
 use Rattle.message.specs.declared.refusal.HeldBy.{HeldBy}
 use Rattle.message.specs.declared.refusal.HeldBy.the-variants.{Nobody}
-use Rattle.message.specs.Command.{Given, refused, done, perform}
-use Rattle.message.specs.Reply.{two, replyHeader}
-use Rattle.message.specs.Message.{areaOf, dataOf, Ran, after, afterGiven, run, served, onlyStatus, runChain, answered, replyOf, Taken, replied, take-message}
-use Rattle.message.specs.declared.refusal.Refusal.{Refusal}
-use Rattle.message.specs.declared.refusal.Refusal.the-variants.{NotServed, NotSentence, NoSession, NoTree, NoOpen, NoAccess, LockType, NoSuchLock, PassesEnd, NoRecord, NoSpace, OpenMode, BadAccess, NoSuchFile, BadShare, NoFids}
-use Rattle.invariants.specs.GivenCases.{cond-case}
-use Rattle.message.specs.JustOpened.{NOBODY, bodyMeant}
-use Rattle.claims.specs.StatusList.{answered-listed, listed-says}
+use Rattle.message.specs.Message.{Ran, answered, replyOf, Taken, replied, take-message}
+use Rattle.message.specs.JustOpened.{NOBODY}
+use Rattle.claims.specs.StatusList.{answered-ended, ended-says}
 use Rattle.demands.specs.StatusRead.{statusZero, succeeded, status-zero}
 use Rattle.demands.specs.Returned.{returnedFid}
 use Rattle.demands.specs.HolderBeside.{nobody-exact, answered-beside}
@@ -146,7 +135,7 @@ step connection s room just b [] t memory e =
 step connection s room just b (d ∷ bs) t memory e =
     rw (
       reply-read (own s just b) room (answered connection (own s just b) t memory),
-      status-zero (own s just b) (answered connection (own s just b) t memory) (listed-says (answered-listed connection (own s just b) t memory)),
+      status-zero (own s just b) (answered connection (own s just b) t memory) (ended-says (answered-ended connection (own s just b) t memory)),
     )
     (more-sent (succeeded (answered connection (own s just b) t memory .forms .status)) (replyOf (own s just b) (answered connection (own s just b) t memory)) _ _ _ _ _ _ e)
 

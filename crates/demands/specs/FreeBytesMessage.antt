@@ -33,10 +33,10 @@ use Rattle.demands.specs.PerformMoved.{perform-bytes}
 -- ---- equal headers
 
 -- another header that differs at most in the upper byte of Flags2, at 11
-pub record SameSender (s t : List ℕ) : Type 0 where
+pub record HeaderBut11 (s t : List ℕ) : Type 0 where
   pub same : (k : ℕ) → k < 32 → (k ≡ 11 → ⊥) → byteAt t k ≡ byteAt s k
 
-module _ {s t : List ℕ} (sender : SameSender s t) where
+module _ {s t : List ℕ} (sender : HeaderBut11 s t) where
   sender-number : (k : ℕ) → 12 ≤ k → k + 1 < 32 → le16At t k ≡ le16At s k
   sender-number k l h = same-16 s k t k (λ j m. sender .same (k + j) (omega arith) (λ e. omega arith))
 
@@ -55,7 +55,7 @@ module _ (s t : List ℕ) (header : take 32 t ≡ take 32 s) where
   pub header-byte : (k : ℕ) → k < 32 → byteAt t k ≡ byteAt s k
   header-byte k h = sym (getD-take 32 t k 0 h) ∙ ap (λ (l : List ℕ). byteAt l k) header ∙ getD-take 32 s k 0 h
 
-  header-sender : SameSender s t
+  header-sender : HeaderBut11 s t
   header-sender = record { same = λ k h _. header-byte k h }
 
   -- its last eight bytes
@@ -101,7 +101,7 @@ run-same {s} t c (chained-more {command} {at} {rest = rest} h l r) alike just pl
     ap (λ (g : Given). afterGiven g rest place u memory (λ j p v m. run c t j rest p v m)) (alike-same c u memory just _ h (alike _ (first refl)))
     ∙ after-same _ rest place u memory (λ j p v m. run c t j rest p v m) (λ j p v m. run c s j rest p v m) (λ j p v m. run-same t c r (λ x i. alike x (later i)) j p v m)
 
-module _ (s t : List ℕ) (sender : SameSender s t) {spans : List Span} (r : Reading s spans) where
+module _ (s t : List ℕ) (sender : HeaderBut11 s t) {spans : List Span} (r : Reading s spans) where
   -- the whole chain
   chain-same : AllAlike s t spans → (c : Caller) (u : Tables) (memory : List ℕ) → runChain c t (blocks t) u memory ≡ runChain c s (blocks s) u memory
   unfolding runChain blocks

@@ -1,11 +1,11 @@
 -- The Status of a message in both forms (document 02, CR 7): what a reply with the bit carries, and a message with the bit beside the same message without it. Assumes nothing.
 use mathlib.Core.Path.{_≡_, refl, sym, ap, _∙_}
-use Prim.Native.Nat.{ℕ, _+_, _*_, _/_, _%_, _≤_, _<_}
+use Prim.Native.Nat.{ℕ, _+_, _≤_}
 use native.Mathlib.Omega.{arith}
 use mathlib.Core.Logic.{_↔_}
 use mathlib.Core.Bool.{true, not, _||_}
 use lib.Dec.{eqb, ltb}
-use mathlib.Core.List.{List, [], _∷_, _++_}
+use mathlib.Core.List.{List}
 use mathlib.Core.Option.{Option, none, some}
 use borrow.Author.Tests.{eqb-true, eq-eqb}
 use lib.ListN.{length, take, drop}
@@ -14,7 +14,7 @@ use Rattle.lists.specs.Truth.{test-cases}
 use Rattle.wire.specs.LittleEndian.{byteAt, le16At, le32At}
 use Rattle.records.specs.declared.Tables.{Tables}
 use Rattle.soundness.specs.Sound.{sound}
-use Rattle.chain.specs.Layout.{headerCommand, FIRST, blockEnd}
+use Rattle.chain.specs.Layout.{headerCommand, blockEnd}
 use Rattle.chain.specs.Grammar.{Span, Reading, Sentence}
 use Rattle.chain.specs.declared.block.Block.{Block}
 use Rattle.chain.specs.Header.{startsSmb, isReply, dropped}
@@ -25,21 +25,20 @@ use Rattle.readings.specs.ReaderComplete.{no-sentence}
 use Rattle.invariants.specs.Fit.{Fit, fit-answered}
 use Rattle.readings.specs.FreeBytes.{AllStand, free-reading, all-alike}
 use Rattle.readings.specs.MovedBytes.{part-same}
-use Rattle.message.specs.Caller.{callerOf}
-use Rattle.message.specs.Refusal.{status, formsOf, ntOf}
+use Rattle.message.specs.Refusal.{status, formsOf}
 use Rattle.message.specs.declared.refusal.Status.{Status}
 use Rattle.message.specs.declared.refusal.Forms.{Forms}
-use Rattle.message.specs.declared.refusal.Refusal.{Refusal}
+use Rattle.message.specs.declared.refusal.HeldBy.{HeldBy}
 use Rattle.message.specs.declared.refusal.Refusal.the-variants.{NotServed, NotSentence, NoSession, NoTree, NoOpen, NoAccess, LockType, NoSuchLock, PassesEnd, LockNotGranted, FileLockConflict, NoRecord, NoSpace, OpenMode, BadAccess, NoSuchFile, BadShare, NoFids}
-use Rattle.message.specs.JustOpened.{NOBODY}
 use Rattle.message.specs.Reply.{two, four, ntBit, statusNumber, replyHeader}
 use Rattle.message.specs.Message.{Ran, served, answered, replyOf, Taken, notTaken, replied, take-message}
 use Rattle.claims.specs.YesOrNo.{RanBefore, TakenBefore, header01, untaken, repliedBefore, takeBefore}
 use Rattle.claims.specs.BeforeHolder.{blank, ranWithout, both-chosen, answered-before}
-use Rattle.claims.specs.StatusList.{DoneOrListed, all-done, a-refusal, answered-listed, FormsSay, listed-says}
-use Rattle.demands.specs.StatusRead.{statusRead, succeeded, zero-succeeded, asked-kept, status-replied, zero-number}
+use Rattle.claims.specs.StatusList.{Ended, all-done, a-refusal, answered-ended, FormsSay, ended-says}
+use Rattle.demands.specs.StatusRead.{statusRead, succeeded, zero-succeeded, status-replied, zero-number}
+use Rattle.demands.specs.Returned.{two-back}
 use Rattle.demands.specs.Malformed.{malformed-nothing, not-served}
-use Rattle.demands.specs.FreeBytesMessage.{SameSender, sent-answered}
+use Rattle.demands.specs.FreeBytesMessage.{HeaderBut11, sent-answered}
 use Rattle.demands.specs.Taken.{not-short}
 use Rattle.demands.specs.Calls.{status-call, status-number-call, length-call}
 use Rattle.demands.specs.CoreMoved.{stands-in}
@@ -69,7 +68,7 @@ pub data NtBeside : Status → ℕ → Type 0 where
   bad-share-forms : NtBeside (status 1 32) 0xC0000043
   no-fids-forms : NtBeside (status 1 4) 0xC000011F
 
-listed-beside : {f : Forms} → DoneOrListed f → NtBeside (f .status) (f .nt)
+listed-beside : {f : Forms} {h : HeldBy} → Ended f h → NtBeside (f .status) (f .nt)
 unfolding formsOf status
 listed-beside all-done = done-forms
 listed-beside (a-refusal NotServed) = not-served-forms
@@ -95,19 +94,14 @@ module _ (connection : ℕ) (s : List ℕ) (t : Tables) (memory room : List ℕ)
   abbrev call : Taken
   call = take-message connection s t memory room
 
-  -- "the reply sets it"
-  pub bit-given : ntBit (call .room) ≡ ntBit s
-  bit-given =
-      ap (λ (k : Taken). ntBit (k .room)) (fit-answered connection s t memory room fit)
-      ∙ asked-kept s room (answered connection s t memory) (listed-says (answered-listed connection s t memory))
-
+  -- what stands at 5 with the bit
   pub nt-given : ntBit s ≡ true → le32At (call .room) 5 ≡ answered connection s t memory .forms .nt
   unfolding statusNumber
   nt-given asked = status-number-call connection s t memory room fit ∙ rw asked
 
   -- "and carries" the NTSTATUS beside the class and code that a reader finds
   pub nt-beside : ntBit s ≡ true → NtBeside (statusRead (call .room)) (le32At (call .room) 5)
-  nt-beside asked = rw (status-call connection s t memory room fit, nt-given asked) (listed-beside (answered-listed connection s t memory))
+  nt-beside asked = rw (status-call connection s t memory room fit, nt-given asked) (listed-beside (answered-ended connection s t memory))
 
 -- ---- the same message in the other form
 
@@ -117,7 +111,7 @@ pub record ButByte11 (s t : List ℕ) : Type 0 where
   pub same : (k : ℕ) → (k ≡ 11 → ⊥) → byteAt t k ≡ byteAt s k
 
 module _ (s t : List ℕ) (but : ButByte11 s t) where
-  sender : SameSender s t
+  sender : HeaderBut11 s t
   sender = record { same = λ k _. but .same k }
 
   -- the blocks of a reading stand behind the header, so they stand in the other as well
@@ -224,7 +218,7 @@ pub number-zero : (connection : ℕ) (s : List ℕ) (t : Tables) (memory room : 
 unfolding succeeded status
 number-zero connection s t memory room fit =
     let f = answered connection s t memory .forms in
-    let z = zero-number s f (listed-says (answered-listed connection s t memory)) in
+    let z = zero-number s f (ended-says (answered-ended connection s t memory)) in
     let n = status-number-call connection s t memory room fit in
     let k = status-call connection s t memory room fit in (
       λ h. k ∙ zero-succeeded (f .status) (sym z ∙ eq-eqb (statusNumber s f) 0 (sym n ∙ h)),
@@ -237,9 +231,7 @@ number-zero connection s t memory room fit =
 before-read : (s room : List ℕ) (r : Ran) → FormsSay (r .forms) → statusRead (repliedBefore s room (ranWithout r) .room) ≡ r .forms .status
 unfolding statusRead repliedBefore ranWithout header01 two put ntBit le16At status
 before-read s room r says =
-    let d = says .code in
-    let whole : r .forms .status .code % 256 + 256 * (r .forms .status .code / 256 % 256) ≡ r .forms .status .code = omega arith in
-    ap (λ (n : ℕ). record { class = r .forms .status .class; code = n }) whole
+    ap (λ (n : ℕ). record { class = r .forms .status .class; code = n }) (two-back (r .forms .status .code) (says .code))
 
 -- of every call: what a reader finds in the room, in its form, is what stood there before CR 2 and CR 7
 pub status-as-before : (connection : ℕ) (s : List ℕ) (t : Tables) (memory room : List ℕ)
@@ -249,7 +241,7 @@ status-as-before connection s t memory room =
     let now : Taken → Status = λ k. statusRead (k .room) in
     let before : TakenBefore → Status = λ k. statusRead (k .room) in
     let r = answered connection s t memory in
-    let says = listed-says (answered-listed connection s t memory) in
+    let says = ended-says (answered-ended connection s t memory) in
     both-chosen now before (ltb (length room) 12292 || not (eqb (length memory) 65536)) refl
     (both-chosen now before (not (sound t)) refl
     (both-chosen now before (dropped s) refl

@@ -7,9 +7,6 @@ use mathlib.Core.List.{List, [], _∷_, _++_}
 use mathlib.Core.Option.{some}
 use lib.ListN.{length, take, drop, set}
 use lib.Seq.{take-at}
-use lib.Dec.{eqb}
-use borrow.Author.Tests.{eqb-true}
-use Rattle.lists.specs.Truth.{both-hold}
 use Rattle.wire.specs.LittleEndian.{byteAt}
 use Rattle.records.specs.declared.Tables.{Tables}
 use Rattle.message.specs.Refusal.{status, success}
@@ -25,7 +22,7 @@ use Rattle.message.specs.Reply.{two, four, ntBit, statusNumber, replyHeader}
 use Rattle.message.specs.Message.{Ran, answered, replyOf}
 use Rattle.invariants.specs.ReplySize.{length-header}
 use Rattle.message.specs.JustOpened.{NOBODY}
-use Rattle.claims.specs.StatusList.{DoneOrListed, answered-listed, listed-says}
+use Rattle.claims.specs.StatusList.{Ended, answered-ended, ended-says}
 use Rattle.demands.specs.StatusRead.{succeeded, zero-succeeded}
 use Rattle.demands.specs.Alone.{length-alone-more}
 use Rattle.demands.specs.Returned.{returnedFid}
@@ -66,8 +63,8 @@ module _ (s : List ℕ) (just : ℕ) (b : Block) (long : 32 ≤ length s) where
       ∙ header-again (r .forms)
 
 -- status 0 is success in both forms
-status-done : {f : Forms} → DoneOrListed f → succeeded (f .status) ≡ true → f ≡ success
-status-done {f} listed e = listed-says listed .zero-old (zero-succeeded (f .status) e)
+status-done : {f : Forms} {h : HeldBy} → Ended f h → succeeded (f .status) ≡ true → f ≡ success
+status-done {f} ended e = ended-says ended .zero-old (zero-succeeded (f .status) e)
 
 -- a reply before others is not the last
 last-more : (t : Bool) (first reply : List ℕ) (sent : Sent) (why : Forms) (h : HeldBy) (u : Tables) (m : List ℕ)
@@ -92,7 +89,7 @@ last-header : (connection : ℕ) (s : List ℕ) → 32 ≤ length s → (just : 
 unfolding sendAll sendOn lastReply replyThen
 last-header connection s long just b [] t memory =
     send-last (succeeded (answered connection (own s just b) t memory .forms .status)) s (replyOf (own s just b) (answered connection (own s just b) t memory)) _ _ _ _ _
-    (λ e. header-of s just b long (answered connection (own s just b) t memory) ∙ ap (replyHeader s) (status-done (answered-listed connection (own s just b) t memory) e))
+    (λ e. header-of s just b long (answered connection (own s just b) t memory) ∙ ap (replyHeader s) (status-done (answered-ended connection (own s just b) t memory) e))
     (λ e. header-of s just b long (answered connection (own s just b) t memory))
 last-header connection s long just b (d ∷ bs) t memory =
     let r : Ran = answered connection (own s just b) t memory in

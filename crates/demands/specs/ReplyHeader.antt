@@ -1,24 +1,21 @@
 -- The header of every reply, byte by byte (document 01, "Header"; document 02, CR 7). Assumes nothing.
-use mathlib.Core.Path.{_≡_, refl, sym, ap, _∙_}
+use mathlib.Core.Path.{_≡_, refl, ap, _∙_}
 use Prim.Native.Nat.{ℕ, _+_, _-_, _*_, _/_, _%_, _≤_, _<_}
 use native.Mathlib.Omega.{arith}
 use mathlib.Core.Bool.{false}
-use mathlib.Core.List.{List, [], _∷_, _++_, append-assoc}
-use lib.ListN.{length, take, drop, getD, replicate, List·getD-append, length-append, length-drop}
+use mathlib.Core.List.{List, _∷_, _++_}
+use lib.ListN.{length, take, drop, replicate, List·getD-append, length-append, length-drop}
 use lib.Seq.{getD-take, getD-drop, getD-append-add, length-take-le}
 use Rattle.lists.specs.Put.{put}
-use Rattle.wire.specs.LittleEndian.{byteAt, le16At}
+use Rattle.wire.specs.LittleEndian.{byteAt}
 use Rattle.records.specs.declared.Tables.{Tables}
 use Rattle.message.specs.Refusal.{status}
 use Rattle.message.specs.declared.refusal.Forms.{Forms}
-use Rattle.message.specs.declared.refusal.Status.{Status}
 use Rattle.message.specs.Reply.{two, four, ntBit, statusNumber, replyHeader}
-use Rattle.message.specs.Message.{Ran, answered, replyOf, Taken, replied, take-message}
+use Rattle.message.specs.Message.{answered, replyOf, replied, take-message}
 use Rattle.invariants.specs.Fit.{Fit, fit-answered}
-use Rattle.claims.specs.StatusList.{smb-bytes, answered-listed, listed-says}
+use Rattle.claims.specs.StatusList.{smb-bytes, answered-ended, ended-says}
 use Rattle.demands.specs.Taken.{not-short}
-use Rattle.demands.specs.StatusRead.{statusRead}
-use Rattle.demands.specs.Calls.{status-call}
 
 -- "A reply copies Command, PIDHigh, TID, PIDLow, UID and MID; Flags is 0x80 plus the request's 0x08; .. the rest is 0 but for Status", of which the old form has a zero byte at
 -- 6; Flags2 is the request's & 0x4001 (docs/DECISIONS.md, 127)
@@ -88,4 +85,4 @@ pub reply-header : (connection : ℕ) (s : List ℕ) (t : Tables) (memory room :
 unfolding replied replyOf
 reply-header connection s t memory room fit =
     rw (fit-answered connection s t memory room fit)
-    (header-of s (answered connection s t memory .forms) (answered connection s t memory .blocks) room (not-short s (fit .not-dropped)) (listed-says (answered-listed connection s t memory) .class))
+    (header-of s (answered connection s t memory .forms) (answered connection s t memory .blocks) room (not-short s (fit .not-dropped)) (ended-says (answered-ended connection s t memory) .class))

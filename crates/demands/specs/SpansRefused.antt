@@ -34,7 +34,7 @@ use Rattle.message.specs.JustOpened.{NOBODY}
 use Rattle.demands.specs.Returned.{returnedFid}
 use Rattle.demands.specs.Carrying.{carried-block}
 use Rattle.demands.specs.Alone.{alone, alone-command, alone-moved, alone-ends}
-use Rattle.claims.specs.StatusList.{answered-listed, listed-says}
+use Rattle.claims.specs.StatusList.{answered-ended, ended-says}
 use Rattle.demands.specs.OneByOne.{Sent, replyThen, sendOn, own, own-header, sendAll, compared, one-by-one}
 use Rattle.demands.specs.Taken.{not-short, not-long, AllFit, none-left, next-fits, all-fit}
 use Rattle.demands.specs.CallsOneByOne.{Calls, lastCall, callThen, carriedOut, replyIn, reply-read}
@@ -128,7 +128,7 @@ carried-succeeds connection message t memory room fit =
     let ran = answered connection message t memory in
     ap carriedOut (fit-answered connection message t memory room fit)
     ∙ ap statusZero (reply-read message room ran)
-    ∙ status-zero message ran (listed-says (answered-listed connection message t memory))
+    ∙ status-zero message ran (ended-says (answered-ended connection message t memory))
 
 module _ (connection : ℕ) (s small : List ℕ) where
   -- the messages of the blocks behind it get what it left

@@ -1,5 +1,5 @@
 -- The Status in a reply, read in the form that the reply's own Flags2 says (document 02, CR 7): "A reader of either form must find the same refusal". Assumes nothing.
-use mathlib.Core.Path.{_≡_, refl, sym, ap, _∙_}
+use mathlib.Core.Path.{_≡_, sym, ap, _∙_}
 use Prim.Native.Nat.{ℕ, _+_, _*_, _/_, _%_, _<_}
 use native.Mathlib.Omega.{arith}
 use mathlib.Core.Bool.{Bool, true, false, cond, _&&_}
@@ -14,7 +14,8 @@ use Rattle.message.specs.declared.refusal.Status.{Status}
 use Rattle.message.specs.declared.refusal.Forms.{Forms}
 use Rattle.message.specs.Reply.{two, four, ntBit, smbNumber, statusNumber, replyHeader}
 use Rattle.message.specs.Message.{Ran, replyOf, replied}
-use Rattle.claims.specs.StatusList.{readNt, smb-bytes, DoneOrListed, FormsSay, listed-says}
+use Rattle.demands.specs.Returned.{two-back}
+use Rattle.claims.specs.StatusList.{readNt, smb-bytes, sameStatus, same-status, FormsSay}
 
 -- without the bit an SMBSTATUS, class at 5, code at 7; with it an NTSTATUS, "Little-endian at 5", of which the reader finds the class and code in the list
 unfoldable pub statusRead : List ℕ → Status
@@ -34,7 +35,7 @@ bytes-back : (n : ℕ) → n < 0x100000000 → n % 256 + 256 * (n / 256 % 256) +
 bytes-back n h =
     let low : n % 256 + 256 * (n / 256 % 256) ≡ n % 65536 = omega arith in
     let half : n / 65536 < 65536 = omega arith in
-    let high : n / 65536 % 256 + 256 * (n / 65536 / 256 % 256) ≡ n / 65536 = omega arith in
+    let high : n / 65536 % 256 + 256 * (n / 65536 / 256 % 256) ≡ n / 65536 = two-back (n / 65536) half in
     rw (low, high) (omega arith)
 
 -- the reply has the request's bit
@@ -53,7 +54,7 @@ module _ (s room : List ℕ) (r : Ran) (says : FormsSay (r .forms)) where
   unfolding replied replyOf replyHeader two four put le32At le16At
   status-number-replied = bytes-back (statusNumber s (r .forms)) (number-small s (r .forms) says)
 
-  pub asked-kept : ntBit (replied s room r .room) ≡ ntBit s
+  asked-kept : ntBit (replied s room r .room) ≡ ntBit s
   unfolding replied replyOf replyHeader two four put ntBit
   asked-kept = ap (λ (b : ℕ). eqb b 1) (bit-kept (byteAt s 11))
 
@@ -61,9 +62,7 @@ module _ (s room : List ℕ) (r : Ran) (says : FormsSay (r .forms)) where
   unfolding replied replyOf replyHeader two four put le16At status statusNumber
   smb-read clear =
       let q = smb-bytes (r .forms .status) (says .class) in
-      let d = says .code in
-      let high : r .forms .status .code % 256 + 256 * (r .forms .status .code / 256 % 256) ≡ r .forms .status .code = omega arith in
-      rw (clear, q .0, q .2, high)
+      rw (clear, q .0, q .2, two-back (r .forms .status .code) (says .code))
 
   -- so a reader finds the status of what was answered, in either form
   pub status-replied : statusRead (replied s room r .room) ≡ r .forms .status
@@ -77,10 +76,8 @@ module _ (s room : List ℕ) (r : Ran) (says : FormsSay (r .forms)) where
 
 -- success is 0/0
 pub zero-succeeded : (n : Status) → succeeded n ≡ true → n ≡ status 0 0
-unfolding succeeded status
-zero-succeeded n e =
-    let h = both-hold (eqb (n .class) 0) (eqb (n .code) 0) e in
-    λ i. record { class = eqb-true (n .class) 0 (h .0) i; code = eqb-true (n .code) 0 (h .1) i }
+unfolding succeeded sameStatus status
+zero-succeeded n e = same-status n (status 0 0) e
 
 -- four bytes are 0 exactly if the number is
 zero-bytes : (n : ℕ) → n < 0x100000000
