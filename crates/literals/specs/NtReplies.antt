@@ -6,7 +6,6 @@ use Prim.Native.Nat.{ℕ}
 use mathlib.Core.List.{List, [], _∷_, _++_, map}
 use lib.ListN.{set}
 use Rattle.lists.specs.Put.{put}
-use Rattle.records.specs.declared.Tables.{Tables}
 use Rattle.catalogue.specs.Name.{catalogueOk, noneDoubled, isNamed, sameName, folded, nameBytes, nameOk, notZero, differ}
 use Rattle.chain.specs.Chain.{blocks, blocksFrom, blocksWithin, afterParse, afterBlock, before}
 use Rattle.chain.specs.Header.{dropped, startsSmb, isReply}
@@ -32,10 +31,10 @@ use Rattle.soundness.specs.File.{fileOf}
 use Rattle.soundness.specs.Lookup.{isTree}
 use Rattle.soundness.specs.Sound.{sound, withinRoom, fileOk, treeOk, permits, holdsOpen, sharingOk, openOk, soundRecords, lockOk, agree, agreeAll, soundLocks}
 use Rattle.wire.specs.LittleEndian.{le16At, le32At}
-use Rattle.literals.specs.CoreCommands.{sent, coreRead, coreWrite, writeTo, sizeTo, byteRange}
+use Rattle.literals.specs.CoreCommands.{row as core, sent, coreRead, coreWrite, writeTo, sizeTo, byteRange}
 use Rattle.literals.specs.Counting.{countFrom}
-use Rattle.literals.specs.Opening.{attributes, opensCrl, openCrl, moded, asking, noOpens, having, beside, another, allUsed, opening, crlBytes, crl, openWords, bBytes, aBytes, catalogued, twelve, fiveNames, twoSizes}
-use Rattle.literals.specs.Replies.{Given, Row, lockingReply, readReply, writeReply, closeReply, logoffReply, disconnectReply, exitReply, lockReadReply, lockRefusedReply, unserved, malformed, noSession, noTree, noOpen, noRead, noWrite, lockType, noSuchLock, passesTop, noRecord, noSpace, readHeld, writeHeld, lockHeld, ownRangeHeld, chainHeld, messageOf, message, given, refusal, reply, doneReply, taken, opened, lock, contested, heldAt, lock100, lockBlock, range100, rangeOf, readBlock, writeBlock, closeBlock}
+use Rattle.literals.specs.Opening.{row as toOpen, attributes, opensCrl, openCrl, moded, asking, noOpens, having, beside, another, allUsed, opening, crlBytes, crl, openWords, bBytes, aBytes, catalogued, twelve, fiveNames, twoSizes}
+use Rattle.literals.specs.Replies.{Row, lockingReply, readReply, writeReply, closeReply, logoffReply, disconnectReply, exitReply, lockReadReply, lockRefusedReply, unserved, malformed, noSession, noTree, noOpen, noRead, noWrite, lockType, noSuchLock, passesTop, noRecord, noSpace, readHeld, writeHeld, lockHeld, ownRangeHeld, chainHeld, messageOf, message, given, refusal, reply, doneReply, taken, opened, lock, contested, heldAt, lock100, lockBlock, range100, rangeOf, readBlock, writeBlock, closeBlock}
 use Rattle.literals.specs.State.{session, tree, open-of, sizes, tablesWith, fewRecords, memory, name}
 
 -- "With the bit set in a request, the reply sets it and carries": of that request with Flags2 0xFFFF, Flags2 being the request's & 0x4001 (docs/DECISIONS.md, 127), 0x40 at 11, and at 5 those four bytes; all else is the
@@ -47,13 +46,6 @@ withBit r b5 b6 b7 b8 =
       request = set (r .request) 11 0xFF;
       said = record { number = r .said .number; size = r .said .size; holder = r .said .holder; reply = set (put (r .said .reply) 5 (b5 ∷ b6 ∷ b7 ∷ b8 ∷ [])) 11 0x40 };
     }
-
--- a core command's message, and an OPEN_ANDX's, and what is to come of it
-unfoldable pub core : Tables → ℕ → List ℕ → Given → Row
-core t command block said = record { tables = t; request = sent command block; said = said }
-
-unfoldable pub toOpen : Tables → List ℕ → Given → Row
-toOpen t block said = record { tables = t; request = asking block; said = said }
 
 -- also with Status 0 (docs/DECISIONS.md, 127): each command done, and a chain
 unfoldable pub allDone : List Row
