@@ -1,11 +1,10 @@
 -- "C0000055 for a lock refused, C0000054 for a read or write refused" (document 02, CR 7), by the command refused: LOCKING and LOCK_BYTE_RANGE, and READ and WRITE in all forms, count 0 too
 -- (docs/DECISIONS.md, 118). Assumes nothing.
 use mathlib.Core.Path.{_≡_, refl, sym, ap, subst, _∙_}
-use Prim.Native.Nat.{ℕ, _+_, _*_, _/_, _%_, _≤_}
+use Prim.Native.Nat.{ℕ, _+_, _*_, _≤_}
 use native.Mathlib.Omega.{arith}
 use mathlib.Core.Bool.{true, cond, _||_}
 use mathlib.Core.List.{List, [], _∷_, _++_}
-use mathlib.Core.Option.{some}
 use lib.Dec.{eqb, ltb}
 use lib.ListN.{length, take, getD}
 use Rattle.wire.specs.LittleEndian.{byteAt, le32At}
@@ -13,12 +12,11 @@ use Rattle.records.specs.Empty.{noOpen}
 use Rattle.records.specs.Held.{opensOf}
 use Rattle.records.specs.declared.Tables.{Tables}
 use Rattle.locks.specs.Wire.{rangeSize, smallForm}
-use Rattle.locks.specs.Request.{rangesOf, Result, refused as refusedBy, request, settle, locking}
+use Rattle.locks.specs.Request.{rangesOf, Result, settle, locking}
 use Rattle.locks.specs.declared.types.Holder.{Holder}
 use Rattle.soundness.specs.File.{fileOf}
 use Rattle.chain.specs.Layout.{LOCKING, LOCK_BYTE_RANGE, UNLOCK_BYTE_RANGE, headerCommand, FIRST}
 use Rattle.chain.specs.Grammar.{IsBlock, locking-10, locking-20, read-10, read-12, write-12, write-14, close, logoff, tree-disconnect, process-exit, core-read, core-write, lock-byte-range, unlock-byte-range, open-15, Span, spanAt, ReadingFrom, plain-end, andx-end, andx-next, Reading}
-use Rattle.chain.specs.Chain.{blocks}
 use Rattle.chain.specs.declared.block.Block.{Block}
 use Rattle.chain.specs.declared.block.Body.the-variants.{Logoff}
 use Rattle.chain.specs.declared.block.Next.the-variants.{End}

@@ -27,7 +27,6 @@ use Rattle.chain.specs.declared.block.WriteFields.{WriteFields}
 use Rattle.chain.specs.declared.block.RangeFields.{RangeFields}
 use Rattle.chain.specs.declared.block.Body.{Body}
 use Rattle.chain.specs.declared.block.Body.the-variants.{Locking as LockingBody, Read as ReadBody, Write as WriteBody, CoreRead as CoreReadBody, CoreWrite as CoreWriteBody, LockByteRange, UnlockByteRange}
-use Rattle.message.specs.Refusal.{status}
 use Rattle.message.specs.declared.caller.Caller.{Caller}
 use Rattle.message.specs.declared.refusal.Refusal.{Refusal}
 use Rattle.message.specs.declared.refusal.Refusal.the-variants.{NoAccess, LockType}

@@ -24,7 +24,7 @@ use Rattle.message.specs.Refusal.{status, holderOf}
 use Rattle.message.specs.declared.refusal.Status.{Status}
 use Rattle.message.specs.declared.refusal.HeldBy.the-variants.{Holder as held-by}
 use Rattle.message.specs.declared.refusal.Refusal.the-variants.{}
-use Rattle.message.specs.Command.{Given, refused}
+use Rattle.message.specs.Command.{Given}
 use Rattle.message.specs.JustOpened.{NOBODY}
 use Rattle.message.specs.Message.{areaOf, dataOf, Ran, Taken}
 use Rattle.invariants.specs.JustOpenedLaws.{meant-nobody}

@@ -38,7 +38,7 @@ use Rattle.message.specs.Command.{Said, Given, refused, done, servedType, reque
 use Rattle.message.specs.JustOpened.{NOBODY, bodyMeant}
 use Rattle.message.specs.Message.{areaOf, dataOf, Ran, after, afterGiven, run, served, onlyStatus, runChain, answered}
 use Rattle.message.specs.declared.refusal.Refusal.{Refusal}
-use Rattle.message.specs.declared.refusal.Refusal.the-variants.{NotServed, NoAccess, LockType, NoSpace}
+use Rattle.message.specs.declared.refusal.Refusal.the-variants.{NotServed, NoAccess, LockType}
 use Rattle.invariants.specs.GivenCases.{cond-case, request-case, session-case, tree-case, open-case, barred-case, writing-case, opening-case}
 use Rattle.invariants.specs.Sound.{Good, Keeps, keeps-good, perform-keeps, size-most, open-file}
 

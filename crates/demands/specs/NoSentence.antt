@@ -3,7 +3,6 @@
 use mathlib.Core.Path.{_≡_, sym, ap, subst, _∙_}
 use Prim.Native.Nat.{ℕ, _+_, _≤_}
 use native.Mathlib.Omega.{arith}
-use mathlib.Core.Bool.{true, false}
 use mathlib.Core.Logic.{inl, inr}
 use mathlib.Core.List.{List}
 use lib.ListN.{length}
@@ -11,7 +10,6 @@ use Rattle.lists.specs.Truth.{decided}
 use Rattle.records.specs.declared.Tables.{Tables}
 use Rattle.chain.specs.Layout.{headerCommand}
 use Rattle.chain.specs.Grammar.{Sentence}
-use Rattle.message.specs.Refusal.{status}
 use Rattle.message.specs.Reply.{refusedBlock}
 use Rattle.message.specs.declared.refusal.Forms.{Forms}
 use Rattle.message.specs.declared.refusal.HeldBy.the-variants.{Nobody}

@@ -3,7 +3,7 @@
 use mathlib.Core.Path.{_≡_, refl, sym, _∙_, ap}
 use Prim.Native.Nat.{ℕ, _+_, _≤_, _<_}
 use native.Mathlib.Omega.{arith}
-use mathlib.Core.Bool.{Bool, true, false, cond, _&&_, _||_}
+use mathlib.Core.Bool.{Bool, true, false, cond, _||_}
 use mathlib.Core.List.{List, [], _∷_, _++_, append-nil, map}
 use mathlib.Core.Option.{some}
 use lib.ListN.{length, drop}
@@ -12,13 +12,13 @@ use lib.Dec.{eqb}
 use Rattle.lists.specs.Put.{put}
 use Rattle.wire.specs.LittleEndian.{byteAt, le16At}
 use Rattle.records.specs.declared.Tables.{Tables}
-use Rattle.chain.specs.Layout.{headerCommand, FIRST, blockEnd, andxOffset}
+use Rattle.chain.specs.Layout.{headerCommand, FIRST, blockEnd}
 use Rattle.chain.specs.Grammar.{IsBlock, Span, Reading}
 use Rattle.chain.specs.Chain.{blocks}
 use Rattle.chain.specs.declared.block.Block.{Block}
 use Rattle.chain.specs.declared.block.Next.{Next}
 use Rattle.chain.specs.declared.block.Next.the-variants.{End, Follow}
-use Rattle.invariants.specs.BlockParse.{bodyAt, blockAt, block-inside, block-served, Linked, link-plain, link-end, link-next, behind}
+use Rattle.invariants.specs.BlockParse.{bodyAt, blockAt, block-inside, block-served, behind}
 use Rattle.readings.specs.Moved.{Moved, moved-block, moved-body}
 use Rattle.invariants.specs.ReaderSound.{spanOf}
 use Rattle.readings.specs.ReaderComplete.{reader-complete}

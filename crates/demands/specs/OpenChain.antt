@@ -4,20 +4,18 @@ use mathlib.Core.Path.{_≡_, refl, sym, ap, _∙_}
 use Prim.Native.Nat.{ℕ, _+_, _*_, _%_, _≤_, _<_}
 use native.Mathlib.Decide.{ℕ-discrete}
 use native.Mathlib.Omega.{arith}
-use mathlib.Core.Bool.{true, false}
+use mathlib.Core.Bool.{true}
 use mathlib.Core.List.{List, [], _∷_, _++_, List·Memᴰ as In}
 use lib.ListN.{length, take}
 use lib.Seq.{getD-take}
-use lib.Dec.{eqb}
 use borrow.Author.Tests.{eq-eqb}
 use Rattle.wire.specs.LittleEndian.{byteAt, le16At}
 use Rattle.records.specs.declared.Open.{Open}
 use Rattle.records.specs.declared.Tables.{Tables}
-use Rattle.records.specs.Held.{opensOf}
 use Rattle.lists.specs.Members.{in-map}
 use Rattle.numbers.specs.Column.{fidOf}
 use Rattle.soundness.specs.Sound.{sound}
-use Rattle.chain.specs.Layout.{READ, OPEN, NO_COMMAND, headerCommand, FIRST, wordCount, blockEnd, andxCommand, fidAfterAndx, openFlags}
+use Rattle.chain.specs.Layout.{READ, OPEN, NO_COMMAND, headerCommand, FIRST, wordCount, andxCommand, fidAfterAndx, openFlags}
 use Rattle.chain.specs.Grammar.{Name, IsBlock, locking-10, locking-20, read-10, read-12, write-12, write-14, close, logoff, tree-disconnect, process-exit, core-read, core-write, lock-byte-range, unlock-byte-range, open-15, MayFollow, locking-read, locking-write, locking-core-read, locking-core-write, read-close, write-write, write-read, write-close, open-read, read-andx, NamedAndx, Span, ReadingFrom, plain-end, andx-end, andx-next, Reading}
 use Rattle.chain.specs.declared.block.Block.{Block}
 use Rattle.chain.specs.declared.block.Body.the-variants.{Logoff}
@@ -25,7 +23,6 @@ use Rattle.chain.specs.declared.block.Next.the-variants.{End}
 use Rattle.invariants.specs.BlockParse.{block-inside, blockSize, andx-words, plain-not-andx}
 use Rattle.invariants.specs.ReaderSound.{spanOf}
 use Rattle.invariants.specs.Fit.{Fit, fit-answered}
-use Rattle.invariants.specs.Sound.{Good}
 use Rattle.readings.specs.Moved.{Moved, moved-fid}
 use Rattle.invariants.specs.Numbered.{numbered-within}
 use Rattle.invariants.specs.SoundParts.{sound-says}
@@ -39,11 +36,10 @@ use Rattle.message.specs.declared.link.Link.the-variants.{None as none}
 use Rattle.message.specs.declared.refusal.HeldBy.the-variants.{Nobody}
 use Rattle.message.specs.JustOpened.{NOBODY, openedBy}
 use Rattle.demands.specs.Admitted.{Admitted}
-use Rattle.demands.specs.Alone.{alone, alone-command, alone-moved, length-alone}
-use Rattle.demands.specs.Carrying.{carrying, carrying-byte, carried-fid, asks-opened, carrying-named, carrying-other, lone-gives}
+use Rattle.demands.specs.Alone.{alone-command, alone-moved, length-alone}
+use Rattle.demands.specs.Carrying.{carrying-byte, carried-fid, asks-opened, carrying-named, carrying-other, lone-gives}
 use Rattle.demands.specs.Returned.{returnedFid, reply-returned, reply-none, Silent, silent-said, other-silent}
 use Rattle.demands.specs.CallsOneByOne.{replyIn, reply-read}
-use Rattle.demands.specs.StatusRead.{statusRead}
 use Rattle.demands.specs.CoreMoved.{Stands, stands-in}
 use Rattle.demands.specs.OpenEffects.{OpenDone}
 use Rattle.demands.specs.SpansOneByOne.{aloneSpan, alone-span, ownSpan}

@@ -9,9 +9,8 @@ use lib.Seq.{take-append-seam, drop-append-add, getD-append-add}
 use Rattle.lists.specs.Put.{put}
 use Rattle.wire.specs.LittleEndian.{byteAt, le16At, le32At}
 use Rattle.chain.specs.Layout.{FIRST}
-use Rattle.message.specs.Refusal.{status, success}
+use Rattle.message.specs.Refusal.{success}
 use Rattle.message.specs.declared.refusal.Forms.{Forms}
-use Rattle.message.specs.declared.refusal.Status.{Status}
 use Rattle.message.specs.declared.link.Link.the-variants.{None as noLink}
 use Rattle.message.specs.Command.{Said, read, wrote, plain, coreRead, coreWrote, opened}
 use Rattle.message.specs.Reply.{two, four, linkWords, replyHeader, replyBlock, refusedBlock}

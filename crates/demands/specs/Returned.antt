@@ -4,14 +4,14 @@ use mathlib.Core.Path.{_≡_, refl, sym, ap, _∙_}
 use Prim.Native.Nat.{ℕ, _+_, _*_, _/_, _%_, _≤_, _<_}
 use native.Mathlib.Omega.{arith}
 use mathlib.Core.Bool.{Bool, true, false, cond}
-use mathlib.Core.List.{List, [], _∷_, _++_, map}
-use lib.ListN.{length, take, drop, getD, length-take, length-map}
+use mathlib.Core.List.{List, [], _++_, map}
+use lib.ListN.{length, getD, length-take, length-map}
 use lib.Seq.{getD-append-add}
 use lib.Dec.{leb, ltb, eqb}
 use borrow.Author.Tests.{leb-false}
 use Rattle.wire.specs.LittleEndian.{byteAt, le16At}
-use Rattle.records.specs.Empty.{noOpen, noName}
-use Rattle.records.specs.Held.{opensOf, namesOf, locksOf}
+use Rattle.records.specs.Empty.{noOpen}
+use Rattle.records.specs.Held.{opensOf, locksOf}
 use Rattle.records.specs.declared.Tables.{Tables}
 use Rattle.numbers.specs.Number.{smallestFree}
 use Rattle.numbers.specs.Column.{fidOf}
@@ -38,7 +38,7 @@ use Rattle.message.specs.JustOpened.{NOBODY, openedBy, bodyMeant}
 use Rattle.message.specs.Reply.{two, four, replyHeader, linkWords, replyBlock, refusedBlock}
 use Rattle.message.specs.declared.link.Link.the-variants.{None as none}
 use Rattle.message.specs.Message.{Ran, replyOf}
-use Rattle.invariants.specs.GivenCases.{cond-case, request-case, session-case, tree-case, open-case, barred-case, writing-case, Opening, opening-case}
+use Rattle.invariants.specs.GivenCases.{cond-case, request-case, session-case, tree-case, open-case, barred-case, writing-case, opening-case}
 use Rattle.invariants.specs.Number.{smallest-high}
 use Rattle.invariants.specs.ReplySize.{length-header}
 

@@ -9,9 +9,7 @@ use mathlib.Core.Bool.{true}
 use mathlib.Core.List.{List, [], _∷_, _++_, map}
 use mathlib.Core.Option.{some}
 use lib.ListN.{length}
-use lib.Dec.{eqb}
-use borrow.Author.Tests.{eqb-true}
-use Rattle.lists.specs.Truth.{decided, both-hold}
+use Rattle.lists.specs.Truth.{decided}
 use Rattle.wire.specs.LittleEndian.{le32At}
 use Rattle.records.specs.declared.Tables.{Tables}
 use Rattle.chain.specs.Layout.{headerCommand, FIRST}
@@ -27,7 +25,6 @@ use Rattle.readings.specs.ReaderComplete.{reader-complete}
 use Rattle.message.specs.Caller.{callerOf}
 use Rattle.message.specs.Refusal.{status}
 use Rattle.message.specs.declared.refusal.Forms.{Forms}
-use Rattle.message.specs.declared.refusal.Status.{Status}
 use Rattle.message.specs.Message.{Ran, answered, replyOf, take-message}
 use Rattle.message.specs.JustOpened.{NOBODY}
 use Rattle.demands.specs.Returned.{returnedFid}

@@ -20,7 +20,7 @@ use Rattle.records.specs.Held.{withSessions, withTrees, withOpens, withLocks}
 use Rattle.locks.specs.Range.{overlaps, passesEnd}
 use Rattle.locks.specs.Wire.{rangeSize, numberAt, rangeFrom, rangeAt, rangesAt}
 use Rattle.locks.specs.Answer.{owns, bars, inWay, named, answersFor, answers}
-use Rattle.locks.specs.Request.{ofHeader, rangesOf, holderAt, askOf, lockOf, removeAt, afterFind, releaseAll, afterWalk, grantAll, afterGrants, rangePasses, afterReleases, request, settle, locking}
+use Rattle.locks.specs.Request.{ofHeader, rangesOf, askOf, lockOf, removeAt, afterFind, releaseAll, afterWalk, grantAll, afterGrants, rangePasses, afterReleases, request, settle, locking}
 use Rattle.numbers.specs.Number.{contains, numberOk, numbered, freeFrom, smallestFree}
 use Rattle.catalogue.specs.Name.{folded, sameName, nameBytes, isNamed, notZero, nameOk, differ, noneDoubled, catalogueOk}
 use Rattle.soundness.specs.File.{fileOf}
@@ -40,7 +40,7 @@ use Rattle.message.specs.JustOpened.{openedBy, fidMeant, bodyMeant}
 use Rattle.message.specs.Message.{areaOf, dataOf, after, linkTo, afterGiven, run, served, onlyStatus, runChain, answered, replyOf, replied, take-message}
 use Rattle.literals.specs.Counting.{countFrom}
 use Rattle.literals.specs.State.{session, tree, open-of, name, memory}
-use Rattle.literals.specs.Replies.{message, lock100, lockBlock, range100, taken, Given, given, reply, doneReply, Row, refusal, lock}
+use Rattle.literals.specs.Replies.{message, lock100, lockBlock, range100, taken, Given, given, reply, doneReply, Row, refusal}
 
 -- ---- tables with a catalogue
 

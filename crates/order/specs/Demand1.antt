@@ -4,7 +4,7 @@ use mathlib.Core.Logic.{_↔_, Iff·trans}
 use Prim.Native.Nat.{ℕ, _≤_}
 use mathlib.Core.List.{List, [], _∷_, _++_}
 use lib.ListN.{length, length-replicate}
-use Rattle.wire.specs.LittleEndian.{le32At, byteAt}
+use Rattle.wire.specs.LittleEndian.{le32At}
 use Rattle.records.specs.declared.Name.{Name}
 use Rattle.records.specs.declared.Tables.{Tables}
 use Rattle.host.specs.HostCall.{addSession, addTree, addOpen, loadFile, loadMemory, dropConnection, setCatalogue}
@@ -12,7 +12,7 @@ use Rattle.chain.specs.Layout.{LOCKING, READ, WRITE, CLOSE, LOGOFF, TREE_DISCON
 use Rattle.chain.specs.Grammar.{Span, Reading, Sentence}
 use Rattle.chain.specs.Parse.{rangeFields, openFields}
 use Rattle.chain.specs.declared.block.WriteFields.{WriteFields}
-use Rattle.message.specs.Message.{Taken, notTaken, take-message}
+use Rattle.message.specs.Message.{notTaken, take-message}
 use Rattle.message.specs.JustOpened.{NOBODY}
 use Rattle.message.specs.declared.caller.Caller.{Caller}
 use Rattle.message.specs.declared.refusal.Status.{Status}
@@ -21,7 +21,7 @@ use Rattle.invariants.specs.Sound.{Good}
 use Rattle.claims.specs.HostReasons.{SessionReason, TreeReason, OpenReason, LoadReason, DropReason, SetReason, addSession-reason, addSession-given, addTree-reason, addTree-given, addOpen-reason, addOpen-given, loadFile-reason, loadFile-given, dropConnection-reason, dropConnection-given, setCatalogue-reason, setCatalogue-given}
 use Rattle.claims.specs.HostAnswer.{Unchanged, addSession-refused, addTree-refused, addOpen-refused, loadFile-refused, loadMemory-refused, dropConnection-refused, setCatalogue-refused}
 use Rattle.demands.specs.MessageReasons.{MessageReason, take-message-reason, take-message-given}
-use Rattle.demands.specs.NotServed.{Known, not-served-exact}
+use Rattle.demands.specs.NotServed.{not-served-exact}
 use Rattle.demands.specs.CoreReasons.{LockStatus, UnlockStatus}
 use Rattle.demands.specs.OpenReasons.{OpenStatus}
 use Rattle.demands.specs.CommandReasons.{SessionStatus, TreeStatus, CloseStatus, ReadStatus, WriteStatus, SetSizeStatus, CoreWriteStatus, some-count, count-0}

@@ -20,7 +20,6 @@ use Rattle.demands.specs.NotServed.{known-exact}
 use Rattle.demands.specs.Calls.{malformed-call}
 use Rattle.demands.specs.Taken.{free-taken, unread-taken}
 use Rattle.demands.specs.CallsOneByOne.{comparedCall}
-use Rattle.message.specs.Refusal.{status}
 use Rattle.message.specs.JustOpened.{NOBODY}
 use Rattle.demands.specs.SpansOneByOne.{spans-one-by-one}
 use Rattle.demands.specs.SpansFit.{AllSentFit, spans-fit}

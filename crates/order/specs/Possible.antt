@@ -4,9 +4,8 @@
 use mathlib.Core.Path.{_≡_, refl, sym, ap, _∙_}
 use Prim.Native.Nat.{ℕ, zero, suc, _+_, _-_, _≤_, _<_}
 use native.Mathlib.Omega.{arith}
-use mathlib.Core.Bool.{Bool, true, false}
-use mathlib.Core.List.{List, [], _∷_, _++_, map, List·Memᴰ as In, List·Memᴰ·head as first, List·Memᴰ·tail as later}
-use mathlib.Core.Option.{some}
+use mathlib.Core.Bool.{true, false}
+use mathlib.Core.List.{List, [], _∷_, _++_, List·Memᴰ as In, List·Memᴰ·head as first, List·Memᴰ·tail as later}
 use lib.ListN.{length, take, drop, replicate, length-replicate, getD}
 use lib.Seq.{getD-take, getD-drop}
 use lib.Dec.{ltb}
@@ -16,11 +15,9 @@ use Rattle.lists.specs.Put.{put}
 use Rattle.lists.specs.Walk.{any, all, allTails, found, foundFrom}
 use Rattle.lists.specs.Stored.{stored}
 use Rattle.wire.specs.LittleEndian.{byteAt, le16At, le32At}
-use Rattle.records.specs.declared.Open.{Open}
 use Rattle.records.specs.declared.Tables.{Tables}
 use Rattle.records.specs.Empty.{noSession, noTree, noOpen, noLock, noFile, noName}
 use Rattle.numbers.specs.Number.{contains, numberOk, numbered}
-use Rattle.numbers.specs.Column.{uidOf, tidOf, fidOf}
 use Rattle.locks.specs.Range.{overlaps, passesEnd}
 use Rattle.locks.specs.Wire.{rangeSize, numberAt, rangeFrom, rangeAt, rangesAt}
 use Rattle.locks.specs.Answer.{owns, bars, inWay, named, answersFor, answers}
@@ -47,11 +44,11 @@ use Rattle.invariants.specs.Sound.{Good}
 use Rattle.invariants.specs.Fit.{fit-answered}
 use Rattle.invariants.specs.ReaderSound.{spanOf, reader-sound}
 use Rattle.claims.specs.Cases.{message}
-use Rattle.demands.specs.NotServed.{Known, known-locking}
+use Rattle.demands.specs.NotServed.{known-locking}
 use Rattle.demands.specs.SentenceCases.{message-60-none}
 use Rattle.demands.specs.Calls.{status-call, length-call}
 use Rattle.claims.specs.HostReasons.{HasTree}
-use Rattle.demands.specs.Admitted.{SessionHere, Admitted}
+use Rattle.demands.specs.Admitted.{SessionHere}
 use Rattle.demands.specs.CommandReasons.{OnlyTwoBits}
 use Rattle.claims.specs.StreamKept.{Bytes}
 use Rattle.literals.specs.Replies.{message as requested}

@@ -1,8 +1,8 @@
 -- The premises of change request 6's page, and of demand 1's and demand 2's rows `opening`, are possible: tables with a catalogue that the host has set, an OPEN_ANDX that is carried out, one
 -- that is refused 1/32, and a chain of an OPEN_ANDX and a READ_ANDX of FID 0xFFFF. Each is an instance that the checker computes. (Whole replies, and each other refusal:
 -- literals/specs/Opening.antt.) Assumes nothing.
-use mathlib.Core.Path.{_≡_, refl, sym, ap, subst, _∙_}
-use Prim.Native.Nat.{ℕ, _+_, _/_, _%_}
+use mathlib.Core.Path.{_≡_, refl, sym, subst, _∙_}
+use Prim.Native.Nat.{ℕ}
 use native.Mathlib.Omega.{arith}
 use mathlib.Core.Bool.{true, false}
 use mathlib.Core.List.{List, [], _∷_, _++_, List·Memᴰ·head as first}
@@ -10,19 +10,17 @@ use lib.ListN.{length, replicate, length-replicate}
 use Rattle.lists.specs.Walk.{any, all, allTails, found, foundFrom}
 use Rattle.lists.specs.Stored.{stored}
 use Rattle.wire.specs.LittleEndian.{le16At, le32At}
-use Rattle.records.specs.declared.Open.{Open}
 use Rattle.records.specs.declared.Name.{Name}
 use Rattle.records.specs.declared.Tables.{Tables}
 use Rattle.records.specs.Empty.{noSession, noTree, noOpen, noLock, noFile, noName}
 use Rattle.records.specs.Held.{withOpens, withCatalogue}
 use Rattle.numbers.specs.Number.{contains, numberOk, numbered, freeFrom, smallestFree}
 use Rattle.locks.specs.Range.{overlaps, passesEnd}
-use Rattle.locks.specs.Answer.{answers}
 use Rattle.catalogue.specs.Name.{folded, sameName, nameBytes, isNamed, notZero, nameOk, differ, noneDoubled, catalogueOk}
 use Rattle.soundness.specs.File.{fileOf}
 use Rattle.soundness.specs.Lookup.{isTree}
 use Rattle.soundness.specs.Sound.{withinRoom, fileOk, treeOk, permits, holdsOpen, sharingOk, openOk, soundRecords, lockOk, agree, agreeAll, soundLocks, sound}
-use Rattle.host.specs.HostCall.{refused, done, setCatalogue}
+use Rattle.host.specs.HostCall.{done, setCatalogue}
 use Rattle.chain.specs.Layout.{READ, OPEN, FIRST, fidAfterAndx}
 use Rattle.chain.specs.Grammar.{Span, Reading}
 use Rattle.chain.specs.Header.{startsSmb, isReply, dropped}
@@ -36,7 +34,7 @@ use Rattle.message.specs.Sharing.{reads, writes, deniesReading, deniesWriting, 
 use Rattle.message.specs.Command.{isSession, withSession, withTree, isOpen, openAt, withOpen, askBy, unlessBarred, barring, doRead, codesServed, nameAsked, openBy, openedSaid, openFile, openNamed, doOpen, perform}
 use Rattle.message.specs.Reply.{replySize}
 use Rattle.message.specs.JustOpened.{openedBy, fidMeant, bodyMeant}
-use Rattle.message.specs.Message.{areaOf, dataOf, after, linkTo, afterGiven, run, served, runChain, answered}
+use Rattle.message.specs.Message.{areaOf, dataOf, after, afterGiven, run, served, runChain, answered}
 use Rattle.invariants.specs.Sound.{Good}
 use Rattle.invariants.specs.ReaderSound.{spanOf, reader-sound}
 use Rattle.claims.specs.HostReasons.{HasTree, HasPermitting}

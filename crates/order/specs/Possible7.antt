@@ -11,7 +11,7 @@ use Rattle.chain.specs.Header.{startsSmb, isReply, dropped}
 use Rattle.chain.specs.Grammar.{Reading}
 use Rattle.claims.specs.Cases.{message}
 use Rattle.demands.specs.NtStatus.{ButByte11, reading-too, form-alone}
-use Rattle.order.specs.Call.{Call, gives, Answerable}
+use Rattle.order.specs.Call.{Call, Answerable}
 use Rattle.order.specs.Demand2.{RefusedForConflict}
 use Rattle.order.specs.Possible.{plant, asked, plant-good, answerable, kept-61, chainSpans, chain-reading, lock-refused}
 

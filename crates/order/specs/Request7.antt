@@ -6,7 +6,7 @@ use mathlib.Core.Bool.{true}
 use mathlib.Core.List.{List, List·Memᴰ as In}
 use lib.ListN.{length-replicate}
 use borrow.Author.Tests.{eq-eqb}
-use Rattle.wire.specs.LittleEndian.{byteAt, le32At}
+use Rattle.wire.specs.LittleEndian.{byteAt}
 use Rattle.chain.specs.Layout.{LOCKING, READ, WRITE, CORE-READ, CORE-WRITE, LOCK_BYTE_RANGE, headerCommand}
 use Rattle.chain.specs.Grammar.{Span, Reading}
 use Rattle.message.specs.Refusal.{status, formsOf, statusOf, ntOf}

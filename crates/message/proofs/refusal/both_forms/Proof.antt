@@ -1,7 +1,6 @@
 -- `message::refusal::both_forms` meets its contract: the fields of the definition.
 -- Assumes nothing.
 use borrow.Author.Needs.{needs}
-use mathlib.Core.Path.{refl}
 use Rattle.message.proofs.refusal.both_forms.Statement.{statement}
 use Rattle.message.proofs.refusal.both_forms.Tie as tie
 use Rattle.message.specs.Refusal.{status}
