@@ -16,13 +16,13 @@ abbrev pub noTree : Tree
 noTree = record { tid = 0; uid = 0; right = 0 }
 
 abbrev pub noOpen : Open
-noOpen = record { fid = 0; uid = 0; tid = 0; process = 0; file = 0; access = 0; sharing = 0 }
+noOpen = record { fid = 0; uid = 0; tid = 0; process = 0; file = 0; access = 0; sharing = 0; read = false; seen = 0 }
 
 abbrev pub noLock : Lock
 noLock = record { fid = 0; process = 0; offset = 0; length = 0; shared = false }
 
 abbrev pub noFile : File
-noFile = record { size = 0 }
+noFile = record { size = 0; changes = 0 }
 
 abbrev pub noName : Name
 noName = record { length = 0; text = replicate 12 0; file = 0 }

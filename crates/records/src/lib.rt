@@ -15,7 +15,7 @@ pub struct Tree {
 }
 
 // An open file: access 0 is read, 1 is write, 2 is both; sharing is what it denies to others (document 02, CR 6): 1 both, 2 write,
-// 3 read, 4 nothing.
+// 3 read, 4 nothing; whether it has read, and the file's change number at its last granted read (CR 8), 0 in a new open.
 pub struct Open {
     pub fid: u16,
     pub uid: u16,
@@ -24,6 +24,8 @@ pub struct Open {
     pub file: u8,
     pub access: u8,
     pub sharing: u8,
+    pub read: bool,
+    pub seen: u64,
 }
 
 // A byte-range lock. The locks of the table stand in order of grant.
@@ -35,9 +37,11 @@ pub struct Lock {
     pub shared: bool,
 }
 
-// A file: how many of its 4,096 bytes in the file memory count.
+// A file: how many of its 4,096 bytes in the file memory count, and how often it was changed, as far as 32 bits count (document 02, CR 8: "a 32-bit change number"). Soundness
+// keeps both within their limits, 4,096 and 4,294,967,295.
 pub struct File {
     pub size: usize,
+    pub changes: u64,
 }
 
 // A name of the catalogue (document 02, CR 6): the first `length` bytes of its text, and the file that it names.
