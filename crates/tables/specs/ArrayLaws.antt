@@ -140,21 +140,38 @@ wrote f limits n w x i y h long words narrow e =
       stand = other f k n w x i h long words;
     })
 
--- ---- the files, whose record is one word
+-- ---- the files, two words each and no count in front
+
+-- words 2 * i and 2 * i + 1 written: those of no other record
+pair-other : (w : List ℕ) (i j a b : ℕ) → (j ≡ i → ⊥)
+    → (word (set (set w (2 * i) a) (2 * i + 1) b) (2 * j) ≡ word w (2 * j)) × (word (set (set w (2 * i) a) (2 * i + 1) b) (2 * j + 1) ≡ word w (2 * j + 1))
+pair-other w i j a b n =
+    let v = set w (2 * i) a in (
+      getD-set-other v (2 * i + 1) (2 * j) b 0 (λ e. omega arith) ∙ getD-set-other w (2 * i) (2 * j) a 0 (λ e. n (let q : j ≡ i = omega arith in q)),
+      getD-set-other v (2 * i + 1) (2 * j + 1) b 0 (λ e. n (let q : j ≡ i = omega arith in q)) ∙ getD-set-other w (2 * i) (2 * j + 1) a 0 (λ e. omega arith),
+    )
 
 pub length-fileArray : (w : List ℕ) → length (fileArray w) ≡ 16
 unfolding fileArray
-length-fileArray w = length-upTo (λ i. fileOf (word w i)) 16
+length-fileArray w = length-upTo (λ i. fileOf (word w (2 * i)) (word w (2 * i + 1))) 16
 
-pub file-at : (w : List ℕ) (i : ℕ) (d : File) → i < 16 → getD (fileArray w) i d ≡ fileOf (word w i)
+pub file-at : (w : List ℕ) (i : ℕ) (d : File) → i < 16 → getD (fileArray w) i d ≡ fileOf (word w (2 * i)) (word w (2 * i + 1))
 unfolding fileArray
-file-at w i d h = getD-upTo (λ i. fileOf (word w i)) 16 i d h
+file-at w i d h = getD-upTo (λ i. fileOf (word w (2 * i)) (word w (2 * i + 1))) 16 i d h
 
--- a size written: no other changes
-pub fileArray-set : (w : List ℕ) (i size : ℕ) → length w ≡ 16 → i < 16 → fileArray (set w i size) ≡ set (fileArray w) i (fileOf size)
+-- a file written: no other changes
+pub fileArray-set : (w : List ℕ) (i size changes : ℕ) → length w ≡ 32 → i < 16
+    → fileArray (set (set w (2 * i) size) (2 * i + 1) changes) ≡ set (fileArray w) i (fileOf size changes)
 unfolding fileArray
-fileArray-set w i size long h =
-    let inside : i < length w = omega arith in
-    upTo-set (λ j. fileOf (word w j)) (λ j. fileOf (word (set w i size) j)) 16 i (fileOf size) h
-    (ap fileOf (getD-set-same w i size 0 inside))
-    (λ j e. ap fileOf (getD-set-other w i j size 0 e))
+fileArray-set w i size changes long h =
+    let v = set w (2 * i) size in
+    let inside : 2 * i < length w = omega arith in
+    let same : length (set w (2 * i) size) ≡ length w = length-set w (2 * i) size in
+    let inside′ : 2 * i + 1 < length (set w (2 * i) size) = omega arith in
+    upTo-set (λ j. fileOf (word w (2 * j)) (word w (2 * j + 1))) (λ j. fileOf (word (set v (2 * i + 1) changes) (2 * j)) (word (set v (2 * i + 1) changes) (2 * j + 1))) 16 i
+    (fileOf size changes) h
+    (λ k. record {
+      size = (getD-set-other v (2 * i + 1) (2 * i) changes 0 (λ e. omega arith) ∙ getD-set-same w (2 * i) size 0 inside) k;
+      changes = getD-set-same v (2 * i + 1) changes 0 inside′ k;
+    })
+    (λ j e. let o = pair-other w i j size changes e in λ k. record { size = o .0 k; changes = o .1 k })

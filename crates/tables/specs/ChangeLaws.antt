@@ -26,7 +26,7 @@ length-treeArray w = length-array treeOf 3 32 w
 
 pub length-openArray : (w : List ℕ) → length (openArray w) ≡ 64
 unfolding openArray
-length-openArray w = length-array openOf 7 64 w
+length-openArray w = length-array openOf 9 64 w
 
 pub length-lockArray : (w : List ℕ) → length (lockArray w) ≡ 128
 unfolding lockArray
@@ -47,7 +47,7 @@ module _ (w : List ℕ) (count : ℕ) (h : 0 < length w) where
 
   pub openArray-count : openArray (set w 0 count) ≡ openArray w
   unfolding openArray
-  openArray-count = array-count openOf 7 64 w count h
+  openArray-count = array-count openOf 9 64 w count h
 
   pub lockArray-count : lockArray (set w 0 count) ≡ lockArray w
   unfolding lockArray

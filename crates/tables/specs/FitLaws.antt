@@ -170,12 +170,12 @@ unfolding treeArray
 trees-faithful w i long e h =
     faithful treeOf treeWords treeLimits 32 (λ w at. tree-exact (word w at) (word w (at + 1)) (word w (at + 2))) w (inUse w 32) i noTree long e h (omega arith)
 
-pub opens-faithful : (w : List ℕ) (i : ℕ) → length w ≡ 449 → recordsFit openLimits (inUse w 64) w ≡ true → i < inUse w 64
-    → openWords (getD (openArray w) i noOpen) ≡ recordAt 7 w i
+pub opens-faithful : (w : List ℕ) (i : ℕ) → length w ≡ 577 → recordsFit openLimits (inUse w 64) w ≡ true → i < inUse w 64
+    → openWords (getD (openArray w) i noOpen) ≡ recordAt 9 w i
 unfolding openArray
 opens-faithful w i long e h =
     faithful openOf openWords openLimits 64
-    (λ w at. open-exact (word w at) (word w (at + 1)) (word w (at + 2)) (word w (at + 3)) (word w (at + 4)) (word w (at + 5)) (word w (at + 6)))
+    (λ w at. open-exact (word w at) (word w (at + 1)) (word w (at + 2)) (word w (at + 3)) (word w (at + 4)) (word w (at + 5)) (word w (at + 6)) (word w (at + 7)) (word w (at + 8)))
     w (inUse w 64) i noOpen long e h (omega arith)
 
 pub locks-faithful : (w : List ℕ) (i : ℕ) → length w ≡ 641 → recordsFit lockLimits (inUse w 128) w ≡ true → i < inUse w 128

@@ -100,6 +100,8 @@ open-back o h =
       file = uncut (o .file) 255 (h .1 .1 .1 .1 .0) i;
       access = uncut (o .access) 255 (h .1 .1 .1 .1 .1 .0) i;
       sharing = uncut (o .sharing) 255 (h .1 .1 .1 .1 .1 .1 .0) i;
+      read = flag-back (o .read) i;
+      seen = o .seen;
     }
 
 pub lock-back : (l : Lock) → Within lockLimits (lockWords l) → lockOf (lockWords l) ≡ l
@@ -123,10 +125,10 @@ pub tree-exact : (a b c : ℕ) → Within treeLimits (a ∷ b ∷ c ∷ []) → 
 unfolding treeOf
 tree-exact a b c h = λ i. uncut a 65535 (h .0) i ∷ uncut b 65535 (h .1 .0) i ∷ uncut c 255 (h .1 .1 .0) i ∷ []
 
-pub open-exact : (a b c d e f g : ℕ) → Within openLimits (a ∷ b ∷ c ∷ d ∷ e ∷ f ∷ g ∷ [])
-    → openWords (openOf (a ∷ b ∷ c ∷ d ∷ e ∷ f ∷ g ∷ [])) ≡ a ∷ b ∷ c ∷ d ∷ e ∷ f ∷ g ∷ []
+pub open-exact : (a b c d e f g k l : ℕ) → Within openLimits (a ∷ b ∷ c ∷ d ∷ e ∷ f ∷ g ∷ k ∷ l ∷ [])
+    → openWords (openOf (a ∷ b ∷ c ∷ d ∷ e ∷ f ∷ g ∷ k ∷ l ∷ [])) ≡ a ∷ b ∷ c ∷ d ∷ e ∷ f ∷ g ∷ k ∷ l ∷ []
 unfolding openOf
-open-exact a b c d e f g h =
+open-exact a b c d e f g k l h =
     λ i.
     uncut a 65535 (h .0) i
     ∷ uncut b 65535 (h .1 .0) i
@@ -135,6 +137,8 @@ open-exact a b c d e f g h =
     ∷ uncut e 255 (h .1 .1 .1 .1 .0) i
     ∷ uncut f 255 (h .1 .1 .1 .1 .1 .0) i
     ∷ uncut g 255 (h .1 .1 .1 .1 .1 .1 .0) i
+    ∷ flag-exact k (h .1 .1 .1 .1 .1 .1 .1 .0) i
+    ∷ l
     ∷ []
 
 pub lock-exact : (a b c d e : ℕ) → Within lockLimits (a ∷ b ∷ c ∷ d ∷ e ∷ [])

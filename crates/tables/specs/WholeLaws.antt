@@ -28,15 +28,15 @@ pub trees-in : (w : List ℕ) → treesOf (tablesOf w) ≡ treesIn (part w 33 97
 unfolding tablesOf
 trees-in w = refl
 
-pub opens-in : (w : List ℕ) → opensOf (tablesOf w) ≡ opensIn (part w 130 449)
+pub opens-in : (w : List ℕ) → opensOf (tablesOf w) ≡ opensIn (part w 130 577)
 unfolding tablesOf
 opens-in w = refl
 
-pub locks-in : (w : List ℕ) → locksOf (tablesOf w) ≡ locksIn (part w 579 641)
+pub locks-in : (w : List ℕ) → locksOf (tablesOf w) ≡ locksIn (part w 707 641)
 unfolding tablesOf
 locks-in w = refl
 
-pub names-in : (w : List ℕ) → namesOf (tablesOf w) ≡ namesIn (part w 1236 225)
+pub names-in : (w : List ℕ) → namesOf (tablesOf w) ≡ namesIn (part w 1380 225)
 unfolding tablesOf
 names-in w = refl
 
@@ -111,9 +111,9 @@ withLockArray t list count =
 pub record TablesFit (w : List ℕ) : Type 0 where
   pub sessions-fit : tableFits sessionLimits 16 (part w 0 33) ≡ true
   pub trees-fit : tableFits treeLimits 32 (part w 33 97) ≡ true
-  pub opens-fit : tableFits openLimits 64 (part w 130 449) ≡ true
-  pub locks-fit : tableFits lockLimits 128 (part w 579 641) ≡ true
-  pub names-fit : tableFits nameLimits 16 (part w 1236 225) ≡ true
+  pub opens-fit : tableFits openLimits 64 (part w 130 577) ≡ true
+  pub locks-fit : tableFits lockLimits 128 (part w 707 641) ≡ true
+  pub names-fit : tableFits nameLimits 16 (part w 1380 225) ≡ true
 
 pub told-fit : (w : List ℕ) → inUseFit w ≡ true → TablesFit w
 unfolding inUseFit
@@ -128,7 +128,7 @@ pub fit-told : (w : List ℕ) → TablesFit w → inUseFit w ≡ true
 unfolding inUseFit
 fit-told w t = rw (t .sessions-fit, t .trees-fit, t .opens-fit, t .locks-fit, t .names-fit)
 
-module _ (w e : List ℕ) (full : length w ≡ 1461) where
+module _ (w e : List ℕ) (full : length w ≡ 1605) where
   -- ---- each table's words, lent and changed
 
   pub tables-sessions : length e ≡ 33 → tablesOf (lent w 0 33 e) ≡ withSessionArray (tablesOf w) (sessionArray e) (word e 0)
@@ -137,10 +137,10 @@ module _ (w e : List ℕ) (full : length w ≡ 1461) where
       rw (
         lent-here w e 0 33 long (omega arith),
         lent-behind w e 0 33 long (omega arith) 33 97 (omega arith),
-        lent-behind w e 0 33 long (omega arith) 130 449 (omega arith),
-        lent-behind w e 0 33 long (omega arith) 579 641 (omega arith),
-        lent-behind w e 0 33 long (omega arith) 1220 16 (omega arith),
-        lent-behind w e 0 33 long (omega arith) 1236 225 (omega arith),
+        lent-behind w e 0 33 long (omega arith) 130 577 (omega arith),
+        lent-behind w e 0 33 long (omega arith) 707 641 (omega arith),
+        lent-behind w e 0 33 long (omega arith) 1348 32 (omega arith),
+        lent-behind w e 0 33 long (omega arith) 1380 225 (omega arith),
       )
 
   pub tables-trees : length e ≡ 97 → tablesOf (lent w 33 97 e) ≡ withTreeArray (tablesOf w) (treeArray e) (word e 0)
@@ -149,58 +149,58 @@ module _ (w e : List ℕ) (full : length w ≡ 1461) where
       rw (
         lent-here w e 33 97 long (omega arith),
         lent-before w e 33 97 long (omega arith) 0 33 (omega arith),
-        lent-behind w e 33 97 long (omega arith) 130 449 (omega arith),
-        lent-behind w e 33 97 long (omega arith) 579 641 (omega arith),
-        lent-behind w e 33 97 long (omega arith) 1220 16 (omega arith),
-        lent-behind w e 33 97 long (omega arith) 1236 225 (omega arith),
+        lent-behind w e 33 97 long (omega arith) 130 577 (omega arith),
+        lent-behind w e 33 97 long (omega arith) 707 641 (omega arith),
+        lent-behind w e 33 97 long (omega arith) 1348 32 (omega arith),
+        lent-behind w e 33 97 long (omega arith) 1380 225 (omega arith),
       )
 
-  pub tables-opens : length e ≡ 449 → tablesOf (lent w 130 449 e) ≡ withOpenArray (tablesOf w) (openArray e) (word e 0)
+  pub tables-opens : length e ≡ 577 → tablesOf (lent w 130 577 e) ≡ withOpenArray (tablesOf w) (openArray e) (word e 0)
   unfolding tablesOf withOpenArray
   tables-opens long =
       rw (
-        lent-here w e 130 449 long (omega arith),
-        lent-before w e 130 449 long (omega arith) 0 33 (omega arith),
-        lent-before w e 130 449 long (omega arith) 33 97 (omega arith),
-        lent-behind w e 130 449 long (omega arith) 579 641 (omega arith),
-        lent-behind w e 130 449 long (omega arith) 1220 16 (omega arith),
-        lent-behind w e 130 449 long (omega arith) 1236 225 (omega arith),
+        lent-here w e 130 577 long (omega arith),
+        lent-before w e 130 577 long (omega arith) 0 33 (omega arith),
+        lent-before w e 130 577 long (omega arith) 33 97 (omega arith),
+        lent-behind w e 130 577 long (omega arith) 707 641 (omega arith),
+        lent-behind w e 130 577 long (omega arith) 1348 32 (omega arith),
+        lent-behind w e 130 577 long (omega arith) 1380 225 (omega arith),
       )
 
-  pub tables-locks : length e ≡ 641 → tablesOf (lent w 579 641 e) ≡ withLockArray (tablesOf w) (lockArray e) (word e 0)
+  pub tables-locks : length e ≡ 641 → tablesOf (lent w 707 641 e) ≡ withLockArray (tablesOf w) (lockArray e) (word e 0)
   unfolding tablesOf withLockArray
   tables-locks long =
       rw (
-        lent-here w e 579 641 long (omega arith),
-        lent-before w e 579 641 long (omega arith) 0 33 (omega arith),
-        lent-before w e 579 641 long (omega arith) 33 97 (omega arith),
-        lent-before w e 579 641 long (omega arith) 130 449 (omega arith),
-        lent-behind w e 579 641 long (omega arith) 1220 16 (omega arith),
-        lent-behind w e 579 641 long (omega arith) 1236 225 (omega arith),
+        lent-here w e 707 641 long (omega arith),
+        lent-before w e 707 641 long (omega arith) 0 33 (omega arith),
+        lent-before w e 707 641 long (omega arith) 33 97 (omega arith),
+        lent-before w e 707 641 long (omega arith) 130 577 (omega arith),
+        lent-behind w e 707 641 long (omega arith) 1348 32 (omega arith),
+        lent-behind w e 707 641 long (omega arith) 1380 225 (omega arith),
       )
 
-  pub tables-files : length e ≡ 16 → tablesOf (lent w 1220 16 e) ≡ withFiles (tablesOf w) (fileArray e)
+  pub tables-files : length e ≡ 32 → tablesOf (lent w 1348 32 e) ≡ withFiles (tablesOf w) (fileArray e)
   unfolding tablesOf withFiles
   tables-files long =
       rw (
-        lent-here w e 1220 16 long (omega arith),
-        lent-before w e 1220 16 long (omega arith) 0 33 (omega arith),
-        lent-before w e 1220 16 long (omega arith) 33 97 (omega arith),
-        lent-before w e 1220 16 long (omega arith) 130 449 (omega arith),
-        lent-before w e 1220 16 long (omega arith) 579 641 (omega arith),
-        lent-behind w e 1220 16 long (omega arith) 1236 225 (omega arith),
+        lent-here w e 1348 32 long (omega arith),
+        lent-before w e 1348 32 long (omega arith) 0 33 (omega arith),
+        lent-before w e 1348 32 long (omega arith) 33 97 (omega arith),
+        lent-before w e 1348 32 long (omega arith) 130 577 (omega arith),
+        lent-before w e 1348 32 long (omega arith) 707 641 (omega arith),
+        lent-behind w e 1348 32 long (omega arith) 1380 225 (omega arith),
       )
 
-  pub tables-names : length e ≡ 225 → tablesOf (lent w 1236 225 e) ≡ withCatalogue (tablesOf w) (nameArray e) (word e 0)
+  pub tables-names : length e ≡ 225 → tablesOf (lent w 1380 225 e) ≡ withCatalogue (tablesOf w) (nameArray e) (word e 0)
   unfolding tablesOf withCatalogue
   tables-names long =
       rw (
-        lent-here w e 1236 225 long (omega arith),
-        lent-before w e 1236 225 long (omega arith) 0 33 (omega arith),
-        lent-before w e 1236 225 long (omega arith) 33 97 (omega arith),
-        lent-before w e 1236 225 long (omega arith) 130 449 (omega arith),
-        lent-before w e 1236 225 long (omega arith) 579 641 (omega arith),
-        lent-before w e 1236 225 long (omega arith) 1220 16 (omega arith),
+        lent-here w e 1380 225 long (omega arith),
+        lent-before w e 1380 225 long (omega arith) 0 33 (omega arith),
+        lent-before w e 1380 225 long (omega arith) 33 97 (omega arith),
+        lent-before w e 1380 225 long (omega arith) 130 577 (omega arith),
+        lent-before w e 1380 225 long (omega arith) 707 641 (omega arith),
+        lent-before w e 1380 225 long (omega arith) 1348 32 (omega arith),
       )
 
   -- ---- a table that now holds just the records of a list
@@ -215,13 +215,13 @@ module _ (w e : List ℕ) (full : length w ≡ 1461) where
   unfolding tablesOf withTreeArray withTrees
   with-trees list long h = tables-trees long ∙ rw (h .array, h .count)
 
-  pub with-opens : (list : List Open) → length e ≡ 449 → Holds openArray noOpen (part w 130 449) e list
-      → tablesOf (lent w 130 449 e) ≡ withOpens (tablesOf w) list
+  pub with-opens : (list : List Open) → length e ≡ 577 → Holds openArray noOpen (part w 130 577) e list
+      → tablesOf (lent w 130 577 e) ≡ withOpens (tablesOf w) list
   unfolding tablesOf withOpenArray withOpens
   with-opens list long h = tables-opens long ∙ rw (h .array, h .count)
 
-  pub with-locks : (list : List Lock) → length e ≡ 641 → Holds lockArray noLock (part w 579 641) e list
-      → tablesOf (lent w 579 641 e) ≡ withLocks (tablesOf w) list
+  pub with-locks : (list : List Lock) → length e ≡ 641 → Holds lockArray noLock (part w 707 641) e list
+      → tablesOf (lent w 707 641 e) ≡ withLocks (tablesOf w) list
   unfolding tablesOf withLockArray withLocks
   with-locks list long h = tables-locks long ∙ rw (h .array, h .count)
 
@@ -234,9 +234,9 @@ module _ (w e : List ℕ) (full : length w ≡ 1461) where
       (record {
         sessions-fit = ap (tableFits sessionLimits 16) (lent-here w e 0 33 long (omega arith)) ∙ here;
         trees-fit = ap (tableFits treeLimits 32) (lent-behind w e 0 33 long (omega arith) 33 97 (omega arith)) ∙ t .trees-fit;
-        opens-fit = ap (tableFits openLimits 64) (lent-behind w e 0 33 long (omega arith) 130 449 (omega arith)) ∙ t .opens-fit;
-        locks-fit = ap (tableFits lockLimits 128) (lent-behind w e 0 33 long (omega arith) 579 641 (omega arith)) ∙ t .locks-fit;
-        names-fit = ap (tableFits nameLimits 16) (lent-behind w e 0 33 long (omega arith) 1236 225 (omega arith)) ∙ t .names-fit;
+        opens-fit = ap (tableFits openLimits 64) (lent-behind w e 0 33 long (omega arith) 130 577 (omega arith)) ∙ t .opens-fit;
+        locks-fit = ap (tableFits lockLimits 128) (lent-behind w e 0 33 long (omega arith) 707 641 (omega arith)) ∙ t .locks-fit;
+        names-fit = ap (tableFits nameLimits 16) (lent-behind w e 0 33 long (omega arith) 1380 225 (omega arith)) ∙ t .names-fit;
       })
 
   pub fit-trees : length e ≡ 97 → inUseFit w ≡ true → tableFits treeLimits 32 e ≡ true → inUseFit (lent w 33 97 e) ≡ true
@@ -246,56 +246,56 @@ module _ (w e : List ℕ) (full : length w ≡ 1461) where
       (record {
         sessions-fit = ap (tableFits sessionLimits 16) (lent-before w e 33 97 long (omega arith) 0 33 (omega arith)) ∙ t .sessions-fit;
         trees-fit = ap (tableFits treeLimits 32) (lent-here w e 33 97 long (omega arith)) ∙ here;
-        opens-fit = ap (tableFits openLimits 64) (lent-behind w e 33 97 long (omega arith) 130 449 (omega arith)) ∙ t .opens-fit;
-        locks-fit = ap (tableFits lockLimits 128) (lent-behind w e 33 97 long (omega arith) 579 641 (omega arith)) ∙ t .locks-fit;
-        names-fit = ap (tableFits nameLimits 16) (lent-behind w e 33 97 long (omega arith) 1236 225 (omega arith)) ∙ t .names-fit;
+        opens-fit = ap (tableFits openLimits 64) (lent-behind w e 33 97 long (omega arith) 130 577 (omega arith)) ∙ t .opens-fit;
+        locks-fit = ap (tableFits lockLimits 128) (lent-behind w e 33 97 long (omega arith) 707 641 (omega arith)) ∙ t .locks-fit;
+        names-fit = ap (tableFits nameLimits 16) (lent-behind w e 33 97 long (omega arith) 1380 225 (omega arith)) ∙ t .names-fit;
       })
 
-  pub fit-opens : length e ≡ 449 → inUseFit w ≡ true → tableFits openLimits 64 e ≡ true → inUseFit (lent w 130 449 e) ≡ true
+  pub fit-opens : length e ≡ 577 → inUseFit w ≡ true → tableFits openLimits 64 e ≡ true → inUseFit (lent w 130 577 e) ≡ true
   fit-opens long fit here =
       let t = told-fit w fit in
-      fit-told (lent w 130 449 e)
+      fit-told (lent w 130 577 e)
       (record {
-        sessions-fit = ap (tableFits sessionLimits 16) (lent-before w e 130 449 long (omega arith) 0 33 (omega arith)) ∙ t .sessions-fit;
-        trees-fit = ap (tableFits treeLimits 32) (lent-before w e 130 449 long (omega arith) 33 97 (omega arith)) ∙ t .trees-fit;
-        opens-fit = ap (tableFits openLimits 64) (lent-here w e 130 449 long (omega arith)) ∙ here;
-        locks-fit = ap (tableFits lockLimits 128) (lent-behind w e 130 449 long (omega arith) 579 641 (omega arith)) ∙ t .locks-fit;
-        names-fit = ap (tableFits nameLimits 16) (lent-behind w e 130 449 long (omega arith) 1236 225 (omega arith)) ∙ t .names-fit;
+        sessions-fit = ap (tableFits sessionLimits 16) (lent-before w e 130 577 long (omega arith) 0 33 (omega arith)) ∙ t .sessions-fit;
+        trees-fit = ap (tableFits treeLimits 32) (lent-before w e 130 577 long (omega arith) 33 97 (omega arith)) ∙ t .trees-fit;
+        opens-fit = ap (tableFits openLimits 64) (lent-here w e 130 577 long (omega arith)) ∙ here;
+        locks-fit = ap (tableFits lockLimits 128) (lent-behind w e 130 577 long (omega arith) 707 641 (omega arith)) ∙ t .locks-fit;
+        names-fit = ap (tableFits nameLimits 16) (lent-behind w e 130 577 long (omega arith) 1380 225 (omega arith)) ∙ t .names-fit;
       })
 
-  pub fit-locks : length e ≡ 641 → inUseFit w ≡ true → tableFits lockLimits 128 e ≡ true → inUseFit (lent w 579 641 e) ≡ true
+  pub fit-locks : length e ≡ 641 → inUseFit w ≡ true → tableFits lockLimits 128 e ≡ true → inUseFit (lent w 707 641 e) ≡ true
   fit-locks long fit here =
       let t = told-fit w fit in
-      fit-told (lent w 579 641 e)
+      fit-told (lent w 707 641 e)
       (record {
-        sessions-fit = ap (tableFits sessionLimits 16) (lent-before w e 579 641 long (omega arith) 0 33 (omega arith)) ∙ t .sessions-fit;
-        trees-fit = ap (tableFits treeLimits 32) (lent-before w e 579 641 long (omega arith) 33 97 (omega arith)) ∙ t .trees-fit;
-        opens-fit = ap (tableFits openLimits 64) (lent-before w e 579 641 long (omega arith) 130 449 (omega arith)) ∙ t .opens-fit;
-        locks-fit = ap (tableFits lockLimits 128) (lent-here w e 579 641 long (omega arith)) ∙ here;
-        names-fit = ap (tableFits nameLimits 16) (lent-behind w e 579 641 long (omega arith) 1236 225 (omega arith)) ∙ t .names-fit;
+        sessions-fit = ap (tableFits sessionLimits 16) (lent-before w e 707 641 long (omega arith) 0 33 (omega arith)) ∙ t .sessions-fit;
+        trees-fit = ap (tableFits treeLimits 32) (lent-before w e 707 641 long (omega arith) 33 97 (omega arith)) ∙ t .trees-fit;
+        opens-fit = ap (tableFits openLimits 64) (lent-before w e 707 641 long (omega arith) 130 577 (omega arith)) ∙ t .opens-fit;
+        locks-fit = ap (tableFits lockLimits 128) (lent-here w e 707 641 long (omega arith)) ∙ here;
+        names-fit = ap (tableFits nameLimits 16) (lent-behind w e 707 641 long (omega arith) 1380 225 (omega arith)) ∙ t .names-fit;
       })
 
-  -- the sizes are any words
-  pub fit-files : length e ≡ 16 → inUseFit w ≡ true → inUseFit (lent w 1220 16 e) ≡ true
+  -- the sizes and change numbers are any words
+  pub fit-files : length e ≡ 32 → inUseFit w ≡ true → inUseFit (lent w 1348 32 e) ≡ true
   fit-files long fit =
       let t = told-fit w fit in
-      fit-told (lent w 1220 16 e)
+      fit-told (lent w 1348 32 e)
       (record {
-        sessions-fit = ap (tableFits sessionLimits 16) (lent-before w e 1220 16 long (omega arith) 0 33 (omega arith)) ∙ t .sessions-fit;
-        trees-fit = ap (tableFits treeLimits 32) (lent-before w e 1220 16 long (omega arith) 33 97 (omega arith)) ∙ t .trees-fit;
-        opens-fit = ap (tableFits openLimits 64) (lent-before w e 1220 16 long (omega arith) 130 449 (omega arith)) ∙ t .opens-fit;
-        locks-fit = ap (tableFits lockLimits 128) (lent-before w e 1220 16 long (omega arith) 579 641 (omega arith)) ∙ t .locks-fit;
-        names-fit = ap (tableFits nameLimits 16) (lent-behind w e 1220 16 long (omega arith) 1236 225 (omega arith)) ∙ t .names-fit;
+        sessions-fit = ap (tableFits sessionLimits 16) (lent-before w e 1348 32 long (omega arith) 0 33 (omega arith)) ∙ t .sessions-fit;
+        trees-fit = ap (tableFits treeLimits 32) (lent-before w e 1348 32 long (omega arith) 33 97 (omega arith)) ∙ t .trees-fit;
+        opens-fit = ap (tableFits openLimits 64) (lent-before w e 1348 32 long (omega arith) 130 577 (omega arith)) ∙ t .opens-fit;
+        locks-fit = ap (tableFits lockLimits 128) (lent-before w e 1348 32 long (omega arith) 707 641 (omega arith)) ∙ t .locks-fit;
+        names-fit = ap (tableFits nameLimits 16) (lent-behind w e 1348 32 long (omega arith) 1380 225 (omega arith)) ∙ t .names-fit;
       })
 
-  pub fit-names : length e ≡ 225 → inUseFit w ≡ true → tableFits nameLimits 16 e ≡ true → inUseFit (lent w 1236 225 e) ≡ true
+  pub fit-names : length e ≡ 225 → inUseFit w ≡ true → tableFits nameLimits 16 e ≡ true → inUseFit (lent w 1380 225 e) ≡ true
   fit-names long fit here =
       let t = told-fit w fit in
-      fit-told (lent w 1236 225 e)
+      fit-told (lent w 1380 225 e)
       (record {
-        sessions-fit = ap (tableFits sessionLimits 16) (lent-before w e 1236 225 long (omega arith) 0 33 (omega arith)) ∙ t .sessions-fit;
-        trees-fit = ap (tableFits treeLimits 32) (lent-before w e 1236 225 long (omega arith) 33 97 (omega arith)) ∙ t .trees-fit;
-        opens-fit = ap (tableFits openLimits 64) (lent-before w e 1236 225 long (omega arith) 130 449 (omega arith)) ∙ t .opens-fit;
-        locks-fit = ap (tableFits lockLimits 128) (lent-before w e 1236 225 long (omega arith) 579 641 (omega arith)) ∙ t .locks-fit;
-        names-fit = ap (tableFits nameLimits 16) (lent-here w e 1236 225 long (omega arith)) ∙ here;
+        sessions-fit = ap (tableFits sessionLimits 16) (lent-before w e 1380 225 long (omega arith) 0 33 (omega arith)) ∙ t .sessions-fit;
+        trees-fit = ap (tableFits treeLimits 32) (lent-before w e 1380 225 long (omega arith) 33 97 (omega arith)) ∙ t .trees-fit;
+        opens-fit = ap (tableFits openLimits 64) (lent-before w e 1380 225 long (omega arith) 130 577 (omega arith)) ∙ t .opens-fit;
+        locks-fit = ap (tableFits lockLimits 128) (lent-before w e 1380 225 long (omega arith) 707 641 (omega arith)) ∙ t .locks-fit;
+        names-fit = ap (tableFits nameLimits 16) (lent-here w e 1380 225 long (omega arith)) ∙ here;
       })

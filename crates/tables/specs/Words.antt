@@ -1,11 +1,11 @@
--- What the words say that the host lends: 1461 words of 64 bits, in the order in which a C struct has them.
+-- What the words say that the host lends: 1605 words of 64 bits, in the order in which a C struct has them.
 --
 --   0     how many sessions;  1     16 x (UID, connection)
 --   33    how many trees;     34    32 x (TID, UID, right)
---   130   how many opens;     131   64 x (FID, UID, TID, process, file, access, sharing)
---   579   how many locks;     580   128 x (FID, process, offset, length, shared)
---   1220  16 x (size)
---   1236  how many names;     1237  16 x (length, 12 x (byte), file)
+--   130   how many opens;     131   64 x (FID, UID, TID, process, file, access, sharing, read, seen)
+--   707   how many locks;     708   128 x (FID, process, offset, length, shared)
+--   1348  16 x (size, change number)
+--   1380  how many names;     1381  16 x (length, 12 x (byte), file)
 --
 -- Assumes nothing.
 use Prim.Native.Nat.{ℕ, zero, suc, min, _+_, _*_, _%_}
@@ -54,6 +54,8 @@ openOf r =
       file = word r 4 % 256;
       access = word r 5 % 256;
       sharing = word r 6 % 256;
+      read = eqb (word r 7 % 2) 1;
+      seen = word r 8;
     }
 
 unfoldable pub lockOf : List ℕ → Lock
@@ -69,8 +71,8 @@ lockOf r =
 unfoldable pub nameOf : List ℕ → Name
 nameOf r = record { length = word r 0 % 256; text = map (λ x. x % 256) (part r 1 12); file = word r 13 % 256 }
 
-abbrev pub fileOf : ℕ → File
-fileOf size = record { size = size }
+abbrev pub fileOf : ℕ → ℕ → File
+fileOf size changes = record { size = size; changes = changes }
 
 -- ---- a table, from its own words: its count, then its records, k words each
 
@@ -89,7 +91,7 @@ unfoldable pub treeArray : List ℕ → List Tree
 treeArray w = arrayOf treeOf 3 32 w
 
 unfoldable pub openArray : List ℕ → List Open
-openArray w = arrayOf openOf 7 64 w
+openArray w = arrayOf openOf 9 64 w
 
 unfoldable pub lockArray : List ℕ → List Lock
 lockArray w = arrayOf lockOf 5 128 w
@@ -99,7 +101,7 @@ nameArray w = arrayOf nameOf 14 16 w
 
 -- the files have no count
 unfoldable pub fileArray : List ℕ → List File
-fileArray w = upTo (λ i. fileOf (word w i)) 16
+fileArray w = upTo (λ i. fileOf (word w (2 * i)) (word w (2 * i + 1))) 16
 
 -- ---- all tables
 
@@ -110,18 +112,18 @@ tablesOf w =
       nsessions = word (part w 0 33) 0;
       trees = treeArray (part w 33 97);
       ntrees = word (part w 33 97) 0;
-      opens = openArray (part w 130 449);
-      nopens = word (part w 130 449) 0;
-      locks = lockArray (part w 579 641);
-      nlocks = word (part w 579 641) 0;
-      files = fileArray (part w 1220 16);
-      names = nameArray (part w 1236 225);
-      nnames = word (part w 1236 225) 0;
+      opens = openArray (part w 130 577);
+      nopens = word (part w 130 577) 0;
+      locks = lockArray (part w 707 641);
+      nlocks = word (part w 707 641) 0;
+      files = fileArray (part w 1348 32);
+      names = nameArray (part w 1380 225);
+      nnames = word (part w 1380 225) 0;
     }
 
 -- ---- whether the words in use fit: each word of a record in use is a value of its field
 
--- the largest value of each field, in the order of a record's words; an offset and a length are any word
+-- the largest value of each field, in the order of a record's words; an offset, a length and a number seen are any word
 abbrev pub sessionLimits : List ℕ
 sessionLimits = 65535 ∷ 4294967295 ∷ []
 
@@ -129,7 +131,7 @@ abbrev pub treeLimits : List ℕ
 treeLimits = 65535 ∷ 65535 ∷ 255 ∷ []
 
 abbrev pub openLimits : List ℕ
-openLimits = 65535 ∷ 65535 ∷ 65535 ∷ 4294967295 ∷ 255 ∷ 255 ∷ 255 ∷ []
+openLimits = 65535 ∷ 65535 ∷ 65535 ∷ 4294967295 ∷ 255 ∷ 255 ∷ 255 ∷ 1 ∷ 18446744073709551615 ∷ []
 
 abbrev pub lockLimits : List ℕ
 lockLimits = 65535 ∷ 4294967295 ∷ 18446744073709551615 ∷ 18446744073709551615 ∷ 1 ∷ []
@@ -158,6 +160,6 @@ unfoldable pub inUseFit : List ℕ → Bool
 inUseFit w =
     tableFits sessionLimits 16 (part w 0 33)
     && (tableFits treeLimits 32 (part w 33 97)
-    && (tableFits openLimits 64 (part w 130 449)
-    && (tableFits lockLimits 128 (part w 579 641)
-    && tableFits nameLimits 16 (part w 1236 225))))
+    && (tableFits openLimits 64 (part w 130 577)
+    && (tableFits lockLimits 128 (part w 707 641)
+    && tableFits nameLimits 16 (part w 1380 225))))

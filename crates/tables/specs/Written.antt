@@ -33,7 +33,7 @@ abbrev pub treeWords : Tree → List ℕ
 treeWords t = t .tid ∷ t .uid ∷ t .right ∷ []
 
 abbrev pub openWords : Open → List ℕ
-openWords o = o .fid ∷ o .uid ∷ o .tid ∷ o .process ∷ o .file ∷ o .access ∷ o .sharing ∷ []
+openWords o = o .fid ∷ o .uid ∷ o .tid ∷ o .process ∷ o .file ∷ o .access ∷ o .sharing ∷ cond (o .read) 1 0 ∷ o .seen ∷ []
 
 abbrev pub lockWords : Lock → List ℕ
 lockWords l = l .fid ∷ l .process ∷ l .offset ∷ l .length ∷ cond (l .shared) 1 0 ∷ []

@@ -1,5 +1,6 @@
-// The opens: 449 words, the count and 64 records.
+// The opens: 577 words, the count and 64 records.
 
+use crate::cut::flag;
 use crate::cut::low8;
 use crate::cut::low16;
 use crate::cut::low32;
@@ -13,10 +14,10 @@ ghost use Rattle.tables.specs.Written.{Wrote};
 
 // The record at a place.
 pub fn open_at(words: &[u64], i: usize) -> Open
-    requires { ⌜ (length (now words) ≡ 449) × (i < 64) ⌝ }
+    requires { ⌜ (length (now words) ≡ 577) × (i < 64) ⌝ }
     ensures { λ r. ⌜ r ≡ getD (openArray (now (words .entry))) i noOpen ⌝ }
 {
-    let at = 1 + 7 * i;
+    let at = 1 + 9 * i;
     let fid = low16(words[at]);
     let uid = low16(words[at + 1]);
     let tid = low16(words[at + 2]);
@@ -24,6 +25,8 @@ pub fn open_at(words: &[u64], i: usize) -> Open
     let file = low8(words[at + 4]);
     let access = low8(words[at + 5]);
     let sharing = low8(words[at + 6]);
+    let read = words[at + 7] % 2 == 1;
+    let seen = words[at + 8];
     Open {
         fid,
         uid,
@@ -32,15 +35,17 @@ pub fn open_at(words: &[u64], i: usize) -> Open
         file,
         access,
         sharing,
+        read,
+        seen,
     }
 }
 
 // The record at a place, written.
 pub fn put_open(words: &mut [u64], i: usize, o: Open)
-    requires { ⌜ (length (now words) ≡ 449) × (i < 64) ⌝ }
+    requires { ⌜ (length (now words) ≡ 577) × (i < 64) ⌝ }
     ensures { λ _. ⌜ Wrote openArray openLimits (now (words .entry)) (now (words .exit)) i o ⌝ }
 {
-    let at = 1 + 7 * i;
+    let at = 1 + 9 * i;
     words[at] = o.fid as u64;
     words[at + 1] = o.uid as u64;
     words[at + 2] = o.tid as u64;
@@ -48,4 +53,6 @@ pub fn put_open(words: &mut [u64], i: usize, o: Open)
     words[at + 4] = o.file as u64;
     words[at + 5] = o.access as u64;
     words[at + 6] = o.sharing as u64;
+    words[at + 7] = flag(o.read);
+    words[at + 8] = o.seen;
 }

@@ -1,4 +1,4 @@
--- `tables::file::size_at` meets its contract: a file's record is its size. Assumes nothing.
+-- `tables::file::size_at` meets its contract: it is its word of the file's two. Assumes nothing.
 use borrow.Author.Needs.{needs}
 use mathlib.Core.Path.{sym, ap}
 use Rattle.records.specs.Empty.{noFile}
@@ -10,6 +10,9 @@ use Rattle.tables.proofs.file.size_at.Tie as tie
 mul-result : tie.Need-mul-result
 mul-result c = search needs
 
+mul-result-2 : tie.Need-mul-result-2
+mul-result-2 c = search needs
+
 shared-slice-read-result : tie.Need-shared-slice-read-result
 shared-slice-read-result c = search needs
 
@@ -19,4 +22,4 @@ returns c =
     sym (ap (λ (f : File). f .size) (file-at (args .words .now) (args .i) noFile (c .before .pre .1)))
 
 pub size-at-spec : {M : Type 1} → statement M
-size-at-spec = tie.close (tie.spec mul-result shared-slice-read-result returns)
+size-at-spec = tie.close (tie.spec mul-result mul-result-2 shared-slice-read-result returns)

@@ -94,12 +94,29 @@ shared-slice-read-low8-3 c = search needs
 low8-requires-3 : tie.Need-low8-requires-3
 low8-requires-3 c κs = search needs
 
+add-read : tie.Need-add-read
+add-read c = search needs
+
+mul-read : tie.Need-mul-read
+mul-read c = search needs
+
+shared-slice-read-read : tie.Need-shared-slice-read-read
+shared-slice-read-read c = search needs
+
+add-seen : tie.Need-add-seen
+add-seen c = search needs
+
+mul-seen : tie.Need-mul-seen
+mul-seen c = search needs
+
+shared-slice-read-seen : tie.Need-shared-slice-read-seen
+shared-slice-read-seen c = search needs
+
 returns : tie.Need-returns
 unfolding openOf openArray
 returns c =
-    let start = c .before .before .before .before .before .before .before .before .before .before .before .before .before .before .before in
-    rw (c .before .before .before .before .before .before .before .before .before .before .before .before .low16 .ensures, c .before .before .before .before .before .before .before .before .before .before .low162 .ensures, c .before .before .before .before .before .before .before .before .low163 .ensures, c .before .before .before .before .before .before .low32 .ensures, c .before .before .before .before .low8 .ensures, c .before .before .low82 .ensures, c .low83 .ensures)
-    (sym (record-at openOf 7 64 (start .args .words .now) (start .args .i) noOpen (start .pre .1) (start .pre .0)))
+    rw (c .before .before .before .before .before .before .before .before .before .before .before .before .before .before .low16 .ensures, c .before .before .before .before .before .before .before .before .before .before .before .before .low162 .ensures, c .before .before .before .before .before .before .before .before .before .before .low163 .ensures, c .before .before .before .before .before .before .before .before .low32 .ensures, c .before .before .before .before .before .before .low8 .ensures, c .before .before .before .before .low82 .ensures, c .before .before .low83 .ensures)
+    (sym (record-at openOf 9 64 (c .before .before .before .before .before .before .before .before .before .before .before .before .before .before .before .before .before .args .words .now) (c .before .before .before .before .before .before .before .before .before .before .before .before .before .before .before .before .before .args .i) noOpen (c .before .before .before .before .before .before .before .before .before .before .before .before .before .before .before .before .before .pre .1) (c .before .before .before .before .before .before .before .before .before .before .before .before .before .before .before .before .before .pre .0)))
 
 pub open-at-spec : {M : Type 1} → statement M
 open-at-spec =
@@ -134,4 +151,10 @@ open-at-spec =
     mul-low8-3
     shared-slice-read-low8-3
     low8-requires-3
+    add-read
+    mul-read
+    shared-slice-read-read
+    add-seen
+    mul-seen
+    shared-slice-read-seen
     returns)

@@ -6,7 +6,7 @@ use lib.ListN.{length-set}
 use Rattle.tables.specs.Words.{openOf, openArray, openLimits}
 use Rattle.tables.specs.Written.{openWords}
 use Rattle.tables.specs.ArrayLaws.{wrote}
-use Rattle.tables.specs.RecordLaws.{Within, open-back}
+use Rattle.tables.specs.RecordLaws.{Within, flag-narrow, open-back}
 use Rattle.tables.proofs.open.put_open.Statement.{statement}
 use Rattle.tables.proofs.open.put_open.Tie as tie
 
@@ -97,16 +97,36 @@ mul-words-7 c = search needs
 slice-write-words-7 : tie.Need-slice-write-words-7
 slice-write-words-7 c = simp length-set (omega arith)
 
+flag-requires : tie.Need-flag-requires
+flag-requires c κs = search needs
+
+add-words-7 : tie.Need-add-words-7
+add-words-7 c = search needs
+
+mul-words-8 : tie.Need-mul-words-8
+mul-words-8 c = search needs
+
+slice-write-words-8 : tie.Need-slice-write-words-8
+slice-write-words-8 c = simp length-set (omega arith)
+
+add-words-8 : tie.Need-add-words-8
+add-words-8 c = search needs
+
+mul-words-9 : tie.Need-mul-words-9
+mul-words-9 c = search needs
+
+slice-write-words-9 : tie.Need-slice-write-words-9
+slice-write-words-9 c = simp length-set (omega arith)
+
 same-length : tie.Need-same-length
-same-length c = search needs
+same-length c = simp length-set (omega arith)
 
 returns : tie.Need-returns
 unfolding openArray
 returns c =
-    let start = c .before .before .before .before .before .before .before in
-    let args = start .args in
-    let narrow : Within openLimits (openWords (args .o)) = (omega arith, (omega arith, (omega arith, (omega arith, (omega arith, (omega arith, (omega arith, tt))))))) in
-    wrote openOf openLimits 64 (args .words .now) (openWords (args .o)) (args .i) (args .o) (start .pre .1) (start .pre .0) refl narrow (open-back (args .o) narrow)
+    let narrow : Within openLimits (openWords (c .before .before .before .before .before .before .before .before .before .args .o)) = (omega arith, (omega arith, (omega arith, (omega arith, (omega arith, (omega arith, (omega arith, (flag-narrow (c .before .before .before .before .before .before .before .before .before .args .o .read), (omega arith, tt))))))))) in
+    rw (c .flag .ensures)
+    (wrote openOf openLimits 64 (c .before .before .before .before .before .before .before .before .before .args .words .now) (openWords (c .before .before .before .before .before .before .before .before .before .args .o)) (c .before .before .before .before .before .before .before .before .before .args .i) (c .before .before .before .before .before .before .before .before .before .args .o) (c .before .before .before .before .before .before .before .before .before .pre .1) (c .before .before .before .before .before .before .before .before .before .pre .0) refl narrow (open-back (c .before .before .before .before .before .before .before .before .before .args .o) narrow))
 
 pub put-open-spec : {M : Type 1} → statement M
 put-open-spec =
@@ -141,5 +161,12 @@ put-open-spec =
     add-words-6
     mul-words-7
     slice-write-words-7
+    flag-requires
+    add-words-7
+    mul-words-8
+    slice-write-words-8
+    add-words-8
+    mul-words-9
+    slice-write-words-9
     same-length
     returns)
