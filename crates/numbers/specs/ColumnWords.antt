@@ -69,9 +69,9 @@ pub tids-in : (w : List ℕ) → numbersIn 3 (min (word w 0) 32) w ≡ map tidOf
 unfolding treeArray treeOf
 tids-in w = numbers-in treeOf tidOf 3 32 w (omega arith) (λ r. refl)
 
-pub fids-in : (w : List ℕ) → numbersIn 7 (min (word w 0) 64) w ≡ map fidOf (opensIn w)
+pub fids-in : (w : List ℕ) → numbersIn 9 (min (word w 0) 64) w ≡ map fidOf (opensIn w)
 unfolding openArray openOf
-fids-in w = numbers-in openOf fidOf 7 64 w (omega arith) (λ r. refl)
+fids-in w = numbers-in openOf fidOf 9 64 w (omega arith) (λ r. refl)
 
 -- ---- places of the words
 

@@ -60,10 +60,10 @@ pub fn free_tid(words: &[u64]) -> u16
 }
 
 pub fn free_fid(words: &[u64]) -> u16
-    requires { ⌜ length (now words) ≡ 449 ⌝ }
+    requires { ⌜ length (now words) ≡ 577 ⌝ }
     ensures { λ r. ⌜ r ≡ smallestFree (map fidOf (opensIn (now (words .entry)))) ⌝ }
 {
-    smallest_free(words, 7, at_most(words[0] as usize, 64))
+    smallest_free(words, 9, at_most(words[0] as usize, 64))
 }
 
 // Whether a session in use has that UID.

@@ -21,7 +21,7 @@ smallest-free-requires c κs = let few = c .at-most .ensures in (omega arith, (o
 returns : tie.Need-returns
 returns c =
     let w = c .before .before .before .before .args .words .now in
-    c .smallest-free .ensures ∙ ap smallestFree (ap (λ (n : ℕ). numbersIn 7 n w) (c .before .at-most .ensures) ∙ fids-in w)
+    c .smallest-free .ensures ∙ ap smallestFree (ap (λ (n : ℕ). numbersIn 9 n w) (c .before .at-most .ensures) ∙ fids-in w)
 
 pub free-fid-spec : {M : Type 1} → statement M
 free-fid-spec = tie.close (tie.spec shared-slice-read-at-most at-most-requires smallest-free-requires returns)
