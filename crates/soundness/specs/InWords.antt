@@ -77,7 +77,8 @@ unfoldable pub openStands : List ℕ → List ℕ → List ℕ → Bool
 openStands codes files r =
     numberFree 255 files (word r 0)
     && (leb (word r 3) 4294967295
-    && (leb (word r 4) 15 && (leb (word r 5) 2 && (sharingOk (word r 6) && holdsAt codes (word r 2) (word r 1) (word r 5)))))
+    && (leb (word r 4) 15
+    && (leb (word r 5) 2 && (sharingOk (word r 6) && (leb (word r 7) 1 && holdsAt codes (word r 2) (word r 1) (word r 5))))))
 
 -- ---- locks
 

@@ -178,21 +178,22 @@ tree-stands w i later uids codes long few h e q =
     (tree-words (word w (1 + 3 * i)) (word w (1 + 3 * i + 1)) (word w (1 + 3 * i + 2)) later uids codes h e q)
 
 -- opens
-open-sorted : (a o u t p e e′ g g′ s s′ h h′ : Bool) → (g ≡ true → h ≡ h′)
-    → (a && o) && (p && ((e && e′) && ((g && g′) && ((s && s′) && (u && (t && h))))))
-    ≡ (a && (u && (t && (p && (e && (g && (s && true))))))) && (o && (e′ && (g′ && (s′ && h′))))
-open-sorted false o u t p e e′ g g′ s s′ h h′ k = refl
-open-sorted true false u t p e e′ g g′ s s′ h h′ k = simp last-false
-open-sorted true true u t false e e′ g g′ s s′ h h′ k = simp last-false
-open-sorted true true u t true false e′ g g′ s s′ h h′ k = simp last-false
-open-sorted true true u t true true false g g′ s s′ h h′ k = simp last-false
-open-sorted true true u t true true true false g′ s s′ h h′ k = simp last-false
-open-sorted true true u t true true true true false s s′ h h′ k = simp last-false
-open-sorted true true u t true true true true true false s′ h h′ k = simp last-false
-open-sorted true true u t true true true true true true false h h′ k = simp last-false
-open-sorted true true false t true true true true true true true h h′ k = refl
-open-sorted true true true false true true true true true true true h h′ k = refl
-open-sorted true true true true true true true true true true true h h′ k = k refl
+open-sorted : (a o u t p e e′ g g′ s s′ r h h′ : Bool) → (g ≡ true → h ≡ h′)
+    → (a && o) && (p && ((e && e′) && ((g && g′) && ((s && s′) && (r && (u && (t && h)))))))
+    ≡ (a && (u && (t && (p && (e && (g && (s && (r && (true && true))))))))) && (o && (e′ && (g′ && (s′ && h′))))
+open-sorted false o u t p e e′ g g′ s s′ r h h′ k = refl
+open-sorted true false u t p e e′ g g′ s s′ r h h′ k = simp last-false
+open-sorted true true u t false e e′ g g′ s s′ r h h′ k = simp last-false
+open-sorted true true u t true false e′ g g′ s s′ r h h′ k = simp last-false
+open-sorted true true u t true true false g g′ s s′ r h h′ k = simp last-false
+open-sorted true true u t true true true false g′ s s′ r h h′ k = simp last-false
+open-sorted true true u t true true true true false s s′ r h h′ k = simp last-false
+open-sorted true true u t true true true true true false s′ r h h′ k = simp last-false
+open-sorted true true u t true true true true true true false r h h′ k = simp last-false
+open-sorted true true u t true true true true true true true false h h′ k = simp last-false
+open-sorted true true false t true true true true true true true true h h′ k = refl
+open-sorted true true true false true true true true true true true true h h′ k = refl
+open-sorted true true true true true true true true true true true true h h′ k = k refl
 
 abbrev pub rowFid : List ℕ → ℕ
 rowFid r = fidOf (openOf r)
@@ -238,30 +239,31 @@ sharing-bound x =
       | no k ↦ rw (lt-leb x 255 (omega arith), lt-leb x 4 (omega arith), le-leb 1 x (omega arith))
     ]
 
-open-words : (a b c d f g s : ℕ) (later : List (List ℕ)) (codes files : List ℕ) → length codes ≤ 65536 → allTails (openRule codes) later ≡ true
-    → files ≡ byNumber rowFid rowFile 255 65 later
-    → openStands codes files (a ∷ b ∷ c ∷ d ∷ f ∷ g ∷ s ∷ []) ≡ openRule codes (a ∷ b ∷ c ∷ d ∷ f ∷ g ∷ s ∷ []) later
+open-words : (a b c d f g s r n : ℕ) (later : List (List ℕ)) (codes files : List ℕ) → n ≤ 18446744073709551615 → length codes ≤ 65536
+    → allTails (openRule codes) later ≡ true → files ≡ byNumber rowFid rowFile 255 65 later
+    → openStands codes files (a ∷ b ∷ c ∷ d ∷ f ∷ g ∷ s ∷ r ∷ n ∷ []) ≡ openRule codes (a ∷ b ∷ c ∷ d ∷ f ∷ g ∷ s ∷ r ∷ n ∷ []) later
 unfolding openStands inOrder openOf within openIn
-open-words a b c d f g s later codes files h e q =
+open-words a b c d f g s r n later codes files word-sized h e q =
     rw (
       free-number rowFid rowFile 255 (openRule codes) (open-some codes) 64 later files a (omega arith) e q,
       bound f 15 255 (omega arith),
       bound g 2 255 (omega arith),
       sharing-bound s,
       holds-looked codes c b g h,
+      le-leb n 18446744073709551615 word-sized,
     )
     (open-sorted (leb a 65535) (numberOk 64 (a % 65536) (map rowFid later)) (leb b 65535) (leb c 65535) (leb d 4294967295) (leb f 255)
-    (leb (f % 256) 15) (leb g 255) (leb (g % 256) 2) (leb s 255) (sharingOk (s % 256)) (codeHolds (getD codes (c % 65536) 0) (b % 65536) g)
+    (leb (f % 256) 15) (leb g 255) (leb (g % 256) 2) (leb s 255) (sharingOk (s % 256)) (leb r 1) (codeHolds (getD codes (c % 65536) 0) (b % 65536) g)
     (codeHolds (getD codes (c % 65536) 0) (b % 65536) (g % 256))
     (λ k. ap (codeHolds (getD codes (c % 65536) 0) (b % 65536)) (sym (uncut g 255 (leb-true g 255 k)))))
 
-pub open-stands : (w : List ℕ) (i : ℕ) (later : List (List ℕ)) (codes files : List ℕ) → length w ≡ 449 → i < 64 → length codes ≤ 65536
-    → allTails (openRule codes) later ≡ true → files ≡ byNumber rowFid rowFile 255 65 later
-    → openStands codes files (recordAt 7 w i) ≡ openRule codes (recordAt 7 w i) later
-open-stands w i later codes files long few h e q =
-    rw (part-row w (1 + 7 * i) 7 (omega arith))
-    (open-words (word w (1 + 7 * i)) (word w (1 + 7 * i + 1)) (word w (1 + 7 * i + 2)) (word w (1 + 7 * i + 3)) (word w (1 + 7 * i + 4)) (word w (1 + 7 * i + 5)) (word w (1 + 7 * i + 6))
-    later codes files h e q)
+pub open-stands : (w : List ℕ) (i : ℕ) (later : List (List ℕ)) (codes files : List ℕ) → length w ≡ 577 → i < 64 → ((k : ℕ) → word w k ≤ 18446744073709551615)
+    → length codes ≤ 65536 → allTails (openRule codes) later ≡ true → files ≡ byNumber rowFid rowFile 255 65 later
+    → openStands codes files (recordAt 9 w i) ≡ openRule codes (recordAt 9 w i) later
+open-stands w i later codes files long few each h e q =
+    rw (part-row w (1 + 9 * i) 9 (omega arith))
+    (open-words (word w (1 + 9 * i)) (word w (1 + 9 * i + 1)) (word w (1 + 9 * i + 2)) (word w (1 + 9 * i + 3)) (word w (1 + 9 * i + 4)) (word w (1 + 9 * i + 5)) (word w (1 + 9 * i + 6))
+    (word w (1 + 9 * i + 7)) (word w (1 + 9 * i + 8)) later codes files (each (1 + 9 * i + 8)) h e q)
 
 -- locks
 lock-sorted : (f p s e h : Bool) → s && (p && (e && (f && h))) ≡ (f && (p && (true && (true && (s && true))))) && (e && h)

@@ -1,8 +1,9 @@
 -- When tables are sound (document 01, "Tables and room", second paragraph; document 02, CR 6: "Soundness gains sharing codes and the
--- catalogue's rules"), rule by rule. Assumes nothing.
+-- catalogue's rules"; CR 8: "By soundness an open's remembered number doesn't exceed its file's"), rule by rule. Assumes nothing.
 use Prim.Native.Nat.{ℕ}
 use mathlib.Core.Bool.{Bool, not, _&&_, _||_}
 use mathlib.Core.List.{List, map}
+use lib.ListN.{getD}
 use lib.Dec.{leb, eqb}
 use Rattle.lists.specs.Walk.{any, all, allTails}
 use Rattle.locks.specs.Range.{overlaps, passesEnd}
@@ -12,6 +13,8 @@ use Rattle.records.specs.declared.Open.{Open}
 use Rattle.records.specs.declared.Lock.{Lock}
 use Rattle.records.specs.declared.File.{File}
 use Rattle.records.specs.declared.Tables.{Tables}
+use Rattle.records.specs.Change.{LARGEST}
+use Rattle.records.specs.Empty.{noFile}
 use Rattle.records.specs.Held.{sessionsOf, treesOf, opensOf, locksOf}
 use Rattle.numbers.specs.Number.{contains, numbered}
 use Rattle.numbers.specs.Column.{uidOf, tidOf, fidOf}
@@ -22,9 +25,9 @@ use Rattle.soundness.specs.File.{fileOf}
 unfoldable pub withinRoom : ℕ → ℕ → ℕ → ℕ → Bool
 withinRoom sessions trees opens locks = leb sessions 16 && (leb trees 32 && (leb opens 64 && leb locks 128))
 
--- "each has a size of 0 to 4,096"
+-- "each has a size of 0 to 4,096" and "a 32-bit change number"
 unfoldable pub fileOk : File → Bool
-fileOk f = leb (f .size) 4096
+fileOk f = leb (f .size) 4096 && leb (f .changes) LARGEST
 
 -- a tree's right is 0 or 1, and its session exists
 unfoldable pub treeOk : List ℕ → Tree → Bool
@@ -69,7 +72,12 @@ agreeAll file locks = allTails (λ l later. all (agree file l) later) locks
 unfoldable pub soundLocks : List Open → List Lock → Bool
 soundLocks opens locks = all (lockOk (map fidOf opens)) locks && agreeAll (fileOf opens) locks
 
+-- "an open's remembered number doesn't exceed its file's"
+unfoldable pub seenOk : List File → Open → Bool
+seenOk files o = leb (o .seen) (getD files (o .file) noFile .changes)
+
 unfoldable pub sound : Tables → Bool
 sound t =
     withinRoom (t .nsessions) (t .ntrees) (t .nopens) (t .nlocks)
-    && (all fileOk (t .files) && (soundRecords (sessionsOf t) (treesOf t) (opensOf t) && (soundLocks (opensOf t) (locksOf t) && catalogueOk (t .names) (t .nnames))))
+    && (all fileOk (t .files) && (soundRecords (sessionsOf t) (treesOf t) (opensOf t) && (soundLocks (opensOf t) (locksOf t)
+    && (catalogueOk (t .names) (t .nnames) && all (seenOk (t .files)) (opensOf t)))))

@@ -21,7 +21,7 @@ use Rattle.catalogue.specs.Name.{catalogueOk}
 use Rattle.numbers.specs.Number.{contains, numberOk, numbered}
 use Rattle.numbers.specs.Column.{fidOf}
 use Rattle.soundness.specs.File.{fileOf, fileTable, fileTable-at, length-fileTable}
-use Rattle.soundness.specs.Sound.{withinRoom, fileOk, openOk, lockOk, soundRecords, soundLocks, sound}
+use Rattle.soundness.specs.Sound.{withinRoom, fileOk, openOk, lockOk, soundRecords, soundLocks, seenOk, sound}
 use Rattle.soundness.specs.LockFits.{lockFits}
 
 -- what the test of the counts says
@@ -103,4 +103,5 @@ sound-catalogue t e =
     let a = both-hold (withinRoom (t .nsessions) (t .ntrees) (t .nopens) (t .nlocks)) _ e in
     let b = both-hold (all fileOk (t .files)) _ (a .1) in
     let c = both-hold (soundRecords (sessionsOf t) (treesOf t) (opensOf t)) _ (b .1) in
-    both-hold (soundLocks (opensOf t) (locksOf t)) (catalogueOk (t .names) (t .nnames)) (c .1) .1
+    let d = both-hold (soundLocks (opensOf t) (locksOf t)) _ (c .1) in
+    both-hold (catalogueOk (t .names) (t .nnames)) (all (seenOk (t .files)) (opensOf t)) (d .1) .0

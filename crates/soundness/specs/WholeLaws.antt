@@ -25,7 +25,7 @@ use Rattle.tables.specs.Words.{word, part, arrayOf, tablesOf, inUseFit, tableFi
 use Rattle.tables.specs.Written.{sessionsIn, treesIn, opensIn, locksIn}
 use Rattle.catalogue.specs.Name.{catalogueOk}
 use Rattle.soundness.specs.File.{fileOf}
-use Rattle.soundness.specs.Sound.{withinRoom, fileOk, treeOk, permits, holdsOpen, sharingOk, openOk, lockOk, agreeAll, soundRecords, soundLocks, sound}
+use Rattle.soundness.specs.Sound.{withinRoom, fileOk, treeOk, permits, holdsOpen, sharingOk, openOk, lockOk, agreeAll, soundRecords, soundLocks, seenOk, sound}
 use Rattle.soundness.specs.SoundLaws.{fits-is-ok}
 use Rattle.soundness.specs.LockFits.{lockFits}
 use Rattle.numbers.specs.ByNumber.{last-false, entry, entry-mark, byNumber, byNumber-serves}
@@ -142,23 +142,24 @@ fits-in-bounds file (l ∷ ls) e =
 pub part-first : (w : List ℕ) (from n : ℕ) → 0 < n → word (part w from n) 0 ≡ word w from
 part-first w from n h = getD-take n (drop from w) 0 0 h ∙ getD-drop from w 0 0 ∙ ap (word w) (add-zero from)
 
-judged : (room files fs ns ft nt at fo nn ao fl lo la fn ca : Bool)
-    → (fs && (ft && (fo && (fl && fn)))) && (room && (files && ((ns && (nt && (nn && (at && ao)))) && ((lo && la) && ca))))
-    ≡ room && (files && ((fs && (ns && true)) && ((ft && (nt && at)) && ((fo && (nn && ao)) && (((fl && lo) && la) && (fn && ca))))))
-judged false files fs ns ft nt at fo nn ao fl lo la fn ca = simp last-false
-judged true false fs ns ft nt at fo nn ao fl lo la fn ca = simp last-false
-judged true true false ns ft nt at fo nn ao fl lo la fn ca = refl
-judged true true true false ft nt at fo nn ao fl lo la fn ca = simp last-false
-judged true true true true false nt at fo nn ao fl lo la fn ca = refl
-judged true true true true true false at fo nn ao fl lo la fn ca = simp last-false
-judged true true true true true true at false nn ao fl lo la fn ca = simp last-false
-judged true true true true true true at true false ao fl lo la fn ca = simp last-false
-judged true true true true true true false true true ao fl lo la fn ca = simp last-false
-judged true true true true true true true true true false fl lo la fn ca = simp last-false
-judged true true true true true true true true true true false lo la fn ca = refl
-judged true true true true true true true true true true true false la fn ca = simp last-false
-judged true true true true true true true true true true true true false fn ca = simp last-false
-judged true true true true true true true true true true true true true fn ca = refl
+judged : (room files fs ns ft nt at fo nn ao fl lo la fn ca se : Bool)
+    → (fs && (ft && (fo && (fl && fn)))) && (room && (files && ((ns && (nt && (nn && (at && ao)))) && ((lo && la) && (ca && se)))))
+    ≡ room && (files && ((fs && (ns && true)) && ((ft && (nt && at)) && ((fo && (nn && ao)) && (((fl && lo) && la) && ((fn && ca) && se))))))
+judged false files fs ns ft nt at fo nn ao fl lo la fn ca se = simp last-false
+judged true false fs ns ft nt at fo nn ao fl lo la fn ca se = simp last-false
+judged true true false ns ft nt at fo nn ao fl lo la fn ca se = refl
+judged true true true false ft nt at fo nn ao fl lo la fn ca se = simp last-false
+judged true true true true false nt at fo nn ao fl lo la fn ca se = refl
+judged true true true true true false at fo nn ao fl lo la fn ca se = simp last-false
+judged true true true true true true at false nn ao fl lo la fn ca se = simp last-false
+judged true true true true true true at true false ao fl lo la fn ca se = simp last-false
+judged true true true true true true false true true ao fl lo la fn ca se = simp last-false
+judged true true true true true true true true true false fl lo la fn ca se = simp last-false
+judged true true true true true true true true true true false lo la fn ca se = refl
+judged true true true true true true true true true true true false la fn ca se = simp last-false
+judged true true true true true true true true true true true true false fn ca se = simp last-false
+judged true true true true true true true true true true true true true false ca se = refl
+judged true true true true true true true true true true true true true true ca se = refl
 
 all-true : {A : Type 0} (xs : List A) → all (λ _. true) xs ≡ true
 unfolding all
@@ -167,33 +168,34 @@ all-true (x ∷ xs) = all-true xs
 
 -- the tests table by table
 pub sound-words : (w : List ℕ) → inUseFit w && sound (tablesOf w)
-    ≡ withinRoom (word (part w 0 33) 0) (word (part w 33 97) 0) (word (part w 130 449) 0) (word (part w 579 641) 0)
-    && (all fileOk (fileArray (part w 1220 16))
+    ≡ withinRoom (word (part w 0 33) 0) (word (part w 33 97) 0) (word (part w 130 577) 0) (word (part w 707 641) 0)
+    && (all fileOk (fileArray (part w 1348 32))
     && (tableInOrder sessionLimits 16 sessionOf 16 uidOf (λ _. true) (part w 0 33)
     && (tableInOrder treeLimits 32 treeOf 32 tidOf (treeOk (map uidOf (sessionsIn (part w 0 33)))) (part w 33 97)
-    && (tableInOrder openLimits 64 openOf 64 fidOf (openOk (treesIn (part w 33 97))) (part w 130 449)
-    && (((tableFits lockLimits 128 (part w 579 641) && all (lockOk (map fidOf (opensIn (part w 130 449)))) (locksIn (part w 579 641)))
-    && agreeAll (fileOf (opensIn (part w 130 449))) (locksIn (part w 579 641)))
-    && (tableFits nameLimits 16 (part w 1236 225) && catalogueOk (nameArray (part w 1236 225)) (word (part w 1236 225) 0)))))))
+    && (tableInOrder openLimits 64 openOf 64 fidOf (openOk (treesIn (part w 33 97))) (part w 130 577)
+    && (((tableFits lockLimits 128 (part w 707 641) && all (lockOk (map fidOf (opensIn (part w 130 577)))) (locksIn (part w 707 641)))
+    && agreeAll (fileOf (opensIn (part w 130 577))) (locksIn (part w 707 641)))
+    && ((tableFits nameLimits 16 (part w 1380 225) && catalogueOk (nameArray (part w 1380 225)) (word (part w 1380 225) 0))
+    && all (seenOk (fileArray (part w 1348 32))) (opensIn (part w 130 577))))))))
 unfolding inUseFit sound soundRecords soundLocks tablesOf tableInOrder sessionArray treeArray openArray
 sound-words w =
     let ss = sessionsIn (part w 0 33) in
     let ts = treesIn (part w 33 97) in
-    let os = opensIn (part w 130 449) in
-    let ls = locksIn (part w 579 641) in
+    let os = opensIn (part w 130 577) in
+    let ls = locksIn (part w 707 641) in
     rw (all-true ss)
-    (judged (withinRoom (word (part w 0 33) 0) (word (part w 33 97) 0) (word (part w 130 449) 0) (word (part w 579 641) 0)) (all fileOk (fileArray (part w 1220 16)))
+    (judged (withinRoom (word (part w 0 33) 0) (word (part w 33 97) 0) (word (part w 130 577) 0) (word (part w 707 641) 0)) (all fileOk (fileArray (part w 1348 32)))
     (tableFits sessionLimits 16 (part w 0 33)) (numbered 16 (map uidOf ss))
     (tableFits treeLimits 32 (part w 33 97)) (numbered 32 (map tidOf ts)) (all (treeOk (map uidOf ss)) ts)
-    (tableFits openLimits 64 (part w 130 449)) (numbered 64 (map fidOf os)) (all (openOk ts) os)
-    (tableFits lockLimits 128 (part w 579 641)) (all (lockOk (map fidOf os)) ls) (agreeAll (fileOf os) ls)
-    (tableFits nameLimits 16 (part w 1236 225)) (catalogueOk (nameArray (part w 1236 225)) (word (part w 1236 225) 0)))
+    (tableFits openLimits 64 (part w 130 577)) (numbered 64 (map fidOf os)) (all (openOk ts) os)
+    (tableFits lockLimits 128 (part w 707 641)) (all (lockOk (map fidOf os)) ls) (agreeAll (fileOf os) ls)
+    (tableFits nameLimits 16 (part w 1380 225)) (catalogueOk (nameArray (part w 1380 225)) (word (part w 1380 225) 0)) (all (seenOk (fileArray (part w 1348 32))) os))
 
 -- the counts, as they stand in all words
-pub counts : (w : List ℕ) → withinRoom (word (part w 0 33) 0) (word (part w 33 97) 0) (word (part w 130 449) 0) (word (part w 579 641) 0)
-    ≡ withinRoom (word w 0) (word w 33) (word w 130) (word w 579)
+pub counts : (w : List ℕ) → withinRoom (word (part w 0 33) 0) (word (part w 33 97) 0) (word (part w 130 577) 0) (word (part w 707 641) 0)
+    ≡ withinRoom (word w 0) (word w 33) (word w 130) (word w 707)
 counts w =
-    rw (part-first w 0 33 (omega arith), part-first w 33 97 (omega arith), part-first w 130 449 (omega arith), part-first w 579 641 (omega arith))
+    rw (part-first w 0 33 (omega arith), part-first w 33 97 (omega arith), part-first w 130 577 (omega arith), part-first w 707 641 (omega arith))
 
 -- a table in order has its numbers in order, and each of its records passes
 pub order-told : {A : Type 0} (limits : List ℕ) (n : ℕ) (f : List ℕ → A) (limit : ℕ) (key : A → ℕ) (ok : A → Bool) (w : List ℕ)

@@ -22,7 +22,7 @@ pub(crate) struct Opens {
 // The file of each FID from 0 to 64, and 255 where no open has it. The opens are gone through from
 // the last, so that the first of two with one FID stands.
 pub fn file_table(words: &[u64]) -> [u8; 65]
-    requires { ⌜ length (now words) ≡ 449 ⌝ }
+    requires { ⌜ length (now words) ≡ 577 ⌝ }
     ensures { λ r. ⌜ r ≡ fileTable (opensIn (now (words .entry))) ⌝ }
 {
     let mut files = [255u8; 65];
@@ -60,12 +60,12 @@ fn holds_at(codes: &[u8], tid: u64, uid: u64, access: u64) -> bool
 }
 
 // Whether the words of an open fit, its FID is in order, its file, access and sharing code are among those listed, and its tree holds it;
-// `files` has the opens behind it.
+// `files` has the opens behind it. What it remembers of its file is tested by `seen_words`, with the files.
 fn open_stands(codes: &[u8; 33], files: &[u8; 65], words: &[u64], i: usize) -> bool
-    requires { ⌜ (length (now words) ≡ 449) × (i < 64) ⌝ }
-    ensures { λ r. ⌜ r ≡ openStands (now (codes .entry)) (now (files .entry)) (recordAt 7 (now (words .entry)) i) ⌝ }
+    requires { ⌜ (length (now words) ≡ 577) × (i < 64) ⌝ }
+    ensures { λ r. ⌜ r ≡ openStands (now (codes .entry)) (now (files .entry)) (recordAt 9 (now (words .entry)) i) ⌝ }
 {
-    let at = 1 + 7 * i;
+    let at = 1 + 9 * i;
     if !number_free(files, 255, words[at]) {
         return false;
     }
@@ -86,12 +86,15 @@ fn open_stands(codes: &[u8; 33], files: &[u8; 65], words: &[u64], i: usize) -> b
     if 4 < sharing {
         return false;
     }
+    if 1 < words[at + 7] {
+        return false;
+    }
     holds_at(codes, words[at + 2], words[at + 1], access)
 }
 
 // The rules for each open in use; `codes` has the trees.
 pub(crate) fn opens_marked(codes: &[u8; 33], words: &[u64]) -> Opens
-    requires { ⌜ (length (now codes) ≡ 33) × ((length (now words) ≡ 449) × (word (now words) 0 ≤ 64)) ⌝ }
+    requires { ⌜ (length (now codes) ≡ 33) × ((length (now words) ≡ 577) × (word (now words) 0 ≤ 64)) ⌝ }
     ensures { λ r. ⌜ Told (tableInOrder openLimits 64 openOf 64 fidOf (openIn (now (codes .entry))) (now (words .entry))) (byNumber fidOf (λ o. o .file) 255 65 (opensIn (now (words .entry)))) (r .sound) (r .files) ⌝ }
 {
     let mut files = [255u8; 65];
@@ -104,7 +107,7 @@ pub(crate) fn opens_marked(codes: &[u8; 33], words: &[u64]) -> Opens
                 files,
             };
         }
-        let at = 1 + 7 * i;
+        let at = 1 + 9 * i;
         let fid = words[at] as usize;
         files[fid] = words[at + 4] as u8;
     }

@@ -5,6 +5,7 @@ use crate::file_words::files_ok;
 use crate::lock_words::locks_agree;
 use crate::lock_words::locks_fit;
 use crate::open_words::opens_marked;
+use crate::seen_words::all_seen;
 use crate::session_words::sessions_marked;
 use crate::tree_words::trees_marked;
 use catalogue::rules::catalogue_ok;
@@ -21,8 +22,8 @@ ghost use Rattle.soundness.specs.LockFits.{lockFits};
 
 // Whether the counts are within the room of their tables.
 fn within_room(words: &[u64]) -> bool
-    requires { ⌜ length (now words) ≡ 1461 ⌝ }
-    ensures { λ r. ⌜ r ≡ withinRoom (word (now (words .entry)) 0) (word (now (words .entry)) 33) (word (now (words .entry)) 130) (word (now (words .entry)) 579) ⌝ }
+    requires { ⌜ length (now words) ≡ 1605 ⌝ }
+    ensures { λ r. ⌜ r ≡ withinRoom (word (now (words .entry)) 0) (word (now (words .entry)) 33) (word (now (words .entry)) 130) (word (now (words .entry)) 707) ⌝ }
 {
     if 16 < words[0] {
         return false;
@@ -33,7 +34,7 @@ fn within_room(words: &[u64]) -> bool
     if 64 < words[130] {
         return false;
     }
-    words[579] <= 128
+    words[707] <= 128
 }
 
 // The rules for locks; `files` has the file of each FID.
@@ -49,13 +50,13 @@ fn locks_ok(files: &[u8; 65], words: &[u64]) -> bool
 
 // Whether the words in use fit their fields and the tables are sound.
 pub fn is_sound(words: &[u64]) -> bool
-    requires { ⌜ length (now words) ≡ 1461 ⌝ }
+    requires { ⌜ length (now words) ≡ 1605 ⌝ }
     ensures { λ r. ⌜ r ≡ inUseFit (now (words .entry)) && sound (tablesOf (now (words .entry))) ⌝ }
 {
     if !within_room(words) {
         return false;
     }
-    if !files_ok(&words[1220..1236]) {
+    if !files_ok(&words[1348..1380]) {
         return false;
     }
     let sessions = sessions_marked(&words[0..33]);
@@ -68,13 +69,16 @@ pub fn is_sound(words: &[u64]) -> bool
         return false;
     }
     let codes = trees.codes;
-    let opens = opens_marked(&codes, &words[130..579]);
+    let opens = opens_marked(&codes, &words[130..707]);
     if !opens.sound {
         return false;
     }
     let files = opens.files;
-    if !locks_ok(&files, &words[579..1220]) {
+    if !locks_ok(&files, &words[707..1348]) {
         return false;
     }
-    catalogue_ok(&words[1236..1461])
+    if !catalogue_ok(&words[1380..1605]) {
+        return false;
+    }
+    all_seen(&words[1348..1380], &words[130..707])
 }

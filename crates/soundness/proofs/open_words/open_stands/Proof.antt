@@ -32,7 +32,7 @@ returns c =
     let args = c .before .before .before .before .before .args in
     let long = c .before .before .before .before .before .pre .0 in
     let few = c .before .before .before .before .before .pre .1 in
-    rw (part-row (args .words .now) (1 + 7 * args .i) 7 (omega arith), (sym (c .before .number-free .ensures) ∙ not-true (c .before .number-free .result) (c .if1 .taken)))
+    rw (part-row (args .words .now) (1 + 9 * args .i) 9 (omega arith), (sym (c .before .number-free .ensures) ∙ not-true (c .before .number-free .result) (c .if1 .taken)))
 
 add-if2 : tie.Need-add-if2
 add-if2 c = search needs
@@ -49,7 +49,7 @@ returns-2 c =
     let args = c .before .before .before .before .before .before .before .args in
     let long = c .before .before .before .before .before .before .before .pre .0 in
     let few = c .before .before .before .before .before .before .before .pre .1 in
-    rw (part-row (args .words .now) (1 + 7 * args .i) 7 (omega arith), (sym (c .before .before .before .number-free .ensures) ∙ not-false (c .before .before .before .number-free .result) (c .before .before .if1 .left)), lt-leb _ _ (c .if2 .taken))
+    rw (part-row (args .words .now) (1 + 9 * args .i) 9 (omega arith), (sym (c .before .before .before .number-free .ensures) ∙ not-false (c .before .before .before .number-free .result) (c .before .before .if1 .left)), lt-leb _ _ (c .if2 .taken))
 
 add-if3 : tie.Need-add-if3
 add-if3 c = search needs
@@ -66,7 +66,7 @@ returns-3 c =
     let args = c .before .before .before .before .before .before .before .before .before .args in
     let long = c .before .before .before .before .before .before .before .before .before .pre .0 in
     let few = c .before .before .before .before .before .before .before .before .before .pre .1 in
-    rw (part-row (args .words .now) (1 + 7 * args .i) 7 (omega arith), (sym (c .before .before .before .before .before .number-free .ensures) ∙ not-false (c .before .before .before .before .before .number-free .result) (c .before .before .before .before .if1 .left)), le-leb _ _ (c .before .before .if2 .left), lt-leb _ _ (c .if3 .taken))
+    rw (part-row (args .words .now) (1 + 9 * args .i) 9 (omega arith), (sym (c .before .before .before .before .before .number-free .ensures) ∙ not-false (c .before .before .before .before .before .number-free .result) (c .before .before .before .before .if1 .left)), le-leb _ _ (c .before .before .if2 .left), lt-leb _ _ (c .if3 .taken))
 
 add-access : tie.Need-add-access
 add-access c = search needs
@@ -83,7 +83,7 @@ returns-4 c =
     let args = c .before .before .before .before .before .before .before .before .before .before .before .args in
     let long = c .before .before .before .before .before .before .before .before .before .before .before .pre .0 in
     let few = c .before .before .before .before .before .before .before .before .before .before .before .pre .1 in
-    rw (part-row (args .words .now) (1 + 7 * args .i) 7 (omega arith), (sym (c .before .before .before .before .before .before .before .number-free .ensures) ∙ not-false (c .before .before .before .before .before .before .before .number-free .result) (c .before .before .before .before .before .before .if1 .left)), le-leb _ _ (c .before .before .before .before .if2 .left), le-leb _ _ (c .before .before .if3 .left), lt-leb _ _ (c .if4 .taken))
+    rw (part-row (args .words .now) (1 + 9 * args .i) 9 (omega arith), (sym (c .before .before .before .before .before .before .before .number-free .ensures) ∙ not-false (c .before .before .before .before .before .before .before .number-free .result) (c .before .before .before .before .before .before .if1 .left)), le-leb _ _ (c .before .before .before .before .if2 .left), le-leb _ _ (c .before .before .if3 .left), lt-leb _ _ (c .if4 .taken))
 
 add-sharing : tie.Need-add-sharing
 add-sharing c = search needs
@@ -100,7 +100,7 @@ returns-5 c =
     let args = c .before .before .before .before .before .before .before .before .before .before .before .before .before .args in
     let long = c .before .before .before .before .before .before .before .before .before .before .before .before .before .pre .0 in
     let few = c .before .before .before .before .before .before .before .before .before .before .before .before .before .pre .1 in
-    rw (part-row (args .words .now) (1 + 7 * args .i) 7 (omega arith), (sym (c .before .before .before .before .before .before .before .before .before .number-free .ensures) ∙ not-false (c .before .before .before .before .before .before .before .before .before .number-free .result) (c .before .before .before .before .before .before .before .before .if1 .left)), le-leb _ _ (c .before .before .before .before .before .before .if2 .left), le-leb _ _ (c .before .before .before .before .if3 .left), le-leb _ _ (c .before .before .if4 .left), lt-leb _ _ (c .if5 .taken))
+    rw (part-row (args .words .now) (1 + 9 * args .i) 9 (omega arith), (sym (c .before .before .before .before .before .before .before .before .before .number-free .ensures) ∙ not-false (c .before .before .before .before .before .before .before .before .before .number-free .result) (c .before .before .before .before .before .before .before .before .if1 .left)), le-leb _ _ (c .before .before .before .before .before .before .if2 .left), le-leb _ _ (c .before .before .before .before .if3 .left), le-leb _ _ (c .before .before .if4 .left), lt-leb _ _ (c .if5 .taken))
 
 returns-6 : tie.Need-returns-6
 unfolding openStands sharingOk
@@ -108,7 +108,24 @@ returns-6 c =
     let args = c .before .before .before .before .before .before .before .before .before .before .before .before .before .before .args in
     let long = c .before .before .before .before .before .before .before .before .before .before .before .before .before .before .pre .0 in
     let few = c .before .before .before .before .before .before .before .before .before .before .before .before .before .before .pre .1 in
-    rw (part-row (args .words .now) (1 + 7 * args .i) 7 (omega arith), (sym (c .before .before .before .before .before .before .before .before .before .before .number-free .ensures) ∙ not-false (c .before .before .before .before .before .before .before .before .before .before .number-free .result) (c .before .before .before .before .before .before .before .before .before .if1 .left)), le-leb _ _ (c .before .before .before .before .before .before .before .if2 .left), le-leb _ _ (c .before .before .before .before .before .if3 .left), le-leb _ _ (c .before .before .before .if4 .left), le-leb _ _ (c .before .if5 .left), lt-leb _ _ (c .if6 .taken))
+    rw (part-row (args .words .now) (1 + 9 * args .i) 9 (omega arith), (sym (c .before .before .before .before .before .before .before .before .before .before .number-free .ensures) ∙ not-false (c .before .before .before .before .before .before .before .before .before .before .number-free .result) (c .before .before .before .before .before .before .before .before .before .if1 .left)), le-leb _ _ (c .before .before .before .before .before .before .before .if2 .left), le-leb _ _ (c .before .before .before .before .before .if3 .left), le-leb _ _ (c .before .before .before .if4 .left), le-leb _ _ (c .before .if5 .left), lt-leb _ _ (c .if6 .taken))
+
+add-if7 : tie.Need-add-if7
+add-if7 c = search needs
+
+mul-if7 : tie.Need-mul-if7
+mul-if7 c = search needs
+
+shared-slice-read-if7 : tie.Need-shared-slice-read-if7
+shared-slice-read-if7 c = search needs
+
+returns-7 : tie.Need-returns-7
+unfolding openStands sharingOk
+returns-7 c =
+    let args = c .before .before .before .before .before .before .before .before .before .before .before .before .before .before .before .before .args in
+    let long = c .before .before .before .before .before .before .before .before .before .before .before .before .before .before .before .before .pre .0 in
+    let few = c .before .before .before .before .before .before .before .before .before .before .before .before .before .before .before .before .pre .1 in
+    rw (part-row (args .words .now) (1 + 9 * args .i) 9 (omega arith), (sym (c .before .before .before .before .before .before .before .before .before .before .before .before .number-free .ensures) ∙ not-false (c .before .before .before .before .before .before .before .before .before .before .before .before .number-free .result) (c .before .before .before .before .before .before .before .before .before .before .before .if1 .left)), le-leb _ _ (c .before .before .before .before .before .before .before .before .before .if2 .left), le-leb _ _ (c .before .before .before .before .before .before .before .if3 .left), le-leb _ _ (c .before .before .before .before .before .if4 .left), le-leb _ _ (c .before .before .before .if5 .left), le-leb _ _ (c .before .before .if6 .left), lt-leb _ _ (c .if7 .taken))
 
 add-holds-at : tie.Need-add-holds-at
 add-holds-at c = search needs
@@ -131,13 +148,13 @@ shared-slice-read-holds-at-2 c = search needs
 holds-at-requires : tie.Need-holds-at-requires
 holds-at-requires c κs = search needs
 
-returns-7 : tie.Need-returns-7
+returns-8 : tie.Need-returns-8
 unfolding openStands sharingOk
-returns-7 c =
-    let args = c .before .before .before .before .before .before .before .before .before .before .before .before .before .before .before .before .before .before .args in
-    let long = c .before .before .before .before .before .before .before .before .before .before .before .before .before .before .before .before .before .before .pre .0 in
-    let few = c .before .before .before .before .before .before .before .before .before .before .before .before .before .before .before .before .before .before .pre .1 in
-    rw (part-row (args .words .now) (1 + 7 * args .i) 7 (omega arith), (sym (c .before .before .before .before .before .before .before .before .before .before .before .before .before .before .number-free .ensures) ∙ not-false (c .before .before .before .before .before .before .before .before .before .before .before .before .before .before .number-free .result) (c .before .before .before .before .before .before .before .before .before .before .before .before .before .if1 .left)), le-leb _ _ (c .before .before .before .before .before .before .before .before .before .before .before .if2 .left), le-leb _ _ (c .before .before .before .before .before .before .before .before .before .if3 .left), le-leb _ _ (c .before .before .before .before .before .before .before .if4 .left), le-leb _ _ (c .before .before .before .before .before .if5 .left), le-leb _ _ (c .before .before .before .before .if6 .left)) (c .holds-at .ensures)
+returns-8 c =
+    let args = c .before .before .before .before .before .before .before .before .before .before .before .before .before .before .before .before .before .before .before .before .args in
+    let long = c .before .before .before .before .before .before .before .before .before .before .before .before .before .before .before .before .before .before .before .before .pre .0 in
+    let few = c .before .before .before .before .before .before .before .before .before .before .before .before .before .before .before .before .before .before .before .before .pre .1 in
+    rw (part-row (args .words .now) (1 + 9 * args .i) 9 (omega arith), (sym (c .before .before .before .before .before .before .before .before .before .before .before .before .before .before .before .before .number-free .ensures) ∙ not-false (c .before .before .before .before .before .before .before .before .before .before .before .before .before .before .before .before .number-free .result) (c .before .before .before .before .before .before .before .before .before .before .before .before .before .before .before .if1 .left)), le-leb _ _ (c .before .before .before .before .before .before .before .before .before .before .before .before .before .if2 .left), le-leb _ _ (c .before .before .before .before .before .before .before .before .before .before .before .if3 .left), le-leb _ _ (c .before .before .before .before .before .before .before .before .before .if4 .left), le-leb _ _ (c .before .before .before .before .before .before .before .if5 .left), le-leb _ _ (c .before .before .before .before .before .before .if6 .left), le-leb _ _ (c .before .before .before .before .if7 .left)) (c .holds-at .ensures)
 
 pub open-stands-spec : {M : Type 1} → statement M
 open-stands-spec =
@@ -166,6 +183,10 @@ open-stands-spec =
     shared-slice-read-sharing
     returns-5
     returns-6
+    add-if7
+    mul-if7
+    shared-slice-read-if7
+    returns-7
     add-holds-at
     mul-holds-at
     shared-slice-read-holds-at
@@ -173,4 +194,4 @@ open-stands-spec =
     mul-holds-at-2
     shared-slice-read-holds-at-2
     holds-at-requires
-    returns-7)
+    returns-8)

@@ -23,30 +23,30 @@ use native.Mathlib.Omega.{arith}
 
 -- the numbers of an open that stands are its words
 record OpenNumbers (w : List ℕ) (i : ℕ) : Type 0 where
-  fid-small : word w (1 + 7 * i) < 65
-  file-small : word w (1 + 7 * i + 4) ≤ 15
-  fid-same : rowFid (recordAt 7 w i) ≡ word w (1 + 7 * i)
-  file-same : rowFile (recordAt 7 w i) ≡ word w (1 + 7 * i + 4)
+  fid-small : word w (1 + 9 * i) < 65
+  file-small : word w (1 + 9 * i + 4) ≤ 15
+  fid-same : rowFid (recordAt 9 w i) ≡ word w (1 + 9 * i)
+  file-same : rowFile (recordAt 9 w i) ≡ word w (1 + 9 * i + 4)
 
-open-numbers : (w : List ℕ) (i : ℕ) (codes files : List ℕ) → length w ≡ 449 → i < 64 → length files ≡ 65
-    → openStands codes files (recordAt 7 w i) ≡ true → OpenNumbers w i
+open-numbers : (w : List ℕ) (i : ℕ) (codes files : List ℕ) → length w ≡ 577 → i < 64 → length files ≡ 65
+    → openStands codes files (recordAt 9 w i) ≡ true → OpenNumbers w i
 unfolding openStands openOf
 open-numbers w i codes files long few size e =
-    let same = part-row w (1 + 7 * i) 7 (omega arith) in
-    let a = both-hold (numberFree 255 files (word w (1 + 7 * i))) _ (rw same at e) in
-    let b = both-hold (leb (word w (1 + 7 * i + 3)) 4294967295) _ (a .1) in
-    let d = both-hold (leb (word w (1 + 7 * i + 4)) 15) _ (b .1) in
-    let fid : word w (1 + 7 * i) < 65 = rw size at (free-inside 255 files (word w (1 + 7 * i)) (a .0)) in
-    let file : word w (1 + 7 * i + 4) ≤ 15 = leb-true (word w (1 + 7 * i + 4)) 15 (d .0) in
+    let same = part-row w (1 + 9 * i) 9 (omega arith) in
+    let a = both-hold (numberFree 255 files (word w (1 + 9 * i))) _ (rw same at e) in
+    let b = both-hold (leb (word w (1 + 9 * i + 3)) 4294967295) _ (a .1) in
+    let d = both-hold (leb (word w (1 + 9 * i + 4)) 15) _ (b .1) in
+    let fid : word w (1 + 9 * i) < 65 = rw size at (free-inside 255 files (word w (1 + 9 * i)) (a .0)) in
+    let file : word w (1 + 9 * i + 4) ≤ 15 = leb-true (word w (1 + 9 * i + 4)) 15 (d .0) in
     record {
       fid-small = fid;
       file-small = file;
-      fid-same = rw same (uncut (word w (1 + 7 * i)) 65535 (omega arith));
-      file-same = rw same (uncut (word w (1 + 7 * i + 4)) 255 (omega arith));
+      fid-same = rw same (uncut (word w (1 + 9 * i)) 65535 (omega arith));
+      file-same = rw same (uncut (word w (1 + 9 * i + 4)) 255 (omega arith));
     }
 
 abbrev Inv-loop : tie.InvT-loop
-Inv-loop codes words files₀ i₀ files i = (i ≤ word words 0) × Marked rowFid rowFile 255 65 (openRule codes) (rows 7 64 words) (word words 0) i files
+Inv-loop codes words files₀ i₀ files i = (i ≤ word words 0) × Marked rowFid rowFile 255 65 (openRule codes) (rows 9 64 words) (word words 0) i files
 
 abbrev μ-loop : tie.MeasureT-loop
 μ-loop codes words files₀ i₀ files i = i
@@ -72,9 +72,9 @@ returns c =
     let loop = c .before .before .before .before .loop in
     let w = args .words .now in
     let stands = c .before .open-stands in
-    let rule = open-stands w (loop .i - 1) (rest (rows 7 64 w) (word w 0) (loop .i)) (args .codes .now) (loop .files) (pre .1 .0) (omega arith) (omega arith) (loop .inv .1 .keeps) (loop .inv .1 .made) in
+    let rule = open-stands w (loop .i - 1) (rest (rows 9 64 w) (word w 0) (loop .i)) (args .codes .now) (loop .files) (pre .1 .0) (omega arith) (λ k. omega (arith, c .before .before .before .before .before .shared-slice-known2 .given k)) (omega arith) (loop .inv .1 .keeps) (loop .inv .1 .made) in
     told-no openLimits 64 openOf 64 fidOf (openIn (args .codes .now)) (λ o. o .file) 255 65 w (loop .files)
-    (row-no 7 64 w (loop .i) (loop .files) (loop .inv .1) (c .before .before .before .loop-test .taken) (loop .inv .0) (omega arith)
+    (row-no 9 64 w (loop .i) (loop .files) (loop .inv .1) (c .before .before .before .loop-test .taken) (loop .inv .0) (omega arith)
     (sym rule ∙ sym (stands .ensures) ∙ not-true (stands .result) (c .if1 .taken)))
 
 mul-at : tie.Need-mul-at Inv-loop μ-loop
@@ -105,7 +105,7 @@ cast-files c =
     let loop = c .before .before .before .before .before .before .loop in
     let w = args .words .now in
     let stands = c .before .before .before .open-stands in
-    let n = open-numbers w (loop .i - 1) (args .codes .now) (loop .files) (pre .1 .0) (omega arith) (marked-length 7 64 w (loop .inv .1)) (sym (stands .ensures) ∙ not-false (stands .result) (c .before .before .if1 .left)) in
+    let n = open-numbers w (loop .i - 1) (args .codes .now) (loop .files) (pre .1 .0) (omega arith) (marked-length 9 64 w (loop .inv .1)) (sym (stands .ensures) ∙ not-false (stands .result) (c .before .before .if1 .left)) in
     omega arith
 
 array-write-files : tie.Need-array-write-files Inv-loop μ-loop
@@ -115,7 +115,7 @@ array-write-files c =
     let loop = c .before .before .before .before .before .before .loop in
     let w = args .words .now in
     let stands = c .before .before .before .open-stands in
-    let n = open-numbers w (loop .i - 1) (args .codes .now) (loop .files) (pre .1 .0) (omega arith) (marked-length 7 64 w (loop .inv .1)) (sym (stands .ensures) ∙ not-false (stands .result) (c .before .before .if1 .left)) in
+    let n = open-numbers w (loop .i - 1) (args .codes .now) (loop .files) (pre .1 .0) (omega arith) (marked-length 9 64 w (loop .inv .1)) (sym (stands .ensures) ∙ not-false (stands .result) (c .before .before .if1 .left)) in
     omega arith
 
 loop-less : tie.Need-loop-less Inv-loop μ-loop
@@ -128,9 +128,9 @@ loop-again c =
     let loop = c .before .before .before .before .before .before .loop in
     let w = args .words .now in
     let stands = c .before .before .before .open-stands in
-    let n = open-numbers w (loop .i - 1) (args .codes .now) (loop .files) (pre .1 .0) (omega arith) (marked-length 7 64 w (loop .inv .1)) (sym (stands .ensures) ∙ not-false (stands .result) (c .before .before .if1 .left)) in
-    let rule = open-stands w (loop .i - 1) (rest (rows 7 64 w) (word w 0) (loop .i)) (args .codes .now) (loop .files) (pre .1 .0) (omega arith) (omega arith) (loop .inv .1 .keeps) (loop .inv .1 .made) in
-    (omega arith, row-yes 7 64 w (loop .i) (loop .files) (loop .inv .1) (c .before .before .before .before .before .loop-test .taken) (loop .inv .0) (omega arith) _ _ (sym rule ∙ sym (stands .ensures) ∙ not-false (stands .result) (c .before .before .if1 .left)) (n .fid-same) (n .file-same) (n .fid-small))
+    let n = open-numbers w (loop .i - 1) (args .codes .now) (loop .files) (pre .1 .0) (omega arith) (marked-length 9 64 w (loop .inv .1)) (sym (stands .ensures) ∙ not-false (stands .result) (c .before .before .if1 .left)) in
+    let rule = open-stands w (loop .i - 1) (rest (rows 9 64 w) (word w 0) (loop .i)) (args .codes .now) (loop .files) (pre .1 .0) (omega arith) (λ k. omega (arith, c .before .before .before .before .before .before .before .shared-slice-known2 .given k)) (omega arith) (loop .inv .1 .keeps) (loop .inv .1 .made) in
+    (omega arith, row-yes 9 64 w (loop .i) (loop .files) (loop .inv .1) (c .before .before .before .before .before .loop-test .taken) (loop .inv .0) (omega arith) _ _ (sym rule ∙ sym (stands .ensures) ∙ not-false (stands .result) (c .before .before .if1 .left)) (n .fid-same) (n .file-same) (n .fid-small))
 
 returns-2 : tie.Need-returns-2 Inv-loop μ-loop
 unfolding openArray
