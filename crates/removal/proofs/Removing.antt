@@ -4,8 +4,8 @@ use mathlib.Core.Path.{_≡_, refl, sym, ap, _∙_}
 use Prim.Native.Nat.{ℕ, _+_, _≤_}
 use native.Mathlib.Omega.{arith}
 use mathlib.Core.Bool.{Bool, true}
-use mathlib.Core.List.{List, _++_, map}
-use lib.ListN.{length, take, drop, length-append, length-take, length-drop}
+use mathlib.Core.List.{List, map}
+use lib.ListN.{length, length-append, length-take, length-drop}
 use lib.Dec.{leb}
 use Rattle.lists.specs.Walk.{all, keep}
 use Rattle.lists.specs.Members.{all-keep}
@@ -17,7 +17,7 @@ use Rattle.records.specs.declared.Open.{Open}
 use Rattle.records.specs.declared.Lock.{Lock}
 use Rattle.records.specs.declared.Tables.{Tables}
 use Rattle.records.specs.Held.{sessionsOf, treesOf, opensOf, locksOf, withSessions, withTrees, withOpens, withLocks}
-use Rattle.tables.specs.Words.{part, tablesOf, inUseFit, sessionArray, treeArray, openArray, lockArray, sessionLimits, treeLimits, openLimits, lockLimits}
+use Rattle.tables.specs.Words.{part, tablesOf, sessionArray, treeArray, openArray, lockArray, sessionLimits, treeLimits, openLimits, lockLimits}
 use Rattle.tables.specs.Written.{sessionsIn, treesIn, opensIn, locksIn}
 use Rattle.tables.specs.PartLaws.{lent}
 use Rattle.tables.specs.WholeLaws.{told-fit, with-sessions, with-trees, with-opens, with-locks, fit-sessions, fit-trees, fit-opens, fit-locks}
@@ -27,7 +27,7 @@ use Rattle.removal.specs.Removal.{sessionStays, treeStays, openStays, lo
 use Rattle.removal.specs.Filter.{marksOf, treeMarked, openMarked, lockMarked, Filtered, Numbered, Removed}
 use Rattle.removal.proofs.Marking.{numbered-small, trees-told, opens-told, locks-told}
 
-pub length-lent : (w e : List ℕ) (from n : ℕ) → length w ≡ 1461 → length e ≡ n → from + n ≤ 1461 → length (lent w from n e) ≡ 1461
+pub length-lent : (w e : List ℕ) (from n : ℕ) → length w ≡ 1605 → length e ≡ n → from + n ≤ 1605 → length (lent w from n e) ≡ 1605
 length-lent w e from n full long fits = rw (length-append, length-append, length-take, length-drop, length-drop) (omega arith)
 
 -- each number is within the marks
@@ -57,7 +57,7 @@ record Swept {A : Type 0} (heldBy : Tables → List A) (number : A → ℕ) (swe
   marked : marks ≡ marksOf (map number (heldBy (tablesOf after)))
   small : Small number (heldBy (tablesOf after))
 
-module _ (gone : Gone) (w e : List ℕ) (full : length w ≡ 1461) where
+module _ (gone : Gone) (w e : List ℕ) (full : length w ≡ 1605) where
   sessions-swept : (uids : List Bool) → Small uidOf (sessionsOf (tablesOf w)) → length e ≡ 33
       → (uids ≡ marksOf (map uidOf (keep (sessionStays gone) (sessionsIn (part w 0 33)))))
       × Filtered sessionArray sessionLimits 16 noSession (sessionStays gone) (part w 0 33) e
@@ -89,29 +89,29 @@ module _ (gone : Gone) (w e : List ℕ) (full : length w ≡ 1461) where
         small = ap (all (λ t. leb (t .tid) 64)) held ∙ all-keep (treeMarked gone uids) (λ t. leb (t .tid) 64) (treesIn (part w 33 97)) small;
       }
 
-  opens-swept : (tids fids : List Bool) (swept : Tables) → Swept treesOf tidOf swept w tids → Small fidOf (opensOf (tablesOf w)) → length e ≡ 449
-      → (fids ≡ marksOf (map fidOf (keep (openMarked gone tids) (opensIn (part w 130 449)))))
-      × Filtered openArray openLimits 64 noOpen (openMarked gone tids) (part w 130 449) e
-      → Swept opensOf fidOf (sweepOpens gone (tablesOf w)) (lent w 130 449 e) fids
+  opens-swept : (tids fids : List Bool) (swept : Tables) → Swept treesOf tidOf swept w tids → Small fidOf (opensOf (tablesOf w)) → length e ≡ 577
+      → (fids ≡ marksOf (map fidOf (keep (openMarked gone tids) (opensIn (part w 130 577)))))
+      × Filtered openArray openLimits 64 noOpen (openMarked gone tids) (part w 130 577) e
+      → Swept opensOf fidOf (sweepOpens gone (tablesOf w)) (lent w 130 577 e) fids
   unfolding tablesOf sweepOpens
   opens-swept tids fids swept s small long h =
-      let list = keep (openMarked gone tids) (opensIn (part w 130 449)) in
+      let list = keep (openMarked gone tids) (opensIn (part w 130 577)) in
       let t = with-opens w e full list long (h .1 .holds) in
-      let held : opensOf (tablesOf (lent w 130 449 e)) ≡ list = ap opensOf t ∙ opens-held (tablesOf w) list in
+      let held : opensOf (tablesOf (lent w 130 577 e)) ≡ list = ap opensOf t ∙ opens-held (tablesOf w) list in
       let told : openMarked gone tids ≡ openStays gone (map tidOf (treesOf (tablesOf w))) = ap (openMarked gone) (s .marked) ∙ opens-told tidOf (treesOf (tablesOf w)) (s .small) gone in
       record {
         tables = t ∙ ap (λ (p : Open → Bool). withOpens (tablesOf w) (keep p (opensOf (tablesOf w)))) told;
         marked = h .0 ∙ ap (λ (l : List Open). marksOf (map fidOf l)) (sym held);
-        small = ap (all (λ o. leb (o .fid) 64)) held ∙ all-keep (openMarked gone tids) (λ o. leb (o .fid) 64) (opensIn (part w 130 449)) small;
+        small = ap (all (λ o. leb (o .fid) 64)) held ∙ all-keep (openMarked gone tids) (λ o. leb (o .fid) 64) (opensIn (part w 130 577)) small;
       }
 
   locks-swept : (fids : List Bool) (swept : Tables) → Swept opensOf fidOf swept w fids → length e ≡ 641
-      → Filtered lockArray lockLimits 128 noLock (lockMarked fids) (part w 579 641) e
-      → tablesOf (lent w 579 641 e) ≡ sweepLocks (tablesOf w)
+      → Filtered lockArray lockLimits 128 noLock (lockMarked fids) (part w 707 641) e
+      → tablesOf (lent w 707 641 e) ≡ sweepLocks (tablesOf w)
   unfolding tablesOf sweepLocks
   locks-swept fids swept s long h =
       let told : lockMarked fids ≡ lockStays (map fidOf (opensOf (tablesOf w))) = ap lockMarked (s .marked) ∙ locks-told fidOf (opensOf (tablesOf w)) (s .small) in
-      with-locks w e full (keep (lockMarked fids) (locksIn (part w 579 641))) long (h .holds)
+      with-locks w e full (keep (lockMarked fids) (locksIn (part w 707 641))) long (h .holds)
       ∙ ap (λ (p : Lock → Bool). withLocks (tablesOf w) (keep p (locksOf (tablesOf w)))) told
 
 -- ---- all four
@@ -125,25 +125,25 @@ opens-stand : (gone : Gone) (t : Tables) → opensOf (sweepTrees gone (sweepSess
 unfolding sweepSessions withSessions sweepTrees withTrees
 opens-stand gone t = refl
 
-module _ (gone : Gone) (w a b c d : List ℕ) (uids tids fids : List Bool) (full : length w ≡ 1461) (numbers : Numbered (tablesOf w))
-    (la : length a ≡ 33) (lb : length b ≡ 97) (lc : length c ≡ 449) (ld : length d ≡ 641) where
+module _ (gone : Gone) (w a b c d : List ℕ) (uids tids fids : List Bool) (full : length w ≡ 1605) (numbers : Numbered (tablesOf w))
+    (la : length a ≡ 33) (lb : length b ≡ 97) (lc : length c ≡ 577) (ld : length d ≡ 641) where
   pub removed :
       (uids ≡ marksOf (map uidOf (keep (sessionStays gone) (sessionsIn (part w 0 33)))))
       × Filtered sessionArray sessionLimits 16 noSession (sessionStays gone) (part w 0 33) a
       → (tids ≡ marksOf (map tidOf (keep (treeMarked gone uids) (treesIn (part (lent w 0 33 a) 33 97)))))
       × Filtered treeArray treeLimits 32 noTree (treeMarked gone uids) (part (lent w 0 33 a) 33 97) b
-      → (fids ≡ marksOf (map fidOf (keep (openMarked gone tids) (opensIn (part (lent (lent w 0 33 a) 33 97 b) 130 449)))))
-      × Filtered openArray openLimits 64 noOpen (openMarked gone tids) (part (lent (lent w 0 33 a) 33 97 b) 130 449) c
-      → Filtered lockArray lockLimits 128 noLock (lockMarked fids) (part (lent (lent (lent w 0 33 a) 33 97 b) 130 449 c) 579 641) d
-      → Removed gone w (lent (lent (lent (lent w 0 33 a) 33 97 b) 130 449 c) 579 641 d)
+      → (fids ≡ marksOf (map fidOf (keep (openMarked gone tids) (opensIn (part (lent (lent w 0 33 a) 33 97 b) 130 577)))))
+      × Filtered openArray openLimits 64 noOpen (openMarked gone tids) (part (lent (lent w 0 33 a) 33 97 b) 130 577) c
+      → Filtered lockArray lockLimits 128 noLock (lockMarked fids) (part (lent (lent (lent w 0 33 a) 33 97 b) 130 577 c) 707 641) d
+      → Removed gone w (lent (lent (lent (lent w 0 33 a) 33 97 b) 130 577 c) 707 641 d)
   unfolding remove
   removed ha hb hc hd =
       let w1 = lent w 0 33 a in
       let w2 = lent w1 33 97 b in
-      let w3 = lent w2 130 449 c in
-      let full1 : length w1 ≡ 1461 = length-lent w a 0 33 full la (omega arith) in
-      let full2 : length w2 ≡ 1461 = length-lent w1 b 33 97 full1 lb (omega arith) in
-      let full3 : length w3 ≡ 1461 = length-lent w2 c 130 449 full2 lc (omega arith) in
+      let w3 = lent w2 130 577 c in
+      let full1 : length w1 ≡ 1605 = length-lent w a 0 33 full la (omega arith) in
+      let full2 : length w2 ≡ 1605 = length-lent w1 b 33 97 full1 lb (omega arith) in
+      let full3 : length w3 ≡ 1605 = length-lent w2 c 130 577 full2 lc (omega arith) in
       let t = tablesOf w in
       let s1 = sessions-swept gone w a full uids (numbered-small uidOf 16 (sessionsOf t) (omega arith) (numbers .uids)) la ha in
       let trees : treesOf (tablesOf w1) ≡ treesOf t = ap treesOf (s1 .tables) ∙ trees-stand gone t in

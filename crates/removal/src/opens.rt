@@ -28,6 +28,8 @@ const NO_OPEN: Open = Open {
     file: 0,
     access: 0,
     sharing: 0,
+    read: false,
+    seen: 0,
 };
 
 // Whether the open is not named and its tree stands.
@@ -42,7 +44,7 @@ fn open_marked(gone: Gone, tids: &[bool], o: Open) -> bool
 
 // The record at one place moved to another, its own place empty.
 fn move_open(words: &mut [u64], from: usize, to: usize)
-    requires { ⌜ (length (now words) ≡ 449) × ((from < 64) × (to < 64)) ⌝ }
+    requires { ⌜ (length (now words) ≡ 577) × ((from < 64) × (to < 64)) ⌝ }
     ensures { λ _. ⌜ Shifted openArray openLimits noOpen (now (words .entry)) (now (words .exit)) from to ⌝ }
 {
     if from == to {
@@ -55,7 +57,7 @@ fn move_open(words: &mut [u64], from: usize, to: usize)
 
 // The opens that stay, and marks of their FIDs.
 pub fn keep_opens(words: &mut [u64], gone: Gone, tids: &[bool]) -> [bool; 65]
-    requires { ⌜ length (now words) ≡ 449 ⌝ }
+    requires { ⌜ length (now words) ≡ 577 ⌝ }
     ensures { λ r. ⌜ (r ≡ marksOf (map fidOf (keep (openMarked gone (now (tids .entry))) (opensIn (now (words .entry)))))) × Filtered openArray openLimits 64 noOpen (openMarked gone (now (tids .entry))) (now (words .entry)) (now (words .exit)) ⌝ }
 {
     let n = at_most(words[0] as usize, 64);

@@ -12,11 +12,11 @@ ghost use Rattle.removal.specs.Filter.{Numbered, Removed};
 
 // The tables without what goes: each table is filtered by what stands of the one before it.
 pub fn remove_named(words: &mut [u64], gone: Gone)
-    requires { ⌜ (length (now words) ≡ 1461) × Numbered (tablesOf (now words)) ⌝ }
+    requires { ⌜ (length (now words) ≡ 1605) × Numbered (tablesOf (now words)) ⌝ }
     ensures { λ _. ⌜ Removed gone (now (words .entry)) (now (words .exit)) ⌝ }
 {
     let uids = keep_sessions(&mut words[0..33], gone);
     let tids = keep_trees(&mut words[33..130], gone, &uids);
-    let fids = keep_opens(&mut words[130..579], gone, &tids);
-    keep_locks(&mut words[579..1220], &fids);
+    let fids = keep_opens(&mut words[130..707], gone, &tids);
+    keep_locks(&mut words[707..1348], &fids);
 }

@@ -71,21 +71,21 @@ same-length c = search needs
 returns : tie.Need-returns
 returns c =
     let w = c .before .before .before .before .before .before .before .before .before .before .before .before .before .before .before .before .before .before .before .before .args .words .now in
-    let full : length w ≡ 1461 = c .before .before .before .before .before .before .before .before .before .before .before .before .before .before .before .before .before .before .before .before .pre .0 in
+    let full : length w ≡ 1605 = c .before .before .before .before .before .before .before .before .before .before .before .before .before .before .before .before .before .before .before .before .pre .0 in
     let a = c .before .before .before .before .before .before .before .before .before .before .before .before .before .before .before .before .before .keep-sessions .last .0 in
     let la : length a ≡ 33 = c .before .before .before .before .before .before .before .before .before .before .before .before .before .before .before .before .before .keep-sessions .kept .0 ∙ length-part w 0 33 (omega arith) in
     let w1 = lent w 0 33 a in
-    let full1 : length w1 ≡ 1461 = length-lent w a 0 33 full la (omega arith) in
+    let full1 : length w1 ≡ 1605 = length-lent w a 0 33 full la (omega arith) in
     let b = c .before .before .before .before .before .before .before .before .before .before .before .before .keep-trees .last .0 in
     let lb : length b ≡ 97 = c .before .before .before .before .before .before .before .before .before .before .before .before .keep-trees .kept .0 ∙ length-part w1 33 97 (omega arith) in
     let w2 = lent w1 33 97 b in
-    let full2 : length w2 ≡ 1461 = length-lent w1 b 33 97 full1 lb (omega arith) in
+    let full2 : length w2 ≡ 1605 = length-lent w1 b 33 97 full1 lb (omega arith) in
     let d = c .before .before .before .before .before .before .before .keep-opens .last .0 in
-    let ld : length d ≡ 449 = c .before .before .before .before .before .before .before .keep-opens .kept .0 ∙ length-part w2 130 449 (omega arith) in
-    let w3 = lent w2 130 449 d in
-    let full3 : length w3 ≡ 1461 = length-lent w2 d 130 449 full2 ld (omega arith) in
+    let ld : length d ≡ 577 = c .before .before .before .before .before .before .before .keep-opens .kept .0 ∙ length-part w2 130 577 (omega arith) in
+    let w3 = lent w2 130 577 d in
+    let full3 : length w3 ≡ 1605 = length-lent w2 d 130 577 full2 ld (omega arith) in
     let e = c .before .before .keep-locks .last .0 in
-    let le : length e ≡ 641 = c .before .before .keep-locks .kept .0 ∙ length-part w3 579 641 (omega arith) in
+    let le : length e ≡ 641 = c .before .before .keep-locks .kept .0 ∙ length-part w3 707 641 (omega arith) in
     removed (c .before .before .before .before .before .before .before .before .before .before .before .before .before .before .before .before .before .before .before .before .args .gone) w a b d e (c .before .before .before .before .before .before .before .before .before .before .before .before .before .before .before .before .before .keep-sessions .result) (c .before .before .before .before .before .before .before .before .before .before .before .before .keep-trees .result) (c .before .before .before .before .before .before .before .keep-opens .result) full (c .before .before .before .before .before .before .before .before .before .before .before .before .before .before .before .before .before .before .before .before .pre .1) la lb ld le
     (c .before .before .before .before .before .before .before .before .before .before .before .before .before .before .before .before .before .keep-sessions .ensures) (c .before .before .before .before .before .before .before .before .before .before .before .before .keep-trees .ensures) (c .before .before .before .before .before .before .before .keep-opens .ensures) (c .before .before .keep-locks .ensures)
 
