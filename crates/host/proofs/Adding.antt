@@ -38,11 +38,11 @@ trees-count w = first-word w 33 97 (omega arith)
 
 pub opens-count : (w : List ℕ) → tablesOf w .nopens ≡ word w 130
 unfolding tablesOf
-opens-count w = first-word w 130 449 (omega arith)
+opens-count w = first-word w 130 577 (omega arith)
 
 -- ---- one record more in a part that was lent: the tables with it, and words in use that fit where they did
 
-module _ (w e : List ℕ) (full : length w ≡ 1461) where
+module _ (w e : List ℕ) (full : length w ≡ 1605) where
   pub sessions-appended : (x : Session) → length e ≡ 33 → Appended sessionArray sessionLimits 16 noSession (part w 0 33) e x
       → (tablesOf (lent w 0 33 e) ≡ withSessions (tablesOf w) (sessionsOf (tablesOf w) ++ (x ∷ []))) × (inUseFit w ≡ true → inUseFit (lent w 0 33 e) ≡ true)
   unfolding tablesOf
@@ -59,11 +59,11 @@ module _ (w e : List ℕ) (full : length w ≡ 1461) where
     λ f. fit-trees w e full long f (a .fit (told-fit w f .trees-fit)),
   )
 
-  pub opens-appended : (x : Open) → length e ≡ 449 → Appended openArray openLimits 64 noOpen (part w 130 449) e x
-      → (tablesOf (lent w 130 449 e) ≡ withOpens (tablesOf w) (opensOf (tablesOf w) ++ (x ∷ []))) × (inUseFit w ≡ true → inUseFit (lent w 130 449 e) ≡ true)
+  pub opens-appended : (x : Open) → length e ≡ 577 → Appended openArray openLimits 64 noOpen (part w 130 577) e x
+      → (tablesOf (lent w 130 577 e) ≡ withOpens (tablesOf w) (opensOf (tablesOf w) ++ (x ∷ []))) × (inUseFit w ≡ true → inUseFit (lent w 130 577 e) ≡ true)
   unfolding tablesOf
   opens-appended x long a = (
-    with-opens w e full (opensIn (part w 130 449) ++ (x ∷ [])) long (a .holds),
+    with-opens w e full (opensIn (part w 130 577) ++ (x ∷ [])) long (a .holds),
     λ f. fit-opens w e full long f (a .fit (told-fit w f .opens-fit)),
   )
 
@@ -115,7 +115,7 @@ module _ (t : Tables) (uid right : ℕ) where
 
 module _ (t : Tables) (uid tid process file access : ℕ) where
   abbrev pub openBy : ℕ → Open
-  openBy fid = record { fid = fid; uid = uid; tid = tid; process = process; file = file; access = access; sharing = 4 }
+  openBy fid = record { fid = fid; uid = uid; tid = tid; process = process; file = file; access = access; sharing = 4; read = false; seen = 0 }
 
   pub open-unsound : sound t ≡ false → addOpen t uid tid process file access ≡ refused 4 t
   unfolding addOpen

@@ -4,3 +4,4 @@ pub mod Leaving
 pub mod Emptied
 pub mod Adding
 pub mod Naming
+pub mod Asked

@@ -11,10 +11,11 @@ use borrow.Author.Tests.{eq-eqb, ne-eqb, ltb-false}
 use native.Mathlib.Omega.{arith}
 use Rattle.lists.specs.Put.{put}
 use Rattle.lists.specs.Truth.{neither-holds, both-hold, test-cases}
+use Rattle.records.specs.Change.{withChange}
 use Rattle.records.specs.declared.Tables.{Tables}
 use Rattle.soundness.specs.Sound.{sound}
 use Rattle.tables.specs.Words.{tablesOf, inUseFit}
-use Rattle.host.specs.HostCall.{refused, done, loadNumber, withSize, loadFile, loadMemory}
+use Rattle.host.specs.HostCall.{refused, done, loadNumber, loadFile, loadMemory}
 use Rattle.host.specs.OnWords.{onWords, loadOnWords, memoryOnWords}
 use Rattle.host.proofs.Leaving.{on-unsound, on-sound}
 
@@ -70,7 +71,7 @@ module _ (t : Tables) (file : ℕ) (bytes memory : List ℕ) (k : ℕ) (full : l
   load-refused n = rw (full, sym e, ne-eqb k 0 n) (refl, refl)
 
   pub load-done : k ≡ 0
-      → (loadFile t file bytes memory ≡ done 0 (withSize t file (length bytes)))
+      → (loadFile t file bytes memory ≡ done 0 (withChange t file (length bytes)))
       × (loadMemory t file bytes memory ≡ put memory (file * 4096) (bytes ++ replicate (4096 - length bytes) 0))
   unfolding loadFile loadMemory
   load-done z = rw (full, sym e, z) (refl, refl)

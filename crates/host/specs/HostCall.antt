@@ -1,12 +1,14 @@
 -- The host calls (document 01, "What a call returns"; document 02, CR 6): adding a session, a tree or an open, loading a file, dropping a
--- connection, setting the catalogue. Each refusal is tested in document 01's order 2, 4, 7, 6, 8, 9, 5; a refusal changes nothing, and the number
+-- connection, setting the catalogue, asking whether a file has changed (CR 8). Each refusal is tested in document 01's order 2, 4, 7, 6, 8, 9, 5; a refusal changes nothing, and the number
 -- beside it is 0. Assumes nothing.
 use Prim.Native.Nat.{ℕ, _-_, _*_}
-use mathlib.Core.Bool.{Bool, cond, not, _||_}
+use mathlib.Core.Bool.{Bool, cond, not, _&&_, _||_}
 use mathlib.Core.List.{List, [], _∷_, _++_, map}
-use lib.ListN.{length, replicate, set}
+use lib.ListN.{length, replicate, getD}
 use lib.Dec.{leb, ltb, eqb}
-use Rattle.lists.specs.Walk.{any}
+use Rattle.lists.specs.Walk.{any, found}
+use Rattle.lists.specs.declared.Found.{Found}
+use Rattle.lists.specs.declared.Found.the-variants.{At, Nothing}
 use Rattle.lists.specs.Put.{put}
 use Rattle.records.specs.declared.Session.{Session}
 use Rattle.records.specs.declared.Tree.{Tree}
@@ -14,7 +16,8 @@ use Rattle.records.specs.declared.Open.{Open}
 use Rattle.records.specs.declared.Name.{Name}
 use Rattle.records.specs.declared.Tables.{Tables}
 use Rattle.records.specs.Empty.{noSession, noTree, noOpen, noLock, noFile, noName}
-use Rattle.records.specs.Held.{sessionsOf, treesOf, opensOf, withSessions, withTrees, withOpens, withFiles, withCatalogue}
+use Rattle.records.specs.Change.{LARGEST, changesOf, withChange}
+use Rattle.records.specs.Held.{sessionsOf, treesOf, opensOf, withSessions, withTrees, withOpens, withCatalogue}
 use Rattle.numbers.specs.Number.{contains, smallestFree}
 use Rattle.numbers.specs.Column.{uidOf, tidOf}
 use Rattle.numbers.specs.NewOpen.{openWith}
@@ -46,7 +49,7 @@ noTables =
 unfoldable pub refused : ℕ → Tables → Returned
 refused number t = record { number = number; id = 0; tables = t }
 
--- done, with the new number where one was given out
+-- done, with the new number where one was given out, or the answer
 unfoldable pub done : ℕ → Tables → Returned
 done id t = record { number = 0; id = id; tables = t }
 
@@ -102,13 +105,10 @@ loadNumber t file size memory =
     (cond (ltb 15 file || ltb 4096 size) 7
     (cond (any (isOf file) (opensOf t)) 9 0)))
 
--- "A load sets the size"
-unfoldable pub withSize : Tables → ℕ → ℕ → Tables
-withSize t file size = withFiles t (set (t .files) file (record { size = size }))
-
+-- "A load sets the size", and raises the change number (document 02, CR 8)
 unfoldable pub loadFile : Tables → ℕ → List ℕ → List ℕ → Returned
 loadFile t file bytes memory =
-    cond (eqb (loadNumber t file (length bytes) (length memory)) 0) (done 0 (withSize t file (length bytes)))
+    cond (eqb (loadNumber t file (length bytes) (length memory)) 0) (done 0 (withChange t file (length bytes)))
     (refused (loadNumber t file (length bytes) (length memory)) t)
 
 -- "and puts zeros after the loaded bytes, up to 4,096"
@@ -130,3 +130,18 @@ unfoldable pub setCatalogue : Tables → List Name → ℕ → Returned
 setCatalogue t names count =
     cond (not (sound t)) (refused 4 t)
     (cond (not (catalogueOk names count)) (refused 7 t) (done 0 (withCatalogue t names count)))
+
+-- ---- asking whether a file has changed since an open read it (document 02, CR 8): by FID alone. It changes nothing.
+
+-- "unchanged" exactly if the open has read, the numbers are equal and below the largest; otherwise "changed"
+unfoldable pub isUnchanged : Tables → Open → Bool
+isUnchanged t o = o .read && (eqb (o .seen) (changesOf t (o .file)) && ltb (changesOf t (o .file)) LARGEST)
+
+-- 1 for "unchanged", 0 for "changed"; so the 0 beside a refusal never says "unchanged"
+unfoldable pub unchangedAt : Tables → Found → Returned
+unchangedAt t (At k) = done (cond (isUnchanged t (getD (opensOf t) k noOpen)) 1 0) t
+unchangedAt t Nothing = refused 6 t
+
+-- "6 for an unknown FID, after 4"
+unfoldable pub askUnchanged : Tables → ℕ → Returned
+askUnchanged t fid = cond (not (sound t)) (refused 4 t) (unchangedAt t (found (λ o. eqb (o .fid) fid) (opensOf t)))

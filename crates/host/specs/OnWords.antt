@@ -34,6 +34,10 @@ setOnSound w given =
 unfoldable pub setOnWords : List ℕ → List ℕ → Returned
 setOnWords w given = onWords w (setOnSound w given)
 
+-- the row and the answer of a call that writes no word
+unfoldable pub rowOf : Returned → Row
+rowOf a = record { number = a .number; id = a .id }
+
 -- what a call that answers a leaves, where the words were `before`: the row and the number given out, words of the tables after the
 -- call, every word as it was where it is refused, and words in use that fit where they did
 pub record Left (a : Returned) (before after : List ℕ) (r : Row) : Type 0 where

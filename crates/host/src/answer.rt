@@ -19,7 +19,7 @@ pub const EXCEEDS_RIGHT: u8 = 8;
 
 pub const FILE_OPEN: u8 = 9;
 
-// The row, the number given out (0 where none was), and the tables after the call.
+// The row, the number given out or the answer given (0 where none was), and the tables after the call.
 pub struct Returned {
     pub number: u8,
     pub id: u16,

@@ -17,7 +17,7 @@ ghost use Rattle.host.specs.OnWords.{onWords, Left};
 
 // A connection dropped from sound tables.
 fn drop_sound(words: &mut [u64], connection: u32) -> Row
-    requires { ⌜ (length (now words) ≡ 1461) × (sound (tablesOf (now words)) ≡ true) ⌝ }
+    requires { ⌜ (length (now words) ≡ 1605) × (sound (tablesOf (now words)) ≡ true) ⌝ }
     ensures { λ r. ⌜ Left (dropConnection (tablesOf (now (words .entry))) connection) (now (words .entry)) (now (words .exit)) r ⌝ }
 {
     remove_named(words, Gone::Connection(connection));
@@ -28,7 +28,7 @@ fn drop_sound(words: &mut [u64], connection: u32) -> Row
 }
 
 // A connection dropped; no number is given out.
-pub fn drop_connection(words: &mut [u64; 1461], connection: u32) -> Row
+pub fn drop_connection(words: &mut [u64; 1605], connection: u32) -> Row
     ensures { λ r. ⌜ Left (onWords (now (words .entry)) (dropConnection (tablesOf (now (words .entry))) connection)) (now (words .entry)) (now (words .exit)) r ⌝ }
 {
     if !is_sound(words) {

@@ -6,10 +6,10 @@ ghost use lib.ListN.{replicate};
 ghost use Rattle.tables.specs.Words.{tablesOf, inUseFit};
 ghost use Rattle.host.specs.HostCall.{noTables};
 
-pub fn empty_words(words: &mut [u64; 1461])
-    ensures { λ _. ⌜ now (words .exit) ≡ replicate 1461 0 ⌝ }
+pub fn empty_words(words: &mut [u64; 1605])
+    ensures { λ _. ⌜ now (words .exit) ≡ replicate 1605 0 ⌝ }
     ensures { λ _. ⌜ tablesOf (now (words .exit)) ≡ noTables ⌝ }
     ensures { λ _. ⌜ inUseFit (now (words .exit)) ≡ true ⌝ }
 {
-    *words = [0; 1461];
+    *words = [0; 1605];
 }

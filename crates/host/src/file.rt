@@ -1,4 +1,5 @@
-// A file loaded, its size in the words: "A load sets the size and puts zeros after the loaded bytes, up to 4,096."
+// A file loaded, its size in the words: "A load sets the size and puts zeros after the loaded bytes, up to 4,096." Its change number is raised
+// (document 02, CR 8).
 
 use crate::answer::DONE;
 use crate::answer::FILE_OPEN;
@@ -7,7 +8,7 @@ use crate::answer::OUT_OF_RANGE;
 use crate::answer::Row;
 use crate::answer::WRONG_ROOM;
 use soundness::whole::is_sound;
-use tables::file::put_size;
+use tables::file::put_change;
 use tables::open::open_at;
 use wire::fill::clear;
 ghost use mathlib.Core.Path.{_≡_};
@@ -24,7 +25,7 @@ ghost use Rattle.host.specs.OnWords.{loadOnWords, memoryOnWords, Left};
 
 // Whether an open in use is of the file.
 fn some_open_of(words: &[u64], file: u8) -> bool
-    requires { ⌜ (length (now words) ≡ 449) × (word (now words) 0 ≤ 64) ⌝ }
+    requires { ⌜ (length (now words) ≡ 577) × (word (now words) 0 ≤ 64) ⌝ }
     ensures { λ r. ⌜ r ≡ any (isOf file) (opensIn (now (words .entry))) ⌝ }
 {
     let n = words[0] as usize;
@@ -41,7 +42,7 @@ fn some_open_of(words: &[u64], file: u8) -> bool
 
 // Why a load into sound tables and a whole file memory is refused, 0 where it is not.
 fn load_number(words: &[u64], file: u8, size: usize) -> u8
-    requires { ⌜ (length (now words) ≡ 1461) × (sound (tablesOf (now words)) ≡ true) ⌝ }
+    requires { ⌜ (length (now words) ≡ 1605) × (sound (tablesOf (now words)) ≡ true) ⌝ }
     ensures { λ r. ⌜ r ≡ loadNumber (tablesOf (now (words .entry))) file size 65536 ⌝ }
 {
     if 15 < file {
@@ -50,7 +51,7 @@ fn load_number(words: &[u64], file: u8, size: usize) -> u8
     if 4096 < size {
         return OUT_OF_RANGE;
     }
-    if some_open_of(&words[130..579], file) {
+    if some_open_of(&words[130..707], file) {
         return FILE_OPEN;
     }
     DONE
@@ -67,7 +68,7 @@ fn fill_file(contents: &[u8], room: &mut [u8])
 
 // A load into sound tables and a whole file memory.
 fn load_sound(words: &mut [u64], file: u8, contents: &[u8], memory: &mut [u8]) -> Row
-    requires { ⌜ (length (now words) ≡ 1461) × ((sound (tablesOf (now words)) ≡ true) × (length (now memory) ≡ 65536)) ⌝ }
+    requires { ⌜ (length (now words) ≡ 1605) × ((sound (tablesOf (now words)) ≡ true) × (length (now memory) ≡ 65536)) ⌝ }
     ensures { λ r. ⌜ Left (loadFile (tablesOf (now (words .entry))) file (now (contents .entry)) (now (memory .entry))) (now (words .entry)) (now (words .exit)) r ⌝ }
     ensures { λ _. ⌜ now (memory .exit) ≡ loadMemory (tablesOf (now (words .entry))) file (now (contents .entry)) (now (memory .entry)) ⌝ }
 {
@@ -80,7 +81,7 @@ fn load_sound(words: &mut [u64], file: u8, contents: &[u8], memory: &mut [u8]) -
     let from = at * 4096;
     let to = from + 4096;
     fill_file(contents, &mut memory[from..to]);
-    put_size(&mut words[1220..1236], at, size);
+    put_change(&mut words[1348..1380], at, size);
     Row {
         number: DONE,
         id: 0,
@@ -91,7 +92,7 @@ fn load_sound(words: &mut [u64], file: u8, contents: &[u8], memory: &mut [u8]) -
 pub const MEMORY: usize = 65536;
 
 // The bytes of a file that has no open, put into the file memory.
-pub fn load_file(words: &mut [u64; 1461], file: u8, contents: &[u8], memory: &mut [u8]) -> Row
+pub fn load_file(words: &mut [u64; 1605], file: u8, contents: &[u8], memory: &mut [u8]) -> Row
     ensures { λ r. ⌜ Left (loadOnWords (now (words .entry)) file (now (contents .entry)) (now (memory .entry))) (now (words .entry)) (now (words .exit)) r ⌝ }
     ensures { λ _. ⌜ now (memory .exit) ≡ memoryOnWords (now (words .entry)) file (now (contents .entry)) (now (memory .entry)) ⌝ }
 {

@@ -17,9 +17,9 @@ ghost use Rattle.host.specs.OnWords.{setOnSound, setOnWords, Left};
 
 // A catalogue for sound tables: all its words, those of names not in use too.
 fn set_sound(words: &mut [u64], given: &[u64]) -> Row
-    requires { ⌜ (length (now words) ≡ 1461) × ((sound (tablesOf (now words)) ≡ true) × (length (now given) ≡ 225)) ⌝ }
+    requires { ⌜ (length (now words) ≡ 1605) × ((sound (tablesOf (now words)) ≡ true) × (length (now given) ≡ 225)) ⌝ }
     ensures { λ r. ⌜ Left (setOnSound (now (words .entry)) (now (given .entry))) (now (words .entry)) (now (words .exit)) r ⌝ }
-    ensures { λ r. ⌜ (r .number ≡ 0 → now (words .exit) ≡ lent (now (words .entry)) 1236 225 (now (given .entry))) ⌝ }
+    ensures { λ r. ⌜ (r .number ≡ 0 → now (words .exit) ≡ lent (now (words .entry)) 1380 225 (now (given .entry))) ⌝ }
 {
     if !catalogue_ok(given) {
         return Row {
@@ -27,7 +27,7 @@ fn set_sound(words: &mut [u64], given: &[u64]) -> Row
             id: 0,
         };
     }
-    copy_words(&mut words[1236..1461], given);
+    copy_words(&mut words[1380..1605], given);
     Row {
         number: DONE,
         id: 0,
@@ -35,9 +35,9 @@ fn set_sound(words: &mut [u64], given: &[u64]) -> Row
 }
 
 // A catalogue in place of the old one; no number is given out.
-pub fn set_catalogue(words: &mut [u64; 1461], given: &[u64; 225]) -> Row
+pub fn set_catalogue(words: &mut [u64; 1605], given: &[u64; 225]) -> Row
     ensures { λ r. ⌜ Left (setOnWords (now (words .entry)) (now (given .entry))) (now (words .entry)) (now (words .exit)) r ⌝ }
-    ensures { λ r. ⌜ (r .number ≡ 0 → now (words .exit) ≡ lent (now (words .entry)) 1236 225 (now (given .entry))) ⌝ }
+    ensures { λ r. ⌜ (r .number ≡ 0 → now (words .exit) ≡ lent (now (words .entry)) 1380 225 (now (given .entry))) ⌝ }
 {
     if !is_sound(words) {
         return Row {

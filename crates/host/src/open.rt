@@ -28,7 +28,7 @@ const DENY_NONE: u8 = 4;
 
 // An open behind those in use.
 pub fn append_open(words: &mut [u64], o: Open)
-    requires { ⌜ (length (now words) ≡ 449) × (word (now words) 0 < 64) ⌝ }
+    requires { ⌜ (length (now words) ≡ 577) × (word (now words) 0 < 64) ⌝ }
     ensures { λ _. ⌜ Appended openArray openLimits 64 noOpen (now (words .entry)) (now (words .exit)) o ⌝ }
 {
     let count = words[0] as usize;
@@ -38,7 +38,7 @@ pub fn append_open(words: &mut [u64], o: Open)
 
 // An open in sound tables.
 fn add_sound(words: &mut [u64], uid: u16, tid: u16, process: u32, file: u8, access: u8) -> Row
-    requires { ⌜ (length (now words) ≡ 1461) × (sound (tablesOf (now words)) ≡ true) ⌝ }
+    requires { ⌜ (length (now words) ≡ 1605) × (sound (tablesOf (now words)) ≡ true) ⌝ }
     ensures { λ r. ⌜ Left (addOpen (tablesOf (now (words .entry))) uid tid process file access) (now (words .entry)) (now (words .exit)) r ⌝ }
 {
     if 15 < file {
@@ -59,7 +59,7 @@ fn add_sound(words: &mut [u64], uid: u16, tid: u16, process: u32, file: u8, acce
             id: 0,
         };
     }
-    let fid = free_fid(&words[130..579]);
+    let fid = free_fid(&words[130..707]);
     let o = Open {
         fid,
         uid,
@@ -68,6 +68,8 @@ fn add_sound(words: &mut [u64], uid: u16, tid: u16, process: u32, file: u8, acce
         file,
         access,
         sharing: DENY_NONE,
+        read: false,
+        seen: 0,
     };
     if !some_tree_holds(&words[33..130], o) {
         return Row {
@@ -81,7 +83,7 @@ fn add_sound(words: &mut [u64], uid: u16, tid: u16, process: u32, file: u8, acce
             id: 0,
         };
     }
-    append_open(&mut words[130..579], o);
+    append_open(&mut words[130..707], o);
     Row {
         number: DONE,
         id: fid,
@@ -90,7 +92,7 @@ fn add_sound(words: &mut [u64], uid: u16, tid: u16, process: u32, file: u8, acce
 
 // An open of a file through a tree of a session; the number given out is its FID.
 pub fn add_open(
-    words: &mut [u64; 1461],
+    words: &mut [u64; 1605],
     uid: u16,
     tid: u16,
     process: u32,

@@ -30,7 +30,7 @@ fn append_session(words: &mut [u64], s: Session)
 
 // A session in sound tables.
 fn add_sound(words: &mut [u64], connection: u32) -> Row
-    requires { ⌜ (length (now words) ≡ 1461) × (sound (tablesOf (now words)) ≡ true) ⌝ }
+    requires { ⌜ (length (now words) ≡ 1605) × (sound (tablesOf (now words)) ≡ true) ⌝ }
     ensures { λ r. ⌜ Left (addSession (tablesOf (now (words .entry))) connection) (now (words .entry)) (now (words .exit)) r ⌝ }
 {
     if 16 <= words[0] {
@@ -48,7 +48,7 @@ fn add_sound(words: &mut [u64], connection: u32) -> Row
 }
 
 // A session on a connection; the number given out is its UID.
-pub fn add_session(words: &mut [u64; 1461], connection: u32) -> Row
+pub fn add_session(words: &mut [u64; 1605], connection: u32) -> Row
     ensures { λ r. ⌜ Left (onWords (now (words .entry)) (addSession (tablesOf (now (words .entry))) connection)) (now (words .entry)) (now (words .exit)) r ⌝ }
 {
     if !is_sound(words) {

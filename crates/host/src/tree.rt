@@ -33,7 +33,7 @@ fn append_tree(words: &mut [u64], t: Tree)
 
 // A tree in sound tables.
 fn add_sound(words: &mut [u64], uid: u16, right: u8) -> Row
-    requires { ⌜ (length (now words) ≡ 1461) × (sound (tablesOf (now words)) ≡ true) ⌝ }
+    requires { ⌜ (length (now words) ≡ 1605) × (sound (tablesOf (now words)) ≡ true) ⌝ }
     ensures { λ r. ⌜ Left (addTree (tablesOf (now (words .entry))) uid right) (now (words .entry)) (now (words .exit)) r ⌝ }
 {
     if 1 < right {
@@ -63,7 +63,7 @@ fn add_sound(words: &mut [u64], uid: u16, right: u8) -> Row
 }
 
 // A tree of a session; the number given out is its TID.
-pub fn add_tree(words: &mut [u64; 1461], uid: u16, right: u8) -> Row
+pub fn add_tree(words: &mut [u64; 1605], uid: u16, right: u8) -> Row
     ensures { λ r. ⌜ Left (onWords (now (words .entry)) (addTree (tablesOf (now (words .entry))) uid right)) (now (words .entry)) (now (words .exit)) r ⌝ }
 {
     if !is_sound(words) {

@@ -36,8 +36,8 @@ unfolding tablesOf
 some-open-of-requires c κs =
     let pre = c .before .before .before .before .pre in
     let w = c .before .before .before .before .args .words .now in
-    let full : length w ≡ 1461 = pre .0 in
-    (length-part w 130 449 (omega arith), sound-room (tablesOf w) (pre .1) .opens-fit)
+    let full : length w ≡ 1605 = pre .0 in
+    (length-part w 130 577 (omega arith), sound-room (tablesOf w) (pre .1) .opens-fit)
 
 returns-3 : tie.Need-returns-3
 unfolding loadNumber

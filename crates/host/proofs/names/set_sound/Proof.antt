@@ -51,10 +51,10 @@ returns-2 c =
     let same = c .before .before .copy-words .ensures in
     let right = sym (c .before .before .before .before .before .catalogue-ok .ensures) ∙ not-false (c .before .before .before .before .before .catalogue-ok .result) (c .before .before .before .before .if1 .left) in
     let fits = both-hold (tableFits nameLimits 16 given) (catalogueOk (nameArray given) (word given 0)) right .0 in (
-      left-done w (lent w 1236 225 (c .before .before .copy-words .last .0)) 0 (setOnSound w given) (withCatalogue (tablesOf w) (nameArray given) (word given 0)) (catalogue-set w given (c .before .before .before .before .before .before .before .before .pre .1 .0) right)
-          (ap (λ (l : List ℕ). tablesOf (lent w 1236 225 l)) same ∙ tables-names w given full long)
-          (λ f. ap (λ (l : List ℕ). inUseFit (lent w 1236 225 l)) same ∙ fit-names w given full long f fits),
-      λ _. ap (lent w 1236 225) same,
+      left-done w (lent w 1380 225 (c .before .before .copy-words .last .0)) 0 (setOnSound w given) (withCatalogue (tablesOf w) (nameArray given) (word given 0)) (catalogue-set w given (c .before .before .before .before .before .before .before .before .pre .1 .0) right)
+          (ap (λ (l : List ℕ). tablesOf (lent w 1380 225 l)) same ∙ tables-names w given full long)
+          (λ f. ap (λ (l : List ℕ). inUseFit (lent w 1380 225 l)) same ∙ fit-names w given full long f fits),
+      λ _. ap (lent w 1380 225) same,
     )
 
 pub set-sound-spec : {M : Type 1} → statement M

@@ -131,9 +131,9 @@ part-append-open-end c = search needs
 append-open-requires : tie.Need-append-open-requires
 append-open-requires c κs =
     let w = c .before .before .before .before .before .before .before .before .before .before .before .before .before .before .before .before .before .args .words .now in
-    let full : length w ≡ 1461 = c .before .before .before .before .before .before .before .before .before .before .before .before .before .before .before .before .before .pre .0 in
-    let room : word (part w 130 449) 0 < 64 = rw (first-word w 130 449 (omega arith)) (c .before .if5 .left) in
-    (length-part w 130 449 (omega arith), room)
+    let full : length w ≡ 1605 = c .before .before .before .before .before .before .before .before .before .before .before .before .before .before .before .before .before .pre .0 in
+    let room : word (part w 130 577) 0 < 64 = rw (first-word w 130 577 (omega arith)) (c .before .if5 .left) in
+    (length-part w 130 577 (omega arith), room)
 
 same-length-4 : tie.Need-same-length-4
 same-length-4 c = search needs
@@ -147,16 +147,16 @@ returns-6 c =
     let free-fid = c .before .before .before .before .before .before .before .before .before .before .free-fid in
     let some-tree-holds = c .before .before .before .before .before .before .before .some-tree-holds in
     let w = args .words .now in
-    let full : length w ≡ 1461 = pre .0 in
+    let full : length w ≡ 1605 = pre .0 in
     let e = append-open .last .0 in
-    let long : length e ≡ 449 = append-open .kept .0 ∙ length-part w 130 449 (omega arith) in
+    let long : length e ≡ 577 = append-open .kept .0 ∙ length-part w 130 577 (omega arith) in
     let known : any (isTree (args .tid) (args .uid)) (treesOf (tablesOf w)) ≡ true = ap (any (isTree (args .tid) (args .uid))) (trees-in w) ∙ sym (some-tree-is .ensures) ∙ not-false (some-tree-is .result) (c .before .before .before .before .before .before .before .before .before .before .before .before .before .if3 .left) in
     let free : free-fid .result ≡ smallestFree (map fidOf (opensOf (tablesOf w))) = free-fid .ensures ∙ ap (λ (l : List Open). smallestFree (map fidOf l)) (sym (opens-in w)) in
     let x = openBy (tablesOf w) (args .uid) (args .tid) (args .process) (args .file) (args .access) (free-fid .result) in
     let held : any (holdsOpen x) (treesOf (tablesOf w)) ≡ true = ap (any (holdsOpen x)) (trees-in w) ∙ sym (some-tree-holds .ensures) ∙ not-false (some-tree-holds .result) (c .before .before .before .before .before .before .if4 .left) in
     let room : tablesOf w .nopens < 64 = rw (opens-count w) (c .before .before .before .before .if5 .left) in
     let a = opens-appended w e full x long (append-open .ensures) in
-    left-done w (lent w 130 449 e) (free-fid .result) (addOpen (tablesOf w) (args .uid) (args .tid) (args .process) (args .file) (args .access)) (withOpens (tablesOf w) (opensOf (tablesOf w) ++ (x ∷ []))) (open-added (tablesOf w) (args .uid) (args .tid) (args .process) (args .file) (args .access) (pre .1) (c .before .before .before .before .before .before .before .before .before .before .before .before .before .before .before .before .before .before .if1 .left) (c .before .before .before .before .before .before .before .before .before .before .before .before .before .before .before .before .before .if2 .left) known (free-fid .result) free held room) (a .0) (a .1)
+    left-done w (lent w 130 577 e) (free-fid .result) (addOpen (tablesOf w) (args .uid) (args .tid) (args .process) (args .file) (args .access)) (withOpens (tablesOf w) (opensOf (tablesOf w) ++ (x ∷ []))) (open-added (tablesOf w) (args .uid) (args .tid) (args .process) (args .file) (args .access) (pre .1) (c .before .before .before .before .before .before .before .before .before .before .before .before .before .before .before .before .before .before .if1 .left) (c .before .before .before .before .before .before .before .before .before .before .before .before .before .before .before .before .before .if2 .left) known (free-fid .result) free held room) (a .0) (a .1)
 
 pub add-sound-spec : {M : Type 1} → statement M
 add-sound-spec =

@@ -53,7 +53,7 @@ part-append-session-end c = search needs
 append-session-requires : tie.Need-append-session-requires
 append-session-requires c κs =
     let w = c .before .before .before .before .before .before .before .args .words .now in
-    let full : length w ≡ 1461 = c .before .before .before .before .before .before .before .pre .0 in
+    let full : length w ≡ 1605 = c .before .before .before .before .before .before .before .pre .0 in
     let room : word (part w 0 33) 0 < 16 = rw (first-word w 0 33 (omega arith)) (c .before .before .before .before .if1 .left) in
     (length-part w 0 33 (omega arith), room)
 
@@ -67,7 +67,7 @@ returns-2 c =
     let append-session = c .before .before .append-session in
     let free-uid = c .before .before .before .before .free-uid in
     let w = args .words .now in
-    let full : length w ≡ 1461 = pre .0 in
+    let full : length w ≡ 1605 = pre .0 in
     let e = append-session .last .0 in
     let long : length e ≡ 33 = append-session .kept .0 ∙ length-part w 0 33 (omega arith) in
     let room : tablesOf w .nsessions < 16 = rw (sessions-count w) (c .before .before .before .before .before .before .before .if1 .left) in

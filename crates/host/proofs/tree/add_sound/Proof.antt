@@ -90,7 +90,7 @@ part-append-tree-end c = search needs
 append-tree-requires : tie.Need-append-tree-requires
 append-tree-requires c κs =
     let w = c .before .before .before .before .before .before .before .before .before .before .before .before .args .words .now in
-    let full : length w ≡ 1461 = c .before .before .before .before .before .before .before .before .before .before .before .before .pre .0 in
+    let full : length w ≡ 1605 = c .before .before .before .before .before .before .before .before .before .before .before .before .pre .0 in
     let room : word (part w 33 97) 0 < 32 = rw (first-word w 33 97 (omega arith)) (c .before .before .before .before .if3 .left) in
     (length-part w 33 97 (omega arith), room)
 
@@ -105,7 +105,7 @@ returns-4 c =
     let has-session = c .before .before .before .before .before .before .before .before .before .before .has-session in
     let free-tid = c .before .before .before .before .free-tid in
     let w = args .words .now in
-    let full : length w ≡ 1461 = pre .0 in
+    let full : length w ≡ 1605 = pre .0 in
     let e = append-tree .last .0 in
     let long : length e ≡ 97 = append-tree .kept .0 ∙ length-part w 33 97 (omega arith) in
     let known : contains (args .uid) (map uidOf (sessionsOf (tablesOf w))) ≡ true = ap (λ (l : List Session). contains (args .uid) (map uidOf l)) (sessions-in w) ∙ sym (has-session .ensures) ∙ not-false (has-session .result) (c .before .before .before .before .before .before .before .before .before .if2 .left) in
