@@ -1,4 +1,4 @@
--- What one command does (document 01, "Refusals on the wire" for the order, "Locks, reads and writes" for the rest; document 02, CR 3 and CR 6). It takes
+-- What one command does (document 01, "Refusals on the wire" for the order, "Locks, reads and writes" for the rest; document 02, CR 3, CR 6 and CR 8). It takes
 -- the caller's numbers, the command's fields and its bytes, never its place, and gives a refusal or the new state with what
 -- its reply block says. Assumes nothing.
 use Prim.Native.Nat.{ℕ, min, max, _+_, _-_, _/_, _%_}
@@ -13,6 +13,7 @@ use Rattle.records.specs.declared.Session.{Session}
 use Rattle.records.specs.declared.Open.{Open}
 use Rattle.records.specs.declared.Lock.{Lock}
 use Rattle.records.specs.declared.Tables.{Tables}
+use Rattle.records.specs.Change.{changesOf, withRead}
 use Rattle.records.specs.Empty.{noOpen, noName}
 use Rattle.records.specs.Held.{sessionsOf, treesOf, opensOf, locksOf, namesOf, withOpens}
 use Rattle.locks.specs.Answer.{answers}
@@ -42,7 +43,7 @@ use Rattle.chain.specs.declared.block.Body.{Body}
 use Rattle.chain.specs.declared.block.Body.the-variants.{Locking as LockingBody, Read as ReadBody, Write as WriteBody, Close, Logoff, TreeDisconnect, ProcessExit, CoreRead as CoreReadBody, CoreWrite as CoreWriteBody, LockByteRange, UnlockByteRange, Open as OpenBody}
 use Rattle.message.specs.declared.caller.Caller.{Caller}
 use Rattle.message.specs.Sharing.{keptOut}
-use Rattle.message.specs.Contents.{sizeOf, readBytes, grown, written, withSize, resized}
+use Rattle.message.specs.Contents.{sizeOf, readBytes, grown, written, resized, sizedTo}
 use Rattle.message.specs.declared.refusal.Refusal.{Refusal}
 use Rattle.message.specs.declared.refusal.Refusal.the-variants.{NotSentence, NoSession, NoTree, NoOpen, NoAccess, LockType, NoSuchLock, PassesEnd, LockNotGranted, FileLockConflict, NoRecord, NoSpace, OpenMode, BadAccess, NoSuchFile, BadShare, NoFids}
 
@@ -154,14 +155,14 @@ unlessBarred t Nothing next = next
 unfoldable pub barring : Tables → Ask → Found
 barring t q = found (answers (fileOf (opensOf t)) q) (locksOf t)
 
--- "1/5 is a read on access 1"
+-- "1/5 is a read on access 1". "Each open remembers the number at its last granted read" (document 02, CR 8)
 unfoldable pub doRead : Caller → Tables → List ℕ → ReadFields → Given
 doRead c t memory f =
     withOpen c t (f .fid)
     (λ o.
     cond (eqb (o .access) 1) (refused NoAccess)
     (unlessBarred t (barring t (askBy c (f .fid) (f .offset) (f .max) Reading))
-    (done t memory (read (readBytes t memory (o .file) (f .offset) (f .max))))))
+    (done (withRead t (f .fid) (changesOf t (o .file))) memory (read (readBytes t memory (o .file) (f .offset) (f .max))))))
 
 -- what every write is refused for, and what it gives otherwise: through an open (2/91, 2/5, 1/6), "1/5 is .. a write on access 0", 1/33 for what it asks of the locks, 3/39 where
 -- it is past the file's room
@@ -216,7 +217,7 @@ betweenSizes c fid old new = askBy c fid (min old new) (max old new - min old ne
 unfoldable pub doSetSize : Caller → Tables → List ℕ → WriteFields → Given
 doSetSize c t memory f =
     writing c t (f .fid) (λ o. betweenSizes c (f .fid) (sizeOf t (o .file)) (f .offset)) (ltb 4096 (f .offset))
-    (λ o. done (withSize t (o .file) (f .offset)) (grown t memory (o .file) (f .offset)) (coreWrote 0))
+    (λ o. done (sizedTo t (o .file) (f .offset)) (grown t memory (o .file) (f .offset)) (coreWrote 0))
 
 unfoldable pub doCoreWrite : Caller → Tables → List ℕ → WriteFields → List ℕ → Given
 doCoreWrite c t memory f bytes = cond (eqb (f .count) 0) (doSetSize c t memory f) (asCore (doWrite c t memory f bytes))

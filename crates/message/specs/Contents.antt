@@ -1,14 +1,14 @@
 -- The bytes of a file: "Files: 16, numbered from 0, 4,096 bytes each, in file memory of 65,536 bytes; each has a size"
--- (document 01, "Tables and room"), what a read yields and what a write leaves ("Locks, reads and writes"; document 02, CR 3). Assumes nothing.
+-- (document 01, "Tables and room"), what a read yields and what a write leaves ("Locks, reads and writes"; document 02, CR 3 and CR 8). Assumes nothing.
 use Prim.Native.Nat.{ℕ, max, _+_, _-_, _*_}
 use mathlib.Core.Bool.{cond}
 use mathlib.Core.List.{List}
-use lib.ListN.{length, take, drop, getD, set, replicate}
+use lib.ListN.{length, take, drop, getD, replicate}
 use lib.Dec.{eqb}
 use Rattle.lists.specs.Put.{put}
 use Rattle.records.specs.declared.Tables.{Tables}
 use Rattle.records.specs.Empty.{noFile}
-use Rattle.records.specs.Held.{withFiles}
+use Rattle.records.specs.Change.{withChange}
 
 unfoldable pub sizeOf : Tables → ℕ → ℕ
 sizeOf t file = getD (t .files) file noFile .size
@@ -32,10 +32,11 @@ written t memory file offset bytes =
     cond (eqb (length bytes) 0) memory
     (put (grown t memory file offset) (file * 4096 + offset) bytes)
 
-abbrev pub withSize : Tables → ℕ → ℕ → Tables
-withSize t file size = withFiles t (set (t .files) file (record { size = size }))
-
--- "and a size below the write's end becomes that end"
+-- "and a size below the write's end becomes that end"; the change number is raised "at each granted write of at least one byte" (document 02, CR 8)
 unfoldable pub resized : Tables → ℕ → ℕ → ℕ → Tables
 resized t file offset count =
-    cond (eqb count 0) t (withSize t file (max (sizeOf t file) (offset + count)))
+    cond (eqb count 0) t (withChange t file (max (sizeOf t file) (offset + count)))
+
+-- a size set, and the change number raised where that "alters the size" (document 02, CR 3 and CR 8)
+unfoldable pub sizedTo : Tables → ℕ → ℕ → Tables
+sizedTo t file size = cond (eqb (sizeOf t file) size) t (withChange t file size)
