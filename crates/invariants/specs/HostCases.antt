@@ -11,13 +11,14 @@ use native.Mathlib.Omega.{arith}
 use Rattle.lists.specs.Walk.{any}
 use Rattle.records.specs.declared.Name.{Name}
 use Rattle.records.specs.declared.Tables.{Tables}
+use Rattle.records.specs.Change.{withChange}
 use Rattle.records.specs.Held.{sessionsOf, treesOf, opensOf, withSessions, withTrees, withOpens, withCatalogue}
 use Rattle.numbers.specs.Number.{contains}
 use Rattle.numbers.specs.Column.{uidOf}
 use Rattle.catalogue.specs.Name.{catalogueOk}
 use Rattle.soundness.specs.Sound.{sound, holdsOpen}
 use Rattle.removal.specs.Removal.{remove}
-use Rattle.host.specs.HostCall.{refused, done, newSession, addSession, newTree, addTree, newOpen, addOpen, isOf, loadNumber, withSize, loadFile, dropConnection, setCatalogue}
+use Rattle.host.specs.HostCall.{refused, done, newSession, addSession, newTree, addTree, newOpen, addOpen, isOf, loadNumber, loadFile, dropConnection, setCatalogue}
 use Rattle.soundness.specs.Lookup.{isTree}
 use Rattle.host.specs.declared.answer.Returned.{Returned}
 use Rattle.removal.specs.declared.Gone.the-variants.{Connection}
@@ -111,11 +112,11 @@ module _ (t : Tables) (P : Returned → Type 0) (no : (n : ℕ) → 1 ≤ n → 
 
   -- "2 file memory not 65,536", "4", "7 load over 4,096 bytes", "9 load of a file that has an open"; else done
   pub loadFile-either : (file : ℕ) (bytes memory : List ℕ)
-      → (LoadPassed t file (length bytes) (length memory) → P (done 0 (withSize t file (length bytes))))
+      → (LoadPassed t file (length bytes) (length memory) → P (done 0 (withChange t file (length bytes))))
       → P (loadFile t file bytes memory)
   unfolding loadFile
   loadFile-either file bytes memory did =
-      by-test P (eqb (loadNumber t file (length bytes) (length memory)) 0) (done 0 (withSize t file (length bytes))) _
+      by-test P (eqb (loadNumber t file (length bytes) (length memory)) 0) (done 0 (withChange t file (length bytes))) _
       (λ a. did (load-passed t file (length bytes) (length memory) (eqb-true (loadNumber t file (length bytes) (length memory)) 0 a)))
       λ a.
       let other : loadNumber t file (length bytes) (length memory) ≡ 0 → ⊥ = eqb-false (loadNumber t file (length bytes) (length memory)) 0 a in

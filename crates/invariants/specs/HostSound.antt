@@ -1,29 +1,33 @@
 -- Host calls leave sound tables, whatever they are given (document 01, "Tables and room": "Every call on sound tables
 -- leaves sound tables"), and arrays of the same room. Assumes nothing.
-use mathlib.Core.Path.{_≡_, refl, _∙_}
+use mathlib.Core.Path.{_≡_, refl}
 use mathlib.Core.Bool.{true}
 use mathlib.Core.List.{List, [], _∷_, _++_, map}
 use Prim.Native.Nat.{ℕ, _≤_, _<_}
-use lib.ListN.{length, set, length-set}
+use native.Mathlib.Omega.{arith}
+use lib.ListN.{length, getD}
 use borrow.Author.Tests.{le-leb}
 use Rattle.records.specs.declared.Open.{Open}
 use Rattle.records.specs.declared.Name.{Name}
 use Rattle.records.specs.declared.Tables.{Tables}
 use Rattle.records.specs.Held.{sessionsOf, treesOf, opensOf, locksOf, withSessions, withTrees, withOpens, withFiles, withCatalogue}
+use Rattle.records.specs.Change.{withChange}
+use Rattle.records.specs.Empty.{noFile}
 use Rattle.numbers.specs.Column.{uidOf}
 use Rattle.lists.specs.Walk.{all, allTails}
 use Rattle.numbers.specs.Number.{contains, numbered}
 use Rattle.numbers.specs.NewOpen.{openWith}
 use Rattle.catalogue.specs.Name.{catalogueOk, noneDoubled}
-use Rattle.soundness.specs.Sound.{sound, sharingOk, withinRoom, fileOk, soundRecords, soundLocks, agreeAll}
-use Rattle.host.specs.HostCall.{noTables, refused, done, newSession, addSession, newTree, addTree, newOpen, addOpen, withSize, loadFile, dropConnection, setCatalogue}
+use Rattle.soundness.specs.Sound.{sound, sharingOk, withinRoom, fileOk, soundRecords, soundLocks, agreeAll, seenOk}
+use Rattle.host.specs.HostCall.{noTables, refused, done, newSession, addSession, newTree, addTree, newOpen, addOpen, loadFile, dropConnection, setCatalogue}
 use Rattle.host.specs.declared.answer.Returned.{Returned}
 use Rattle.removal.specs.declared.Gone.the-variants.{Connection}
-use Rattle.lists.specs.Members.{all-set}
+use Rattle.lists.specs.Members.{all-snoc}
 use Rattle.lists.specs.RoomLaws.{held-fewer, held-more}
 use Rattle.invariants.specs.SoundParts.{Sound, sound-says, sound-lists}
+use Rattle.invariants.specs.ChangeLaws.{after-ok, after-seen}
 use Rattle.invariants.specs.RuleLaws.{tree-ok, OpenOk, open-ok}
-use Rattle.invariants.specs.Shaped.{Shaped, sessions-with, trees-with, opens-with, shaped-sessions, shaped-trees, shaped-opens, shaped-files, shaped-names}
+use Rattle.invariants.specs.Shaped.{Shaped, sessions-with, trees-with, opens-with, shaped-sessions, shaped-trees, shaped-opens, shaped-change, shaped-names}
 use Rattle.invariants.specs.AddedRecords.{records-session, records-tree, records-open, locks-open}
 use Rattle.invariants.specs.RemovalSound.{remove-sound, remove-shaped}
 use Rattle.invariants.specs.HostCases.{OpenPassed, addSession-either, addTree-either, addOpen-either, loadFile-either, dropConnection-either, setCatalogue-either}
@@ -45,7 +49,7 @@ module _ (t : Tables) (s : Sound t) where
       })
       (s .sizes)
       (records-session (sessionsOf t) (treesOf t) (opensOf t) (s .records) (newSession t c) refl (held-fewer (t .nsessions) (t .sessions) 16 h))
-      (s .locks) (s .catalogue)
+      (s .locks) (s .catalogue) (s .seen)
 
   tree-sound : (uid right : ℕ) → right ≤ 1 → contains uid (map uidOf (sessionsOf t)) ≡ true → t .ntrees < 32
       → sound (withTrees t (treesOf t ++ (newTree t uid right ∷ []))) ≡ true
@@ -64,7 +68,7 @@ module _ (t : Tables) (s : Sound t) where
       (records-tree (sessionsOf t) (treesOf t) (opensOf t) (s .records) (newTree t uid right) refl
       (tree-ok (map uidOf (sessionsOf t)) (newTree t uid right) (record { right = le-leb right 1 low; session = named }))
       (held-fewer (t .ntrees) (t .trees) 32 h))
-      (s .locks) (s .catalogue)
+      (s .locks) (s .catalogue) (s .seen)
 
   -- an open more, the host's or a request's, that obeys the rules for opens
   module _ (uid tid process file access sharing : ℕ) where
@@ -72,7 +76,7 @@ module _ (t : Tables) (s : Sound t) where
     added = openWith t uid tid process file access sharing
 
     pub added-sound : OpenOk (treesOf t) added → t .nopens < 64 → sound (withOpens t (opensOf t ++ (added ∷ []))) ≡ true
-    unfolding withOpens
+    unfolding withOpens seenOk
     added-sound ok h =
         let r = s .room in
         sound-lists (withOpens t (opensOf t ++ (added ∷ []))) (sessionsOf t) (treesOf t) (opensOf t ++ (added ∷ [])) (locksOf t)
@@ -86,6 +90,7 @@ module _ (t : Tables) (s : Sound t) where
         (s .sizes)
         (records-open (sessionsOf t) (treesOf t) (opensOf t) (s .records) added refl (open-ok (treesOf t) added ok) (held-fewer (t .nopens) (t .opens) 64 h))
         (locks-open (opensOf t) added (locksOf t) (s .locks)) (s .catalogue)
+        (all-snoc (seenOk (t .files)) (opensOf t) added (s .seen) (le-leb 0 (getD (t .files) file noFile .changes) (omega arith)))
 
   open-sound : (uid tid process file access : ℕ) → OpenPassed t uid tid process file access
       → sound (withOpens t (opensOf t ++ (newOpen t uid tid process file access ∷ []))) ≡ true
@@ -98,14 +103,14 @@ module _ (t : Tables) (s : Sound t) where
   names-sound : (names : List Name) (count : ℕ) → catalogueOk names count ≡ true → sound (withCatalogue t names count) ≡ true
   unfolding withCatalogue
   names-sound names count h =
-      sound-lists (withCatalogue t names count) (sessionsOf t) (treesOf t) (opensOf t) (locksOf t) refl refl refl refl (s .room) (s .sizes) (s .records) (s .locks) h
+      sound-lists (withCatalogue t names count) (sessionsOf t) (treesOf t) (opensOf t) (locksOf t) refl refl refl refl (s .room) (s .sizes) (s .records) (s .locks) h (s .seen)
 
-  load-sound : (file size : ℕ) → size ≤ 4096 → sound (withSize t file size) ≡ true
-  unfolding withSize withFiles fileOk
-  load-sound file size h =
-      sound-lists (withSize t file size) (sessionsOf t) (treesOf t) (opensOf t) (locksOf t) refl refl refl refl (s .room)
-      (all-set fileOk (t .files) file (record { size = size }) (s .sizes) (le-leb size 4096 h))
-      (s .records) (s .locks) (s .catalogue)
+  -- a file changed, by a load or a request
+  pub changed-sound : (file size : ℕ) → size ≤ 4096 → sound (withChange t file size) ≡ true
+  unfolding withFiles
+  changed-sound file size h =
+      sound-lists (withChange t file size) (sessionsOf t) (treesOf t) (opensOf t) (locksOf t) refl refl refl refl (s .room)
+      (after-ok size (t .files) file h (s .sizes)) (s .records) (s .locks) (s .catalogue) (after-seen size (t .files) file (opensOf t) (s .sizes) (s .seen))
 
 -- ---- "Every call on sound tables leaves sound tables"
 
@@ -137,7 +142,7 @@ module _ (t : Tables) (e : sound t ≡ true) where
   pub loadFile-sound : (file : ℕ) (bytes memory : List ℕ) → sound (loadFile t file bytes memory .tables) ≡ true
   unfolding SoundAfter done
   loadFile-sound file bytes memory =
-      loadFile-either t SoundAfter refused-sound file bytes memory (λ p. load-sound t (sound-says t e) file (length bytes) (p .size4096))
+      loadFile-either t SoundAfter refused-sound file bytes memory (λ p. changed-sound t (sound-says t e) file (length bytes) (p .size4096))
 
   -- "Every call on sound tables leaves sound tables": dropping a connection
   pub dropConnection-sound : (connection : ℕ) → sound (dropConnection t connection .tables) ≡ true
@@ -183,11 +188,10 @@ module _ (t : Tables) (s : Shaped t) where
 
   -- the same after loading a file
   pub loadFile-shaped : (file : ℕ) (bytes memory : List ℕ) → Shaped (loadFile t file bytes memory .tables)
-  unfolding ShapedAfter done withSize
+  unfolding ShapedAfter done
   loadFile-shaped file bytes memory =
       loadFile-either t ShapedAfter refused-shaped file bytes memory
-      (λ p. shaped-files t s (set (t .files) file (record { size = length bytes }))
-      (length-set (t .files) file (record { size = length bytes }) ∙ s .files16))
+      (λ p. shaped-change t s file (length bytes))
 
   -- the same after dropping a connection
   pub dropConnection-shaped : (connection : ℕ) → Shaped (dropConnection t connection .tables)
@@ -201,5 +205,5 @@ module _ (t : Tables) (s : Shaped t) where
 
 -- the tables to start from are sound
 pub start-sound : sound noTables ≡ true
-unfolding noTables sound withinRoom all fileOk soundRecords numbered soundLocks agreeAll allTails catalogueOk noneDoubled
+unfolding noTables sound withinRoom all fileOk soundRecords numbered soundLocks agreeAll allTails catalogueOk noneDoubled seenOk
 start-sound = refl

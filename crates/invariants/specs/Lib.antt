@@ -1,6 +1,7 @@
 pub mod Numbered
 pub mod Number
 pub mod SoundParts
+pub mod ChangeLaws
 pub mod RuleLaws
 pub mod Shaped
 pub mod KeptRecords

@@ -5,6 +5,7 @@ use mathlib.Core.Bool.{true, not}
 use mathlib.Core.List.{List, map}
 use lib.ListN.{length}
 use Rattle.lists.specs.Walk.{keep}
+use Rattle.lists.specs.Members.{all-keep}
 use Rattle.lists.specs.RoomLaws.{keep-fewer}
 use Rattle.records.specs.declared.Session.{Session}
 use Rattle.records.specs.declared.Tree.{Tree}
@@ -14,7 +15,7 @@ use Rattle.records.specs.declared.Tables.{Tables}
 use Rattle.records.specs.Held.{sessionsOf, treesOf, opensOf, locksOf, withSessions, withTrees, withOpens, withLocks}
 use Rattle.numbers.specs.Number.{contains}
 use Rattle.numbers.specs.Column.{uidOf, tidOf, fidOf}
-use Rattle.soundness.specs.Sound.{sound}
+use Rattle.soundness.specs.Sound.{sound, seenOk}
 use Rattle.removal.specs.Removal.{sessionStays, treeStays, treeNamed, openStays, openNamed, lockStays, sweepSessions, sweepTrees, sweepOpens, sweepLocks, remove}
 use Rattle.removal.specs.declared.Gone.{Gone}
 use Rattle.lists.specs.Truth.{both-hold}
@@ -112,7 +113,7 @@ module _ (gone : Gone) (t : Tables) where
   left-sound s =
       sound-lists left sessionsLeft treesLeft opensLeft locksLeft left-sessions left-trees left-opens left-locks (left-room (s .room)) (s .sizes)
       (records-keep stay-filters (s .records))
-      (locks-keep stay-filters (s .records) (locksOf t) (s .locks)) (s .catalogue)
+      (locks-keep stay-filters (s .records) (locksOf t) (s .locks)) (s .catalogue) (all-keep (openStays gone (map tidOf treesLeft)) (seenOk (t .files)) (opensOf t) (s .seen))
 
   left-shaped : Shaped t → Room (t .nsessions) (t .ntrees) (t .nopens) (t .nlocks) → Shaped left
   unfolding left

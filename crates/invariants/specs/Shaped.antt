@@ -3,11 +3,12 @@
 use mathlib.Core.Path.{_≡_, _∙_}
 use Prim.Native.Nat.{ℕ, _≤_}
 use mathlib.Core.List.{List}
-use lib.ListN.{length}
+use lib.ListN.{length, getD, set, length-set}
 use native.Mathlib.Omega.{arith}
 use Rattle.lists.specs.RoomLaws.{length-stored}
 use Rattle.lists.specs.StoredLaws.{take-stored}
-use Rattle.records.specs.Empty.{noSession, noTree, noOpen, noLock}
+use Rattle.records.specs.Change.{fileAfter, withChange}
+use Rattle.records.specs.Empty.{noSession, noTree, noOpen, noLock, noFile}
 use Rattle.records.specs.declared.Session.{Session}
 use Rattle.records.specs.declared.Tree.{Tree}
 use Rattle.records.specs.declared.Open.{Open}
@@ -92,6 +93,11 @@ module _ (t : Tables) (s : Shaped t) where
   unfolding withFiles
   shaped-files l h =
       record { sessions16 = s .sessions16; trees32 = s .trees32; opens64 = s .opens64; locks128 = s .locks128; files16 = h; names16 = s .names16 }
+
+  -- a file changed
+  pub shaped-change : (file size : ℕ) → Shaped (withChange t file size)
+  shaped-change file size =
+      let after = fileAfter (getD (t .files) file noFile) size in shaped-files (set (t .files) file after) (length-set (t .files) file after ∙ s .files16)
 
   -- another catalogue of 16 records
   pub shaped-names : (l : List Name) (count : ℕ) → length l ≡ 16 → Shaped (withCatalogue t l count)

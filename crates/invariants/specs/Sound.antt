@@ -1,23 +1,25 @@
 -- Demand 1 for messages: "Every call on sound tables leaves sound tables" (document 01, "Tables and room"). Assumes nothing.
-use mathlib.Core.Path.{_≡_, refl, _∙_}
+use mathlib.Core.Path.{_≡_, refl, sym, ap, _∙_}
 use Prim.Native.Nat.{ℕ, max, _+_, _*_, _≤_, _<_}
 use native.Mathlib.Omega.{arith}
 use mathlib.Core.Bool.{true, false, _&&_}
 use mathlib.Core.List.{List, [], _∷_, _++_, map}
 use mathlib.Core.Option.{Option, none, some}
-use lib.ListN.{length, getD, set, length-set}
+use lib.ListN.{length, getD, length-take}
 use lib.Dec.{leb, ltb, eqb}
-use borrow.Author.Tests.{leb-true, leb-false, le-leb, ltb-false, eqb-true, eq-eqb}
+use borrow.Author.Tests.{leb-true, leb-false, ltb-false, eqb-true, eq-eqb}
 use Rattle.lists.specs.Walk.{all, found}
 use Rattle.lists.specs.RoomLaws.{held-more}
-use Rattle.lists.specs.Members.{all-each, one-any, all-set, in-map}
+use Rattle.lists.specs.Members.{all-each, one-any, in-map}
 use Rattle.lists.specs.Truth.{both-hold}
 use Rattle.lists.specs.declared.Found.the-variants.{At}
+use Rattle.records.specs.declared.Open.{Open}
 use Rattle.records.specs.declared.Lock.{Lock}
 use Rattle.records.specs.declared.Name.{Name}
 use Rattle.records.specs.declared.Tables.{Tables}
 use Rattle.records.specs.Empty.{noOpen, noFile, noName}
-use Rattle.records.specs.Held.{sessionsOf, treesOf, opensOf, locksOf, namesOf, withOpens, withLocks, withFiles}
+use Rattle.records.specs.Held.{sessionsOf, treesOf, opensOf, locksOf, namesOf, withOpens, withLocks}
+use Rattle.records.specs.Change.{LARGEST, changesOf, withChange, noting, withRead}
 use Rattle.numbers.specs.Number.{contains}
 use Rattle.numbers.specs.Column.{fidOf}
 use Rattle.locks.specs.Wire.{rangeSize}
@@ -31,9 +33,11 @@ use Rattle.removal.specs.Removal.{remove}
 use Rattle.removal.specs.declared.Gone.{Gone}
 use Rattle.removal.specs.declared.Gone.the-variants.{Session as UserGone, Tree as TreeGone, Open as OpenGone, Process as ProcessGone}
 use Rattle.invariants.specs.SoundParts.{Sound, LocksOk, sound-says, sound-lists}
+use Rattle.invariants.specs.Numbered.{numbered-same}
+use Rattle.invariants.specs.ChangeLaws.{noted-length, noted-records, noted-locks, noted-seen}
 use Rattle.invariants.specs.RuleLaws.{open-says}
-use Rattle.invariants.specs.Shaped.{Shaped, shaped-opens, shaped-locks, shaped-files, locks-with}
-use Rattle.invariants.specs.HostSound.{added-sound}
+use Rattle.invariants.specs.Shaped.{Shaped, opens-with, shaped-opens, shaped-locks, shaped-change, locks-with}
+use Rattle.invariants.specs.HostSound.{added-sound, changed-sound}
 use Rattle.invariants.specs.RemovalSound.{remove-sound, remove-shaped}
 use Rattle.chain.specs.Layout.{headerCommand, FIRST}
 use Rattle.chain.specs.Chain.{blocks}
@@ -47,7 +51,7 @@ use Rattle.chain.specs.declared.block.Body.the-variants.{Locking as LockingBody
 use Rattle.chain.specs.declared.block.Block.{Block}
 use Rattle.message.specs.Caller.{callerOf}
 use Rattle.message.specs.declared.caller.Caller.{Caller}
-use Rattle.message.specs.Contents.{sizeOf, withSize, resized}
+use Rattle.message.specs.Contents.{sizeOf, resized, sizedTo}
 use Rattle.message.specs.Command.{Given, Said, refused, done, isOpen, servedType, requestOf, withLockList, lockingEnd, lockingAfter, doLocking, doRead, endsPast, doWrite, asCore, oneRange, doRange, doSetSize, doCoreWrite, codesServed, openBy, doOpen, perform}
 use Rattle.message.specs.JustOpened.{NOBODY, bodyMeant}
 use Rattle.message.specs.Message.{areaOf, dataOf, Ran, after, afterGiven, run, served, onlyStatus, runChain, answered}
@@ -100,7 +104,14 @@ module _ (c : Caller) (t : Tables) (fid k : ℕ) (e : found (isOpen c fid) (open
 -- a file's size
 pub size-most : (t : Tables) (file : ℕ) → Sound t → sizeOf t file ≤ 4096
 unfolding sizeOf fileOk
-size-most t file s = leb-true (getD (t .files) file noFile .size) 4096 (all-getD fileOk (t .files) file noFile refl (s .sizes))
+size-most t file s =
+    leb-true (getD (t .files) file noFile .size) 4096 (both-hold (leb (getD (t .files) file noFile .size) 4096) _ (all-getD fileOk (t .files) file noFile refl (s .sizes)) .0)
+
+-- a file's change number
+pub changes-most : (t : Tables) (file : ℕ) → Sound t → changesOf t file ≤ LARGEST
+unfolding changesOf fileOk
+changes-most t file s =
+    leb-true (getD (t .files) file noFile .changes) LARGEST (both-hold (leb (getD (t .files) file noFile .size) 4096) _ (all-getD fileOk (t .files) file noFile refl (s .sizes)) .1)
 
 -- ---- LOCKING
 
@@ -122,7 +133,7 @@ module _ (t : Tables) (g : Good t) where
       record {
         sound = sound-lists (withLocks t list) (sessionsOf t) (treesOf t) (opensOf t) list refl refl refl (locks-with t list)
             (record { sessions-fit = r .sessions-fit; trees-fit = r .trees-fit; opens-fit = r .opens-fit; locks-fit = h })
-            (listed .sizes) (listed .records) ok (listed .catalogue);
+            (listed .sizes) (listed .records) ok (listed .catalogue) (listed .seen);
         shaped = shaped-locks t (g .shaped) list h;
       }
 
@@ -144,25 +155,47 @@ module _ (t : Tables) (g : Good t) where
 
   -- ---- a write
 
-  -- a file's new size
-  sized-good : (file size : ℕ) → size ≤ 4096 → Good (withSize t file size)
-  unfolding withFiles fileOk
-  sized-good file size h =
-      record {
-        sound = sound-lists (withSize t file size) (sessionsOf t) (treesOf t) (opensOf t) (locksOf t) refl refl refl refl
-            (listed .room) (all-set fileOk (t .files) file (record { size = size }) (listed .sizes) (le-leb size 4096 h)) (listed .records) (listed .locks) (listed .catalogue);
-        shaped = shaped-files t (g .shaped) (set (t .files) file (record { size = size })) (length-set (t .files) file (record { size = size }) ∙ g .shaped .files16);
-      }
+  -- a file changed, and of another size
+  changed-good : (file size : ℕ) → size ≤ 4096 → Good (withChange t file size)
+  changed-good file size h = record { sound = changed-sound t listed file size h; shaped = shaped-change t (g .shaped) file size }
 
   -- "and a size below the write's end becomes that end": at most 4,096
   resized-good : (file offset count : ℕ) → endsPast offset count ≡ false → Good (resized t file offset count)
   unfolding resized endsPast
   resized-good file offset count e =
-      cond-case Good (eqb count 0) t (withSize t file (max (sizeOf t file) (offset + count))) (λ _. g)
+      cond-case Good (eqb count 0) t (withChange t file (max (sizeOf t file) (offset + count))) (λ _. g)
       (λ f. let past : ltb 4096 (offset + count) ≡ false = rw f at e in
       let low : offset + count ≤ 4096 = ltb-false 4096 (offset + count) past in
       let most : sizeOf t file ≤ 4096 = size-most t file listed in
-      sized-good file (max (sizeOf t file) (offset + count)) (omega arith))
+      changed-good file (max (sizeOf t file) (offset + count)) (omega arith))
+
+  -- a size set
+  sized-good : (file size : ℕ) → size ≤ 4096 → Good (sizedTo t file size)
+  unfolding sizedTo
+  sized-good file size h = cond-case Good (eqb (sizeOf t file) size) t (withChange t file size) (λ _. g) (λ _. changed-good file size h)
+
+  -- ---- a read
+
+  -- the open that has read remembers its file's number: no other has its FID
+  read-good : (c : Caller) (fid k : ℕ) → found (isOpen c fid) (opensOf t) ≡ At k → Good (withRead t fid (changesOf t (getD (opensOf t) k noOpen .file)))
+  unfolding withOpens changesOf
+  read-good c fid k e =
+      let number = getD (t .files) (getD (opensOf t) k noOpen .file) noFile .changes in
+      let noted = map (noting fid number) (opensOf t) in
+      let fit = listed .room .opens-fit in
+      let few : length (opensOf t) ≤ 64 = rw (length-take (t .nopens) (t .opens)) (omega arith) in
+      let few′ : length (map (noting fid number) (opensOf t)) ≤ 64 = rw (noted-length fid number (opensOf t)) few in
+      record {
+        sound = sound-lists (withOpens t noted) (sessionsOf t) (treesOf t) noted (locksOf t) refl refl (opens-with t noted) refl
+            (record { sessions-fit = listed .room .sessions-fit; trees-fit = listed .room .trees-fit; opens-fit = few′; locks-fit = listed .room .locks-fit })
+            (listed .sizes) (noted-records fid number (sessionsOf t) (treesOf t) (opensOf t) (listed .records))
+            (noted-locks fid number (opensOf t) (locksOf t) (listed .locks)) (listed .catalogue)
+            (noted-seen fid number (t .files) (opensOf t)
+            (λ x m q. let same = numbered-same fidOf 64 (opensOf t) (listed .records .fids) m (open-hit c t fid k e .listed) (q ∙ sym (open-fid c t fid k e)) in
+            let f = ap (λ (y : Open). getD (t .files) (y .file) noFile .changes) same in omega arith)
+            (listed .seen));
+        shaped = shaped-opens t (g .shaped) noted few′;
+      }
 
   -- ---- an open by name
 
@@ -203,8 +236,8 @@ module _ (t : Tables) (g : Good t) where
     unfolding doRead
     read-keeps f =
         open-case Keeps c t (f .fid) _ keeps-refused keeps-refused keeps-refused
-        (λ k _. cond-case Keeps (eqb (getD (opensOf t) k noOpen .access) 1) (refused NoAccess) _ (λ _. keeps-refused)
-        (λ _. barred-case Keeps t _ _ (λ j. keeps-refused) (λ _. keeps-done g)))
+        (λ k e. cond-case Keeps (eqb (getD (opensOf t) k noOpen .access) 1) (refused NoAccess) _ (λ _. keeps-refused)
+        (λ _. barred-case Keeps t _ _ (λ j. keeps-refused) (λ _. keeps-done (read-good c (f .fid) k e))))
 
     write-keeps : (f : WriteFields) (bytes : List ℕ) → Keeps (doWrite c t memory f bytes)
     unfolding doWrite

@@ -18,7 +18,7 @@ use Rattle.numbers.specs.Column.{uidOf, tidOf, fidOf}
 use Rattle.catalogue.specs.Name.{catalogueOk}
 use Rattle.soundness.specs.File.{fileOf}
 use Rattle.soundness.specs.SoundLaws.{Room, room}
-use Rattle.soundness.specs.Sound.{sound, soundRecords, soundLocks, withinRoom, fileOk, treeOk, openOk, lockOk, agreeAll}
+use Rattle.soundness.specs.Sound.{sound, soundRecords, soundLocks, withinRoom, fileOk, treeOk, openOk, lockOk, agreeAll, seenOk}
 use Rattle.lists.specs.Truth.{both-hold, hold-both}
 
 -- the rules for sessions, trees and opens
@@ -41,6 +41,7 @@ pub record Sound (t : Tables) : Type 0 where
   pub records : RecordsOk (sessionsOf t) (treesOf t) (opensOf t)
   pub locks : LocksOk (opensOf t) (locksOf t)
   pub catalogue : catalogueOk (t .names) (t .nnames) ≡ true
+  pub seen : all (seenOk (t .files)) (opensOf t) ≡ true
 
 module _ (a b c d : ℕ) where
   room-ok : Room a b c d → withinRoom a b c d ≡ true
@@ -105,36 +106,41 @@ module _ (t : Tables) where
   abbrev catalogueTest : Bool
   catalogueTest = catalogueOk (t .names) (t .nnames)
 
+  abbrev seenTest : Bool
+  seenTest = all (seenOk (t .files)) (opensOf t)
+
   -- sound tables obey each rule
   pub sound-says : sound t ≡ true → Sound t
   unfolding sound
   sound-says e =
-      let f = both-hold roomTest (all fileOk (t .files) && (recordsTest && (locksTest && catalogueTest))) e in
-      let g = both-hold (all fileOk (t .files)) (recordsTest && (locksTest && catalogueTest)) (f .1) in
-      let h = both-hold recordsTest (locksTest && catalogueTest) (g .1) in
-      let i = both-hold locksTest catalogueTest (h .1) in
+      let f = both-hold roomTest (all fileOk (t .files) && (recordsTest && (locksTest && (catalogueTest && seenTest)))) e in
+      let g = both-hold (all fileOk (t .files)) (recordsTest && (locksTest && (catalogueTest && seenTest))) (f .1) in
+      let h = both-hold recordsTest (locksTest && (catalogueTest && seenTest)) (g .1) in
+      let i = both-hold locksTest (catalogueTest && seenTest) (h .1) in
+      let j = both-hold catalogueTest seenTest (i .1) in
       record {
         room = room (t .nsessions) (t .ntrees) (t .nopens) (t .nlocks) (f .0);
         sizes = g .0;
         records = records-says (sessionsOf t) (treesOf t) (opensOf t) (h .0);
         locks = locks-says (opensOf t) (locksOf t) (i .0);
-        catalogue = i .1;
+        catalogue = j .0;
+        seen = j .1;
       }
 
   -- tables that obey each rule are sound
   pub sound-ok : Sound t → sound t ≡ true
   unfolding sound
   sound-ok s =
-      hold-both roomTest (all fileOk (t .files) && (recordsTest && (locksTest && catalogueTest)))
+      hold-both roomTest (all fileOk (t .files) && (recordsTest && (locksTest && (catalogueTest && seenTest))))
       (room-ok (t .nsessions) (t .ntrees) (t .nopens) (t .nlocks) (s .room))
-      (hold-both (all fileOk (t .files)) (recordsTest && (locksTest && catalogueTest)) (s .sizes)
-      (hold-both recordsTest (locksTest && catalogueTest) (records-ok (sessionsOf t) (treesOf t) (opensOf t) (s .records))
-      (hold-both locksTest catalogueTest (locks-ok (opensOf t) (locksOf t) (s .locks)) (s .catalogue))))
+      (hold-both (all fileOk (t .files)) (recordsTest && (locksTest && (catalogueTest && seenTest))) (s .sizes)
+      (hold-both recordsTest (locksTest && (catalogueTest && seenTest)) (records-ok (sessionsOf t) (treesOf t) (opensOf t) (s .records))
+      (hold-both locksTest (catalogueTest && seenTest) (locks-ok (opensOf t) (locksOf t) (s .locks)) (hold-both catalogueTest seenTest (s .catalogue) (s .seen)))))
 
   -- the same, of lists that are known to be what the tables hold
   pub sound-lists : (ss : List Session) (ts : List Tree) (os : List Open) (ls : List Lock)
       → sessionsOf t ≡ ss → treesOf t ≡ ts → opensOf t ≡ os → locksOf t ≡ ls
       → Room (t .nsessions) (t .ntrees) (t .nopens) (t .nlocks) → all fileOk (t .files) ≡ true → RecordsOk ss ts os → LocksOk os ls
-      → catalogueOk (t .names) (t .nnames) ≡ true → sound t ≡ true
-  sound-lists ss ts os ls a b c d room sizes records locks catalogue =
-      sound-ok (record { room = room; sizes = sizes; records = rw (a, b, c) records; locks = rw (c, d) locks; catalogue = catalogue })
+      → catalogueOk (t .names) (t .nnames) ≡ true → all (seenOk (t .files)) os ≡ true → sound t ≡ true
+  sound-lists ss ts os ls a b c d room sizes records locks catalogue seen =
+      sound-ok (record { room = room; sizes = sizes; records = rw (a, b, c) records; locks = rw (c, d) locks; catalogue = catalogue; seen = rw c seen })
