@@ -10,7 +10,7 @@ use lib.Dec.{eqb, ltb}
 use Rattle.records.specs.declared.Tables.{Tables}
 use Rattle.soundness.specs.Sound.{sound}
 use Rattle.host.specs.declared.answer.Returned.{Returned}
-use Rattle.host.specs.HostCall.{addSession, addTree, addOpen, loadFile, loadMemory, dropConnection}
+use Rattle.host.specs.HostCall.{addSession, addTree, addOpen, loadFile, loadMemory, dropConnection, askUnchanged}
 use Rattle.host.specs.OnWords.{setOnSound}
 use Rattle.message.specs.Message.{Taken, notTaken, take-message}
 use Rattle.message.specs.declared.refusal.HeldBy.{HeldBy}
@@ -72,6 +72,10 @@ memoryAfter w file contents memory =
 -- catalogue's rules have it, 7 behind 4
 unfoldable pub catalogueSet : List ℕ → List ℕ → Returned
 catalogueSet w given = setOnSound w given
+
+-- whether an open has read and its file was not changed since, as far as the change numbers tell (document 02, CR 8)
+unfoldable pub unchangedAsked : List ℕ → ℕ → Returned
+unchangedAsked w fid = askUnchanged (tablesOf w) fid
 
 -- ---- a message
 

@@ -2,7 +2,7 @@
 -- Assumes nothing.
 use mathlib.Core.Path.{_≡_, refl, sym, ap, _∙_}
 use mathlib.Core.Logic.{⊎-elim}
-use Prim.Native.Nat.{ℕ, _≤_}
+use Prim.Native.Nat.{ℕ, _+_, _*_, _≤_}
 use mathlib.Core.Bool.{Bool, true, false, not, _&&_, false≢true}
 use native.Mathlib.Omega.{arith}
 use mathlib.Core.List.{List}
@@ -33,10 +33,10 @@ words-shaped w =
     record {
       sessions16 = length-array sessionOf 2 16 (part w 0 33);
       trees32 = length-array treeOf 3 32 (part w 33 97);
-      opens64 = length-array openOf 7 64 (part w 130 449);
-      locks128 = length-array lockOf 5 128 (part w 579 641);
-      files16 = length-upTo (λ i. fileOf (word (part w 1220 16) i)) 16;
-      names16 = length-array nameOf 14 16 (part w 1236 225);
+      opens64 = length-array openOf 9 64 (part w 130 577);
+      locks128 = length-array lockOf 5 128 (part w 707 641);
+      files16 = length-upTo (λ i. fileOf (word (part w 1348 32) (2 * i)) (word (part w 1348 32) (2 * i + 1))) 16;
+      names16 = length-array nameOf 14 16 (part w 1380 225);
     }
 
 pub words-good : (w : List ℕ) → sound (tablesOf w) ≡ true → Good (tablesOf w)
@@ -209,10 +209,10 @@ module _ (w given : List ℕ) where
 -- ---- tables to start from
 
 -- every word is 0
-pub empty-tables : tablesOf (replicate 1461 0) ≡ noTables
+pub empty-tables : tablesOf (replicate 1605 0) ≡ noTables
 unfolding tablesOf sessionArray treeArray openArray lockArray fileArray nameArray arrayOf upTo sessionOf treeOf openOf lockOf nameOf noTables
 empty-tables = refl
 
-pub empty-ready : ready (replicate 1461 0) ≡ true
+pub empty-ready : ready (replicate 1605 0) ≡ true
 unfolding inUseFit recordsFit all upTo
-empty-ready = ready-of (replicate 1461 0) noTables refl empty-tables start-sound
+empty-ready = ready-of (replicate 1605 0) noTables refl empty-tables start-sound
