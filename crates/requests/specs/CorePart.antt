@@ -94,7 +94,7 @@ gives-formed false g = g
 -- a core command on an open
 core-reached : (y : NamedOpen) (next : Open → Given) → asCore (onReached y next) ≡ onReached y (λ o. asCore (next o))
 unfolding asCore onReached
-core-reached (Named o) next = refl
+core-reached (Named o k) next = refl
 core-reached (NotNamed why) next = refl
 
 pub core-open : (c : Caller) (t : Tables) (fid : ℕ) (next : Open → Given) → asCore (withOpen c t fid next) ≡ withOpen c t fid (λ o. asCore (next o))

@@ -11,3 +11,4 @@ pub mod OpenPart
 pub mod BlockPart
 pub mod WorkPart
 pub mod Numbers
+pub mod Noted

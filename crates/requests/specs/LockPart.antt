@@ -32,16 +32,16 @@ lockAnswer NoRoom = Refused NoRecord
 lent-same : (w : List ℕ) (from n : ℕ) → lent w from n (part w from n) ≡ w
 lent-same w from n = ap (λ (l : List ℕ). take from w ++ l) (take-append-drop n (drop from w)) ∙ take-append-drop from w
 
-module _ (w e m : List ℕ) (l : Locking) (full : length w ≡ 1461) (long : length e ≡ 641) where
+module _ (w e m : List ℕ) (l : Locking) (full : length w ≡ 1605) (long : length e ≡ 641) where
   -- a request refused changes no word
-  none-left : {why : Outcome} (reason : Refusal) → Settles (part w 579 641) e why l → isDone why ≡ false → lockingAfter (tablesOf w) m l ≡ refused reason
-      → Gives (lockingAfter (tablesOf w) m l) (tablesOf w) m (performed (Refused reason) (tablesOf (lent w 579 641 e))) m
+  none-left : {why : Outcome} (reason : Refusal) → Settles (part w 707 641) e why l → isDone why ≡ false → lockingAfter (tablesOf w) m l ≡ refused reason
+      → Gives (lockingAfter (tablesOf w) m l) (tablesOf w) m (performed (Refused reason) (tablesOf (lent w 707 641 e))) m
   none-left reason s q g =
-      let same : lent w 579 641 e ≡ w = ap (lent w 579 641) (s .stands q) ∙ lent-same w 579 641 in
+      let same : lent w 707 641 e ≡ w = ap (lent w 707 641) (s .stands q) ∙ lent-same w 707 641 in
       gives-refused reason g (rw same)
 
-  pub settles-gives : (why : Outcome) → Settles (part w 579 641) e why l
-      → Gives (lockingAfter (tablesOf w) m l) (tablesOf w) m (performed (lockAnswer why) (tablesOf (lent w 579 641 e))) m
+  pub settles-gives : (why : Outcome) → Settles (part w 707 641) e why l
+      → Gives (lockingAfter (tablesOf w) m l) (tablesOf w) m (performed (lockAnswer why) (tablesOf (lent w 707 641 e))) m
   unfolding lockAnswer lockingAfter lockingEnd givenOf inside withLockArray withLockList
   settles-gives Done s =
       gives-done Locked _ locked (ap (λ (o : Outcome). lockingEnd o (tablesOf w) m l) (sym (s .outcome)))

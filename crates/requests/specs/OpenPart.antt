@@ -4,7 +4,7 @@ use Prim.Native.Nat.{ℕ, _+_, _≤_, _<_, min}
 use native.Mathlib.Omega.{arith}
 use mathlib.Core.Bool.{Bool, true, false, cond}
 use mathlib.Core.List.{List, [], _∷_, _++_}
-use lib.ListN.{length, take, drop, getD, length-take}
+use lib.ListN.{length, drop, getD, length-take}
 use lib.Seq.{getD-take, getD-drop}
 use lib.Dec.{leb}
 use borrow.Author.Tests.{leb-true}
@@ -73,39 +73,39 @@ openAdded t memory f o =
 -- the count of the opens, as code reads it
 pub opens-count : (w : List ℕ) → tablesOf w .nopens ≡ word w 130
 unfolding tablesOf
-opens-count w = first-word w 130 449 (omega arith)
+opens-count w = first-word w 130 577 (omega arith)
 
 -- one open more in the part that was lent: the tables with it, and words in use that fit where they did
-pub opens-more : (w e : List ℕ) → length w ≡ 1461 → (o : Open) → length e ≡ 449 → Appended openArray openLimits 64 noOpen (part w 130 449) e o
-    → (tablesOf (lent w 130 449 e) ≡ withOpens (tablesOf w) (opensOf (tablesOf w) ++ (o ∷ []))) × (inUseFit w ≡ true → inUseFit (lent w 130 449 e) ≡ true)
+pub opens-more : (w e : List ℕ) → length w ≡ 1605 → (o : Open) → length e ≡ 577 → Appended openArray openLimits 64 noOpen (part w 130 577) e o
+    → (tablesOf (lent w 130 577 e) ≡ withOpens (tablesOf w) (opensOf (tablesOf w) ++ (o ∷ []))) × (inUseFit w ≡ true → inUseFit (lent w 130 577 e) ≡ true)
 unfolding tablesOf
 opens-more w e full o long a = (
-  with-opens w e full (opensIn (part w 130 449) ++ (o ∷ [])) long (a .holds),
+  with-opens w e full (opensIn (part w 130 577) ++ (o ∷ [])) long (a .holds),
   λ f. fit-opens w e full long f (a .fit (told-fit w f .opens-fit)),
 )
 
 -- ---- the file of a name
 
-module _ (w name : List ℕ) (k : ℕ) (e : found (isNamed name) (namesIn (part w 1236 225)) ≡ At k) where
-  listed : k < length (namesIn (part w 1236 225))
-  listed = found-below (isNamed name) (namesIn (part w 1236 225)) k e
+module _ (w name : List ℕ) (k : ℕ) (e : found (isNamed name) (namesIn (part w 1380 225)) ≡ At k) where
+  listed : k < length (namesIn (part w 1380 225))
+  listed = found-below (isNamed name) (namesIn (part w 1380 225)) k e
 
   pub name-place : k < 16
   unfolding nameArray
   name-place =
-      let long : length (nameArray (part w 1236 225)) ≡ 16 = length-array nameOf 14 16 (part w 1236 225) in
-      let few : length (namesIn (part w 1236 225)) ≡ min (word (part w 1236 225) 0) (length (nameArray (part w 1236 225))) = length-take (word (part w 1236 225) 0) (nameArray (part w 1236 225)) in
+      let long : length (nameArray (part w 1380 225)) ≡ 16 = length-array nameOf 14 16 (part w 1380 225) in
+      let few : length (namesIn (part w 1380 225)) ≡ min (word (part w 1380 225) 0) (length (nameArray (part w 1380 225))) = length-take (word (part w 1380 225) 0) (nameArray (part w 1380 225)) in
       let here = listed in
       omega arith
 
   -- the name at that place in the room is the one found among those in use
-  pub name-same : getD (nameArray (part w 1236 225)) k noName ≡ getD (namesOf (tablesOf w)) k noName
+  pub name-same : getD (nameArray (part w 1380 225)) k noName ≡ getD (namesOf (tablesOf w)) k noName
   unfolding tablesOf
   name-same =
-      let few : length (namesIn (part w 1236 225)) ≡ min (word (part w 1236 225) 0) (length (nameArray (part w 1236 225))) = length-take (word (part w 1236 225) 0) (nameArray (part w 1236 225)) in
+      let few : length (namesIn (part w 1380 225)) ≡ min (word (part w 1380 225) 0) (length (nameArray (part w 1380 225))) = length-take (word (part w 1380 225) 0) (nameArray (part w 1380 225)) in
       let here = listed in
-      let used : k < word (part w 1236 225) 0 = omega arith in
-      sym (getD-take (word (part w 1236 225) 0) (nameArray (part w 1236 225)) k noName used)
+      let used : k < word (part w 1380 225) 0 = omega arith in
+      sym (getD-take (word (part w 1380 225) 0) (nameArray (part w 1380 225)) k noName used)
 
-  pub name-listed : Good (tablesOf w) → getD (nameArray (part w 1236 225)) k noName .file ≤ 15
+  pub name-listed : Good (tablesOf w) → getD (nameArray (part w 1380 225)) k noName .file ≤ 15
   name-listed g = rw name-same (leb-true (getD (namesOf (tablesOf w)) k noName .file) 15 (named-file (tablesOf w) g k name (ap (found (isNamed name)) (names-in w) ∙ e)))

@@ -40,15 +40,15 @@ take-min a b l =
           rw e (take-all a (take b l) short)
     ]
 
--- the bytes there are those that the read yields
-part-reads : (b : Bool) (t : Tables) (m : List ℕ) (file offset most : ℕ) → leb (sizeOf t file) offset ≡ b
-    → givenOf (cond b (Read 0 0) (Read (file * 4096 + offset) (min most (sizeOf t file - offset)))) t m ≡ done t m (read (readBytes t m file offset most))
+-- the bytes there are those that the read yields, whatever tables it leaves
+part-reads : (b : Bool) (t u : Tables) (m : List ℕ) (file offset most : ℕ) → leb (sizeOf t file) offset ≡ b
+    → givenOf (cond b (Read 0 0) (Read (file * 4096 + offset) (min most (sizeOf t file - offset)))) u m ≡ done u m (read (readBytes t m file offset most))
 unfolding givenOf readBytes contents
-part-reads true t m file offset most e =
+part-reads true t u m file offset most e =
     let past : sizeOf t file ≤ offset = leb-true (sizeOf t file) offset e in
     let short : length (take (sizeOf t file) (drop (file * 4096) m)) ≤ offset = rw length-take (omega arith) in
     rw (drop-of-length-le (take (sizeOf t file) (drop (file * 4096) m)) short, take-nil most)
-part-reads false t m file offset most e =
+part-reads false t u m file offset most e =
     rw (drop-take offset (sizeOf t file) (drop (file * 4096) m), drop-drop offset (file * 4096) m, take-min most (sizeOf t file - offset) (drop (file * 4096 + offset) m))
 
 part-inside : (b : Bool) (t : Tables) (file offset most : ℕ) → Good t → file ≤ 15 → leb (sizeOf t file) offset ≡ b
@@ -61,9 +61,9 @@ part-inside false t file offset most g h e =
     le-leb (file * 4096 + offset + min most (sizeOf t file - offset)) 65536 (omega arith)
 
 module _ (t : Tables) (file offset most : ℕ) where
-  pub part-given : (m : List ℕ) → givenOf (readPart t file offset most) t m ≡ done t m (read (readBytes t m file offset most))
+  pub part-given : (u : Tables) (m : List ℕ) → givenOf (readPart t file offset most) u m ≡ done u m (read (readBytes t m file offset most))
   unfolding readPart
-  part-given m = part-reads (leb (sizeOf t file) offset) t m file offset most refl
+  part-given u m = part-reads (leb (sizeOf t file) offset) t u m file offset most refl
 
   pub part-within : Good t → file ≤ 15 → inside (readPart t file offset most) ≡ true
   unfolding readPart

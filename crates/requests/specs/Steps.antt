@@ -7,6 +7,7 @@ use mathlib.Core.List.{List}
 use lib.Dec.{ltb, eqb}
 use Rattle.records.specs.declared.Open.{Open}
 use Rattle.records.specs.declared.Tables.{Tables}
+use Rattle.records.specs.Change.{changesOf, withRead}
 use Rattle.records.specs.Held.{opensOf}
 use Rattle.locks.specs.Request.{locking}
 use Rattle.locks.specs.Wire.{smallForm}
@@ -17,7 +18,7 @@ use Rattle.chain.specs.declared.block.ReadFields.{ReadFields}
 use Rattle.chain.specs.declared.block.WriteFields.{WriteFields}
 use Rattle.chain.specs.declared.block.RangeFields.{RangeFields}
 use Rattle.message.specs.declared.caller.Caller.{Caller}
-use Rattle.message.specs.Contents.{sizeOf, readBytes, grown, written, withSize, resized}
+use Rattle.message.specs.Contents.{sizeOf, readBytes, grown, written, resized, sizedTo}
 use Rattle.message.specs.declared.refusal.Refusal.the-variants.{NoAccess, LockType, NoSpace}
 use Rattle.message.specs.Command.{Given, refused, done, read, wrote, coreWrote, withOpen, servedType, requestOf, lockingAfter, doLocking, askBy, unlessBarred, barring, doRead, endsPast, doWrite, asCore, rangeBy, oneRange, doRange, betweenSizes, doSetSize}
 use Rattle.requests.specs.CorePart.{core-open}
@@ -48,7 +49,7 @@ unfoldable pub readOpen : Caller → Tables → List ℕ → ReadFields → Open
 readOpen c t memory f o =
     cond (eqb (o .access) 1) (refused NoAccess)
     (unlessBarred t (barring t (askBy c (f .fid) (f .offset) (f .max) Reading))
-    (done t memory (read (readBytes t memory (o .file) (f .offset) (f .max)))))
+    (done (withRead t (f .fid) (changesOf t (o .file))) memory (read (readBytes t memory (o .file) (f .offset) (f .max)))))
 
 pub read-steps : (c : Caller) (t : Tables) (memory : List ℕ) (f : ReadFields) → doRead c t memory f ≡ withOpen c t (f .fid) (readOpen c t memory f)
 unfolding doRead readOpen
@@ -75,7 +76,7 @@ write-steps c t memory f bytes = refl
 
 unfoldable pub sizeFree : Tables → List ℕ → WriteFields → ℕ → Given
 sizeFree t memory f file =
-    cond (ltb 4096 (f .offset)) (refused NoSpace) (done (withSize t file (f .offset)) (grown t memory file (f .offset)) (coreWrote 0))
+    cond (ltb 4096 (f .offset)) (refused NoSpace) (done (sizedTo t file (f .offset)) (grown t memory file (f .offset)) (coreWrote 0))
 
 unfoldable pub sizeOpen : Caller → Tables → List ℕ → WriteFields → Open → Given
 sizeOpen c t memory f o =

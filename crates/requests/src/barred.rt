@@ -38,32 +38,32 @@ pub(crate) fn ask_of(c: Caller, fid: u16, offset: u64, length: u64, purpose: Pur
 
 // The first listed lock in the way: 1/33. Where no lock is held no table of files is made.
 pub(crate) fn first_bar(words: &[u64], q: Ask) -> Found
-    requires { ⌜ length (now words) ≡ 1461 ⌝ }
+    requires { ⌜ length (now words) ≡ 1605 ⌝ }
     requires { ⌜ Good (tablesOf (now words)) ⌝ }
     ensures { λ r. ⌜ r ≡ barring (tablesOf (now (words .entry))) q ⌝ }
 {
-    if words[579] == 0 {
+    if words[707] == 0 {
         return Found::Nothing;
     }
-    let files = file_table(&words[130..579]);
-    first_answer(&files, &words[579..1220], q)
+    let files = file_table(&words[130..707]);
+    first_answer(&files, &words[707..1348], q)
 }
 
 // 1/33, the listed lock at that place being the holder: "C0000054 for a read or write refused" (document 02, CR 7).
 pub(crate) fn refuse_for(words: &[u64], place: usize) -> Answer
-    requires { ⌜ length (now words) ≡ 1461 ⌝ }
+    requires { ⌜ length (now words) ≡ 1605 ⌝ }
     requires { ⌜ place < length (locksOf (tablesOf (now words))) ⌝ }
     ensures { λ r. ⌜ r ≡ Refused (FileLockConflict (holderAt (locksOf (tablesOf (now (words .entry)))) place)) ⌝ }
 {
-    let lock = lock_at(&words[579..1220], place);
+    let lock = lock_at(&words[707..1348], place);
     Answer::Refused(Refusal::FileLockConflict(Holder { lock, place }))
 }
 
 // A file's size.
 pub(crate) fn file_size(words: &[u64], file: u8) -> usize
-    requires { ⌜ length (now words) ≡ 1461 ⌝ }
+    requires { ⌜ length (now words) ≡ 1605 ⌝ }
     requires { ⌜ file ≤ 15 ⌝ }
     ensures { λ r. ⌜ r ≡ sizeOf (tablesOf (now (words .entry))) file ⌝ }
 {
-    size_at(&words[1220..1236], file as usize)
+    size_at(&words[1348..1380], file as usize)
 }

@@ -56,7 +56,7 @@ fn range_by(c: Caller, f: RangeFields) -> LockRange
 
 // The one range, through an open that the caller may use: its area is its 10-byte form. "the lock is exclusive": lock type 0.
 fn range_open(c: Caller, words: &mut [u64], f: RangeFields, unlocks: u16, locks: u16) -> Answer
-    requires { ⌜ length (now words) ≡ 1461 ⌝ }
+    requires { ⌜ length (now words) ≡ 1605 ⌝ }
     requires { ⌜ Good (tablesOf (now words)) ⌝ }
     ensures { λ r. ⌜ Leaves (λ m. asCore (lockOpen c (tablesOf (now (words .entry))) m (oneRange f unlocks locks) (smallForm (rangeBy c f)))) (tablesOf (now (words .entry))) (performed r (tablesOf (now (words .exit)))) ⌝ }
     ensures { λ _. ⌜ (inUseFit (now (words .entry)) ≡ true → inUseFit (now (words .exit)) ≡ true) ⌝ }
@@ -80,14 +80,14 @@ pub(crate) fn do_range(
     unlocks: u16,
     locks: u16,
 ) -> Answer
-    requires { ⌜ length (now words) ≡ 1461 ⌝ }
+    requires { ⌜ length (now words) ≡ 1605 ⌝ }
     requires { ⌜ Good (tablesOf (now words)) ⌝ }
     ensures { λ r. ⌜ Leaves (λ m. doRange c (tablesOf (now (words .entry))) m f unlocks locks) (tablesOf (now (words .entry))) (performed r (tablesOf (now (words .exit)))) ⌝ }
     ensures { λ _. ⌜ (inUseFit (now (words .entry)) ≡ true → inUseFit (now (words .exit)) ≡ true) ⌝ }
 {
     let at = reach_open(c, words, f.fid);
     match at {
-        NamedOpen::Open(_) => range_open(c, words, f, unlocks, locks),
+        NamedOpen::Open(_, _) => range_open(c, words, f, unlocks, locks),
         NamedOpen::Refused(why) => Answer::Refused(why),
     }
 }

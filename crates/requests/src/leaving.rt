@@ -22,14 +22,14 @@ ghost use Rattle.requests.specs.Leaves.{Leaves, performed};
 
 // "CLOSE removes the open and its locks."
 pub(crate) fn do_close(c: Caller, words: &mut [u64], fid: u16) -> Answer
-    requires { ⌜ length (now words) ≡ 1461 ⌝ }
+    requires { ⌜ length (now words) ≡ 1605 ⌝ }
     requires { ⌜ Good (tablesOf (now words)) ⌝ }
     ensures { λ r. ⌜ Leaves (λ m. perform c (tablesOf (now (words .entry))) m (Close fid) [] []) (tablesOf (now (words .entry))) (performed r (tablesOf (now (words .exit)))) ⌝ }
     ensures { λ _. ⌜ (inUseFit (now (words .entry)) ≡ true → inUseFit (now (words .exit)) ≡ true) ⌝ }
 {
     let at = reach_open(c, words, fid);
     match at {
-        NamedOpen::Open(_) => {
+        NamedOpen::Open(_, _) => {
             remove_named(words, Gone::Open(fid));
             Answer::Plain
         }
@@ -39,7 +39,7 @@ pub(crate) fn do_close(c: Caller, words: &mut [u64], fid: u16) -> Answer
 
 // "LOGOFF the session and its trees".
 pub(crate) fn do_logoff(c: Caller, words: &mut [u64]) -> Answer
-    requires { ⌜ length (now words) ≡ 1461 ⌝ }
+    requires { ⌜ length (now words) ≡ 1605 ⌝ }
     requires { ⌜ Good (tablesOf (now words)) ⌝ }
     ensures { λ r. ⌜ Leaves (λ m. perform c (tablesOf (now (words .entry))) m Logoff [] []) (tablesOf (now (words .entry))) (performed r (tablesOf (now (words .exit)))) ⌝ }
     ensures { λ _. ⌜ (inUseFit (now (words .entry)) ≡ true → inUseFit (now (words .exit)) ≡ true) ⌝ }
@@ -53,7 +53,7 @@ pub(crate) fn do_logoff(c: Caller, words: &mut [u64]) -> Answer
 
 // "TREE_DISCONNECT removes the tree and its opens".
 pub(crate) fn do_disconnect(c: Caller, words: &mut [u64]) -> Answer
-    requires { ⌜ length (now words) ≡ 1461 ⌝ }
+    requires { ⌜ length (now words) ≡ 1605 ⌝ }
     requires { ⌜ Good (tablesOf (now words)) ⌝ }
     ensures { λ r. ⌜ Leaves (λ m. perform c (tablesOf (now (words .entry))) m TreeDisconnect [] []) (tablesOf (now (words .entry))) (performed r (tablesOf (now (words .exit)))) ⌝ }
     ensures { λ _. ⌜ (inUseFit (now (words .entry)) ≡ true → inUseFit (now (words .exit)) ≡ true) ⌝ }
@@ -70,7 +70,7 @@ pub(crate) fn do_disconnect(c: Caller, words: &mut [u64]) -> Answer
 
 // "PROCESS_EXIT the opens of that UID and process".
 pub(crate) fn do_exit(c: Caller, words: &mut [u64]) -> Answer
-    requires { ⌜ length (now words) ≡ 1461 ⌝ }
+    requires { ⌜ length (now words) ≡ 1605 ⌝ }
     requires { ⌜ Good (tablesOf (now words)) ⌝ }
     ensures { λ r. ⌜ Leaves (λ m. perform c (tablesOf (now (words .entry))) m ProcessExit [] []) (tablesOf (now (words .entry))) (performed r (tablesOf (now (words .exit)))) ⌝ }
     ensures { λ _. ⌜ (inUseFit (now (words .entry)) ≡ true → inUseFit (now (words .exit)) ≡ true) ⌝ }

@@ -69,19 +69,19 @@ pub(crate) fn lock_answer(outcome: Outcome) -> Answer
 
 // The request, over the files of the FIDs: all of it granted, or nothing changed.
 pub(crate) fn settle(c: Caller, words: &mut [u64], f: LockingFields, area: &[u8]) -> Outcome
-    requires { ⌜ length (now words) ≡ 1461 ⌝ }
+    requires { ⌜ length (now words) ≡ 1605 ⌝ }
     requires { ⌜ Good (tablesOf (now words)) ⌝ }
     ensures { λ r. ⌜ Leaves (λ m. lockSettled c (tablesOf (now (words .entry))) m f (now (area .entry))) (tablesOf (now (words .entry))) (performed (lockAnswer r) (tablesOf (now (words .exit)))) ⌝ }
     ensures { λ _. ⌜ (inUseFit (now (words .entry)) ≡ true → inUseFit (now (words .exit)) ≡ true) ⌝ }
 {
-    let files = file_table(&words[130..579]);
+    let files = file_table(&words[130..707]);
     let q = request_of(c, f);
-    lock_request(&files, &mut words[579..1220], q, area)
+    lock_request(&files, &mut words[707..1348], q, area)
 }
 
 // The request on an open that the caller may use; "locks need no access".
 fn lock_open(c: Caller, words: &mut [u64], f: LockingFields, area: &[u8]) -> Answer
-    requires { ⌜ length (now words) ≡ 1461 ⌝ }
+    requires { ⌜ length (now words) ≡ 1605 ⌝ }
     requires { ⌜ Good (tablesOf (now words)) ⌝ }
     ensures { λ r. ⌜ Leaves (λ m. lockOpen c (tablesOf (now (words .entry))) m f (now (area .entry))) (tablesOf (now (words .entry))) (performed r (tablesOf (now (words .exit)))) ⌝ }
     ensures { λ _. ⌜ (inUseFit (now (words .entry)) ≡ true → inUseFit (now (words .exit)) ≡ true) ⌝ }
@@ -95,14 +95,14 @@ fn lock_open(c: Caller, words: &mut [u64], f: LockingFields, area: &[u8]) -> Ans
 
 // A LOCKING block: its fields, and its byte area.
 pub(crate) fn do_locking(c: Caller, words: &mut [u64], f: LockingFields, area: &[u8]) -> Answer
-    requires { ⌜ length (now words) ≡ 1461 ⌝ }
+    requires { ⌜ length (now words) ≡ 1605 ⌝ }
     requires { ⌜ Good (tablesOf (now words)) ⌝ }
     ensures { λ r. ⌜ Leaves (λ m. doLocking c (tablesOf (now (words .entry))) m f (now (area .entry))) (tablesOf (now (words .entry))) (performed r (tablesOf (now (words .exit)))) ⌝ }
     ensures { λ _. ⌜ (inUseFit (now (words .entry)) ≡ true → inUseFit (now (words .exit)) ≡ true) ⌝ }
 {
     let at = reach_open(c, words, f.fid);
     match at {
-        NamedOpen::Open(_) => lock_open(c, words, f, area),
+        NamedOpen::Open(_, _) => lock_open(c, words, f, area),
         NamedOpen::Refused(why) => Answer::Refused(why),
     }
 }

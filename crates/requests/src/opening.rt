@@ -44,10 +44,10 @@ fn codes_served(access: u8, sharing: u8) -> bool
 
 // The open that is asked for: the smallest free FID, the header's UID, TID and process, and the codes.
 fn open_by(c: Caller, words: &[u64], f: OpenFields, file: u8) -> Open
-    requires { ⌜ length (now words) ≡ 1461 ⌝ }
+    requires { ⌜ length (now words) ≡ 1605 ⌝ }
     ensures { λ r. ⌜ r ≡ openBy c (tablesOf (now (words .entry))) f file ⌝ }
 {
-    let fid = free_fid(&words[130..579]);
+    let fid = free_fid(&words[130..707]);
     Open {
         fid,
         uid: c.uid,
@@ -56,6 +56,8 @@ fn open_by(c: Caller, words: &[u64], f: OpenFields, file: u8) -> Open
         file,
         access: f.access,
         sharing: f.sharing,
+        read: false,
+        seen: 0,
     }
 }
 
@@ -71,7 +73,7 @@ fn open_told(f: OpenFields, fid: u16, size: usize) -> Answer
 
 // The open put behind those in use: "1/4 all 64 FIDs in use".
 fn add_open(words: &mut [u64], f: OpenFields, o: Open) -> Answer
-    requires { ⌜ length (now words) ≡ 1461 ⌝ }
+    requires { ⌜ length (now words) ≡ 1605 ⌝ }
     requires { ⌜ o .file ≤ 15 ⌝ }
     ensures { λ r. ⌜ Leaves (λ m. openAdded (tablesOf (now (words .entry))) m f o) (tablesOf (now (words .entry))) (performed r (tablesOf (now (words .exit)))) ⌝ }
     ensures { λ _. ⌜ (inUseFit (now (words .entry)) ≡ true → inUseFit (now (words .exit)) ≡ true) ⌝ }
@@ -80,13 +82,13 @@ fn add_open(words: &mut [u64], f: OpenFields, o: Open) -> Answer
         return Answer::Refused(Refusal::NoFids);
     }
     let size = file_size(words, o.file);
-    append_open(&mut words[130..579], o);
+    append_open(&mut words[130..707], o);
     open_told(f, o.fid, size)
 }
 
 // The file that the catalogue names: 1/5 where the tree doesn't permit the access, 1/32 where an open of the file stands against it.
 fn open_file(c: Caller, words: &mut [u64], f: OpenFields, file: u8) -> Answer
-    requires { ⌜ length (now words) ≡ 1461 ⌝ }
+    requires { ⌜ length (now words) ≡ 1605 ⌝ }
     requires { ⌜ file ≤ 15 ⌝ }
     ensures { λ r. ⌜ Leaves (λ m. openFile c (tablesOf (now (words .entry))) m f file) (tablesOf (now (words .entry))) (performed r (tablesOf (now (words .exit)))) ⌝ }
     ensures { λ _. ⌜ (inUseFit (now (words .entry)) ≡ true → inUseFit (now (words .exit)) ≡ true) ⌝ }
@@ -95,7 +97,7 @@ fn open_file(c: Caller, words: &mut [u64], f: OpenFields, file: u8) -> Answer
     if !some_tree_holds(&words[33..130], o) {
         return Answer::Refused(Refusal::NoAccess);
     }
-    if some_keeps_out(&words[130..579], file, f.access, f.sharing) {
+    if some_keeps_out(&words[130..707], file, f.access, f.sharing) {
         return Answer::Refused(Refusal::BadShare);
     }
     add_open(words, f, o)
@@ -103,15 +105,15 @@ fn open_file(c: Caller, words: &mut [u64], f: OpenFields, file: u8) -> Answer
 
 // The name looked up: 1/2 where the catalogue hasn't it.
 fn open_named(c: Caller, words: &mut [u64], f: OpenFields, name: &[u8]) -> Answer
-    requires { ⌜ length (now words) ≡ 1461 ⌝ }
+    requires { ⌜ length (now words) ≡ 1605 ⌝ }
     requires { ⌜ Good (tablesOf (now words)) ⌝ }
     ensures { λ r. ⌜ Leaves (λ m. openNamed c (tablesOf (now (words .entry))) m f (found (isNamed (now (name .entry))) (namesOf (tablesOf (now (words .entry)))))) (tablesOf (now (words .entry))) (performed r (tablesOf (now (words .exit)))) ⌝ }
     ensures { λ _. ⌜ (inUseFit (now (words .entry)) ≡ true → inUseFit (now (words .exit)) ≡ true) ⌝ }
 {
-    let at = find_name(&words[1236..1461], name);
+    let at = find_name(&words[1380..1605], name);
     match at {
         Found::At(k) => {
-            let file = name_file(&words[1236..1461], k);
+            let file = name_file(&words[1380..1605], k);
             open_file(c, words, f, file)
         }
         Found::Nothing => Answer::Refused(Refusal::NoSuchFile),
@@ -120,7 +122,7 @@ fn open_named(c: Caller, words: &mut [u64], f: OpenFields, name: &[u8]) -> Answe
 
 // An OPEN block: its fields, and its name.
 pub(crate) fn do_open(c: Caller, words: &mut [u64], f: OpenFields, name: &[u8]) -> Answer
-    requires { ⌜ length (now words) ≡ 1461 ⌝ }
+    requires { ⌜ length (now words) ≡ 1605 ⌝ }
     requires { ⌜ Good (tablesOf (now words)) ⌝ }
     ensures { λ r. ⌜ Leaves (λ m. doOpen c (tablesOf (now (words .entry))) m f (now (name .entry))) (tablesOf (now (words .entry))) (performed r (tablesOf (now (words .exit)))) ⌝ }
     ensures { λ _. ⌜ (inUseFit (now (words .entry)) ≡ true → inUseFit (now (words .exit)) ≡ true) ⌝ }

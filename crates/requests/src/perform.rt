@@ -48,7 +48,7 @@ fn locking_block(
     at: usize,
     size: usize,
 ) -> Answer
-    requires { ⌜ length (now words) ≡ 1461 ⌝ }
+    requires { ⌜ length (now words) ≡ 1605 ⌝ }
     requires { ⌜ Good (tablesOf (now words)) ⌝ }
     requires { ⌜ LockingPart (now s) at size ⌝ }
     ensures { λ r. ⌜ Leaves (λ m. doLocking c (tablesOf (now (words .entry))) m f (take (byteCount (now (s .entry)) at) (drop (byteArea (now (s .entry)) at) (now (s .entry))))) (tablesOf (now (words .entry))) (performed r (tablesOf (now (words .exit)))) ⌝ }
@@ -71,7 +71,7 @@ fn opening_block(
     at: usize,
     size: usize,
 ) -> Answer
-    requires { ⌜ length (now words) ≡ 1461 ⌝ }
+    requires { ⌜ length (now words) ≡ 1605 ⌝ }
     requires { ⌜ Good (tablesOf (now words)) ⌝ }
     requires { ⌜ OpeningPart (now s) at size ⌝ }
     ensures { λ r. ⌜ Leaves (λ m. doOpen c (tablesOf (now (words .entry))) m f (nameAsked (take (byteCount (now (s .entry)) at) (drop (byteArea (now (s .entry)) at) (now (s .entry)))))) (tablesOf (now (words .entry))) (performed r (tablesOf (now (words .exit)))) ⌝ }
@@ -91,7 +91,7 @@ fn writing_block(
     memory: &mut [u8],
     core: bool,
 ) -> Answer
-    requires { ⌜ length (now words) ≡ 1461 ⌝ }
+    requires { ⌜ length (now words) ≡ 1605 ⌝ }
     requires { ⌜ Good (tablesOf (now words)) ⌝ }
     requires { ⌜ length (now memory) ≡ 65536 ⌝ }
     requires { ⌜ f .from + f .count ≤ length (now s) ⌝ }
@@ -112,7 +112,7 @@ pub fn perform_block(
     just: u16,
     memory: &mut [u8],
 ) -> Answer
-    requires { ⌜ length (now words) ≡ 1461 ⌝ }
+    requires { ⌜ length (now words) ≡ 1605 ⌝ }
     requires { ⌜ Good (tablesOf (now words)) ⌝ }
     requires { ⌜ length (now memory) ≡ 65536 ⌝ }
     requires { ⌜ parse (now s) (b .command) (b .at) ≡ Whole b ⌝ }

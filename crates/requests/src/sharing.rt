@@ -67,7 +67,7 @@ fn keeps_out(o: Open, file: u8, access: u8, sharing: u8) -> bool
 
 // Whether an open in use does so: of whatever session, the asker's own and the host's included.
 pub(crate) fn some_keeps_out(words: &[u64], file: u8, access: u8, sharing: u8) -> bool
-    requires { ⌜ length (now words) ≡ 449 ⌝ }
+    requires { ⌜ length (now words) ≡ 577 ⌝ }
     ensures { λ r. ⌜ r ≡ any (keptOut file access sharing) (opensIn (now (words .entry))) ⌝ }
 {
     let count = in_use(words, 64);

@@ -18,9 +18,9 @@ ghost use Rattle.message.specs.Command.{isSession, isOpen};
 ghost use Rattle.tables.specs.Words.{tablesOf};
 ghost use Rattle.requests.specs.Reach.{reached, reachedAt};
 
-// The open that a command names, or why it names none.
+// The open that a command names and its place, or why it names none.
 pub(crate) enum NamedOpen {
-    Open(Open),
+    Open(Open, usize),
     Refused(Refusal),
 }
 
@@ -91,7 +91,7 @@ fn open_is(c: Caller, fid: u16, o: Open) -> bool
 
 // The first such open, or 1/6.
 fn find_open(c: Caller, fid: u16, words: &[u64]) -> NamedOpen
-    requires { ⌜ length (now words) ≡ 449 ⌝ }
+    requires { ⌜ length (now words) ≡ 577 ⌝ }
     ensures { λ r. ⌜ r ≡ reachedAt (found (isOpen c fid) (opensIn (now (words .entry)))) (opensIn (now (words .entry))) ⌝ }
 {
     let count = in_use(words, 64);
@@ -99,7 +99,7 @@ fn find_open(c: Caller, fid: u16, words: &[u64]) -> NamedOpen
     while i < count {
         let o = open_at(words, i);
         if open_is(c, fid, o) {
-            return NamedOpen::Open(o);
+            return NamedOpen::Open(o, i);
         }
         i += 1;
     }
@@ -108,7 +108,7 @@ fn find_open(c: Caller, fid: u16, words: &[u64]) -> NamedOpen
 
 // "2/91 no session of that UID on this connection; 2/5 no tree of that TID and UID; 1/6 no open of that FID, UID and TID".
 pub(crate) fn reach_open(c: Caller, words: &[u64], fid: u16) -> NamedOpen
-    requires { ⌜ length (now words) ≡ 1461 ⌝ }
+    requires { ⌜ length (now words) ≡ 1605 ⌝ }
     ensures { λ r. ⌜ r ≡ reached c (tablesOf (now (words .entry))) fid ⌝ }
 {
     if !session_named(c, &words[0..33]) {
@@ -117,5 +117,5 @@ pub(crate) fn reach_open(c: Caller, words: &[u64], fid: u16) -> NamedOpen
     if !tree_named(c, &words[33..130]) {
         return NamedOpen::Refused(Refusal::NoTree);
     }
-    find_open(c, fid, &words[130..579])
+    find_open(c, fid, &words[130..707])
 }

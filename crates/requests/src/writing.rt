@@ -13,18 +13,18 @@ use message::answer::Answer;
 use message::caller::Caller;
 use message::refusal::Refusal;
 use records::Open;
-use tables::file::put_size;
+use tables::file::put_change;
 use wire::fill::clear;
 use wire::fill::lay;
 ghost use mathlib.Core.Path.{_≡_};
 ghost use Prim.Native.Nat.{max, _+_, _-_, _≤_, _<_};
 ghost use mathlib.Core.Bool.{true};
-ghost use lib.ListN.{length, set, replicate};
+ghost use lib.ListN.{length, replicate};
 ghost use Rattle.lists.specs.Put.{put};
-ghost use Rattle.records.specs.Held.{withFiles};
-ghost use Rattle.tables.specs.Words.{fileOf, tablesOf, inUseFit};
+ghost use Rattle.records.specs.Change.{withChange};
+ghost use Rattle.tables.specs.Words.{tablesOf, inUseFit};
 ghost use Rattle.message.specs.Command.{endsPast, doWrite};
-ghost use Rattle.message.specs.Contents.{sizeOf, grown, written, withSize};
+ghost use Rattle.message.specs.Contents.{sizeOf, grown, written};
 ghost use Rattle.message.specs.Given.{Gives};
 ghost use Rattle.invariants.specs.Sound.{Good};
 ghost use Rattle.requests.specs.Leaves.{performed};
@@ -56,7 +56,7 @@ fn clear_gap(room: &mut [u8], from: usize, to: usize)
 
 // Zeros from the file's size up to a place in it, where that lies further on.
 pub(crate) fn grow(words: &[u64], file: u8, end: usize, memory: &mut [u8])
-    requires { ⌜ length (now words) ≡ 1461 ⌝ }
+    requires { ⌜ length (now words) ≡ 1605 ⌝ }
     requires { ⌜ Good (tablesOf (now words)) ⌝ }
     requires { ⌜ file ≤ 15 ⌝ }
     requires { ⌜ length (now memory) ≡ 65536 ⌝ }
@@ -71,7 +71,7 @@ pub(crate) fn grow(words: &[u64], file: u8, end: usize, memory: &mut [u8])
 
 // "Bytes between the old size and the write become 0", then the bytes written.
 fn write_bytes(words: &[u64], file: u8, offset: usize, source: &[u8], memory: &mut [u8])
-    requires { ⌜ length (now words) ≡ 1461 ⌝ }
+    requires { ⌜ length (now words) ≡ 1605 ⌝ }
     requires { ⌜ Good (tablesOf (now words)) ⌝ }
     requires { ⌜ file ≤ 15 ⌝ }
     requires { ⌜ length (now memory) ≡ 65536 ⌝ }
@@ -91,26 +91,26 @@ fn larger(a: usize, b: usize) -> usize
     if a < b { b } else { a }
 }
 
-// A file's size, set.
-pub(crate) fn set_size(words: &mut [u64], file: u8, size: usize)
-    requires { ⌜ length (now words) ≡ 1461 ⌝ }
+// A file changed: its size set, its change number raised (document 02, CR 8).
+pub(crate) fn change_file(words: &mut [u64], file: u8, size: usize)
+    requires { ⌜ length (now words) ≡ 1605 ⌝ }
     requires { ⌜ file ≤ 15 ⌝ }
-    ensures { λ _. ⌜ tablesOf (now (words .exit)) ≡ withSize (tablesOf (now (words .entry))) file size ⌝ }
+    ensures { λ _. ⌜ tablesOf (now (words .exit)) ≡ withChange (tablesOf (now (words .entry))) file size ⌝ }
     ensures { λ _. ⌜ (inUseFit (now (words .entry)) ≡ true → inUseFit (now (words .exit)) ≡ true) ⌝ }
 {
     let at = file as usize;
-    put_size(&mut words[1220..1236], at, size);
+    put_change(&mut words[1348..1380], at, size);
 }
 
 // "and a size below the write's end becomes that end".
 fn raise_size(words: &mut [u64], file: u8, end: usize)
-    requires { ⌜ length (now words) ≡ 1461 ⌝ }
+    requires { ⌜ length (now words) ≡ 1605 ⌝ }
     requires { ⌜ file ≤ 15 ⌝ }
-    ensures { λ _. ⌜ tablesOf (now (words .exit)) ≡ withFiles (tablesOf (now (words .entry))) (set (tablesOf (now (words .entry)) .files) file (fileOf (max (sizeOf (tablesOf (now (words .entry))) file) end))) ⌝ }
+    ensures { λ _. ⌜ tablesOf (now (words .exit)) ≡ withChange (tablesOf (now (words .entry))) file (max (sizeOf (tablesOf (now (words .entry))) file) end) ⌝ }
     ensures { λ _. ⌜ (inUseFit (now (words .entry)) ≡ true → inUseFit (now (words .exit)) ≡ true) ⌝ }
 {
     let size = larger(file_size(words, file), end);
-    set_size(words, file, size);
+    change_file(words, file, size);
 }
 
 // A write that no lock bars.
@@ -121,7 +121,7 @@ fn write_free(
     source: &[u8],
     memory: &mut [u8],
 ) -> Answer
-    requires { ⌜ length (now words) ≡ 1461 ⌝ }
+    requires { ⌜ length (now words) ≡ 1605 ⌝ }
     requires { ⌜ Good (tablesOf (now words)) ⌝ }
     requires { ⌜ file ≤ 15 ⌝ }
     requires { ⌜ length (now memory) ≡ 65536 ⌝ }
@@ -150,7 +150,7 @@ fn write_open(
     source: &[u8],
     memory: &mut [u8],
 ) -> Answer
-    requires { ⌜ length (now words) ≡ 1461 ⌝ }
+    requires { ⌜ length (now words) ≡ 1605 ⌝ }
     requires { ⌜ Good (tablesOf (now words)) ⌝ }
     requires { ⌜ o .file ≤ 15 ⌝ }
     requires { ⌜ length (now memory) ≡ 65536 ⌝ }
@@ -177,7 +177,7 @@ pub(crate) fn do_write(
     source: &[u8],
     memory: &mut [u8],
 ) -> Answer
-    requires { ⌜ length (now words) ≡ 1461 ⌝ }
+    requires { ⌜ length (now words) ≡ 1605 ⌝ }
     requires { ⌜ Good (tablesOf (now words)) ⌝ }
     requires { ⌜ length (now memory) ≡ 65536 ⌝ }
     requires { ⌜ length (now source) ≡ f .count ⌝ }
@@ -186,7 +186,7 @@ pub(crate) fn do_write(
 {
     let at = reach_open(c, words, f.fid);
     match at {
-        NamedOpen::Open(o) => write_open(c, words, f, o, source, memory),
+        NamedOpen::Open(o, _) => write_open(c, words, f, o, source, memory),
         NamedOpen::Refused(why) => Answer::Refused(why),
     }
 }

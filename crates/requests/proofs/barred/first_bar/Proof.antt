@@ -18,7 +18,7 @@ shared-slice-read-if1 c = search needs
 
 returns : tie.Need-returns
 unfolding barring tablesOf found foundFrom
-returns c = rw (part-first (c .before .before .before .args .words .now) 579 641 (omega arith), c .if1 .taken)
+returns c = rw (part-first (c .before .before .before .args .words .now) 707 641 (omega arith), c .if1 .taken)
 
 sub-file-table : tie.Need-sub-file-table
 sub-file-table c = search needs

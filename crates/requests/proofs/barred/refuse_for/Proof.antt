@@ -22,14 +22,14 @@ part-lock-at-end c = search needs
 
 lock-at-requires : tie.Need-lock-at-requires
 unfolding tablesOf
-lock-at-requires c κs = (search needs, listed-below (part (c .before .before .args .words .now) 579 641) (c .before .before .args .place) (c .before .before .pre .1))
+lock-at-requires c κs = (search needs, listed-below (part (c .before .before .args .words .now) 707 641) (c .before .before .args .place) (c .before .before .pre .1))
 
 returns : tie.Need-returns
 unfolding holderAt tablesOf
 returns c =
     let args = c .before .before .before .args in
     ap (λ (l : Lock). Refused (FileLockConflict (record { lock = l; place = args .place })))
-    (c .lock-at .ensures ∙ sym (listed-at (part (args .words .now) 579 641) (args .place) (c .before .before .before .pre .1)))
+    (c .lock-at .ensures ∙ sym (listed-at (part (args .words .now) 707 641) (args .place) (c .before .before .before .pre .1)))
 
 pub refuse-for-spec : {M : Type 1} → statement M
 refuse-for-spec =

@@ -32,7 +32,7 @@ unfolding perform givenOf inside
 returns c =
     let args = c .before .before .before .before .before .before .before .before .before .args in
     let t = tablesOf (args .words .now) in (
-      (λ m. is-reached (args .c) t (args .fid) m _ _ m _ (sym (c .before .before .before .before .before .before .reach-open .ensures) ∙ c .before .before .before .before .enum-told .given .1) (gives-done Plain _ plain refl (ap (performed Plain) (c .before .before .remove-named .ensures .tables)) refl refl)),
+      (λ m. is-reached (args .c) t (args .fid) m _ _ m _ _ (sym (c .before .before .before .before .before .before .reach-open .ensures) ∙ c .before .before .before .before .enum-told .given .1) (gives-done Plain _ plain refl (ap (performed Plain) (c .before .before .remove-named .ensures .tables)) refl refl)),
       c .before .before .remove-named .ensures .fit,
     )
 

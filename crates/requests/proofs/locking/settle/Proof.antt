@@ -51,10 +51,10 @@ returns c =
     let args = c .before .before .before .before .before .before .before .before .before .before .before .args in
     let w = args .words .now in
     let t = tablesOf w in
-    let full : length w ≡ 1461 = c .before .before .before .before .before .before .before .before .before .before .before .pre .0 in
+    let full : length w ≡ 1605 = c .before .before .before .before .before .before .before .before .before .before .before .pre .0 in
     let done = c .before .before .lock-request in
     let e = done .last .1 .0 in
-    let long : length e ≡ 641 = done .kept .1 .0 ∙ length-part w 579 641 (omega arith) in (
+    let long : length e ≡ 641 = done .kept .1 .0 ∙ length-part w 707 641 (omega arith) in (
       (λ m.
           rw (← (table-serves (opensOf t) (sound-says t (c .before .before .before .before .before .before .before .before .before .before .before .pre .1 .sound) .records .fids)), ← (c .before .before .before .before .before .before .file-table .ensures), ← (c .before .before .before .before .before .request-of .ensures))
           (settles-gives w e m _ full long _ (done .ensures .0))),

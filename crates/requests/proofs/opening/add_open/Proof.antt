@@ -42,9 +42,9 @@ part-append-open-end c = search needs
 append-open-requires : tie.Need-append-open-requires
 append-open-requires c κs =
     let w = c .before .before .before .before .before .before .args .words .now in
-    let full : length w ≡ 1461 = c .before .before .before .before .before .before .pre .0 in
-    let room : word (part w 130 449) 0 < 64 = rw (first-word w 130 449 (omega arith)) (c .before .before .before .if1 .left) in
-    (length-part w 130 449 (omega arith), room)
+    let full : length w ≡ 1605 = c .before .before .before .before .before .before .pre .0 in
+    let room : word (part w 130 577) 0 < 64 = rw (first-word w 130 577 (omega arith)) (c .before .before .before .if1 .left) in
+    (length-part w 130 577 (omega arith), room)
 
 open-told-requires : tie.Need-open-told-requires
 open-told-requires c κs = search needs
@@ -60,9 +60,9 @@ returns-2 c =
     let t = tablesOf w in
     let f = args .f in
     let o = args .o in
-    let full : length w ≡ 1461 = c .before .before .before .before .before .before .before .before .before .before .pre .0 in
+    let full : length w ≡ 1605 = c .before .before .before .before .before .before .before .before .before .before .pre .0 in
     let room : t .nopens < 64 = rw (opens-count w) (c .before .before .before .before .before .before .before .if1 .left) in
-    let long = c .before .before .before .append-open .kept .0 ∙ length-part w 130 449 (omega arith) in
+    let long = c .before .before .before .append-open .kept .0 ∙ length-part w 130 577 (omega arith) in
     let more = opens-more w (c .before .before .before .append-open .last .0) full o long (c .before .before .before .append-open .ensures) in
     let told = c .open-told .ensures ∙ ap (openTold f (o .fid)) (c .before .before .before .before .before .file-size .ensures) in (
       (λ m. gives-done (openTold f (o .fid) (sizeOf t (o .file))) (withOpens t (opensOf t ++ (o ∷ []))) (openedSaid (f .full) (o .fid) (sizeOf t (o .file)) (f .access))

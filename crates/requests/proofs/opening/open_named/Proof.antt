@@ -7,7 +7,6 @@ use mathlib.Core.Path.{_≡_, refl, sym, ap, _∙_}
 use native.Mathlib.Omega.{arith}
 use lib.ListN.{length}
 use Rattle.lists.specs.Walk.{found}
-use Rattle.tables.specs.Words.{tablesOf}
 use Rattle.tables.specs.PartLaws.{length-part}
 use Rattle.tables.specs.WholeLaws.{names-in}
 use Rattle.catalogue.specs.Name.{isNamed}
@@ -43,8 +42,8 @@ name-file-requires : tie.Need-name-file-requires
 name-file-requires c κs =
     let args = c .before .before .before .before .before .before .before .before .before .before .args in
     let w = args .words .now in
-    let full : length w ≡ 1461 = c .before .before .before .before .before .before .before .before .before .before .pre .0 in
-    (length-part w 1236 225 (omega arith), name-place w (args .name .now) (c .before .before .before .at .given .0 .0) (sym (c .before .before .before .before .before .find-name .ensures) ∙ c .before .before .before .at .given .1))
+    let full : length w ≡ 1605 = c .before .before .before .before .before .before .before .before .before .before .pre .0 in
+    (length-part w 1380 225 (omega arith), name-place w (args .name .now) (c .before .before .before .at .given .0 .0) (sym (c .before .before .before .before .before .find-name .ensures) ∙ c .before .before .before .at .given .1))
 
 open-file-requires : tie.Need-open-file-requires
 open-file-requires c κs =

@@ -92,10 +92,10 @@ same-length c = search needs
 returns : tie.Need-returns
 unfolding workDone
 returns c =
-    let args = c .before .before .before .before .before .before .before .before .before .before .args in
+    let args = c .before .before .before .before .before .before .before .before .before .before .before .before .args in
     let m = args .memory .now in
-    let asked = sym (c .before .before .before .before .before .before .work-of .ensures) ∙ c .before .before .before .before .work .given .1 in
-    (rw (work-performed (args .c) (tablesOf (args .words .now)) m _ _ (bodyMeant (args .just) (args .b .body)), asked, c .in-form .ensures) (gives-formed (c .before .before .before .before .work .given .0 .1 .0) (c .before .do-read .ensures m)), λ h. h)
+    let asked = sym (c .before .before .before .before .before .before .before .before .work-of .ensures) ∙ c .before .before .before .before .before .before .work .given .1 in
+    (rw (work-performed (args .c) (tablesOf (args .words .now)) m _ _ (bodyMeant (args .just) (args .b .body)), asked, c .in-form .ensures) (gives-formed (c .before .before .before .before .before .before .work .given .0 .1 .0) (c .before .before .before .do-read .ensures .0 m)), c .before .before .before .do-read .ensures .1)
 
 same-length-2 : tie.Need-same-length-2
 same-length-2 c = search needs

@@ -19,7 +19,7 @@ use Rattle.message.specs.Sharing.{keptOut}
 
 length-opens : (w : List ℕ) → length (openArray w) ≡ 64
 unfolding openArray
-length-opens w = length-array openOf 7 64 w
+length-opens w = length-array openOf 9 64 w
 
 abbrev Inv-loop : tie.InvT-loop
 Inv-loop words file access sharing count i₀ i = (i ≤ count) × (any (keptOut file access sharing) (opensIn words) ≡ any (keptOut file access sharing) (rest (openArray words) count i))

@@ -21,8 +21,8 @@ grow-requires c κs =
     let pre = c .before .before .before .before .before .before .pre in
     (pre .0, (pre .1 .0, (pre .1 .1 .0, (pre .1 .1 .1, omega arith))))
 
-set-size-requires : tie.Need-set-size-requires
-set-size-requires c κs = search needs
+size-to-requires : tie.Need-size-to-requires
+size-to-requires c κs = search needs
 
 same-length : tie.Need-same-length
 same-length c = search needs
@@ -33,11 +33,11 @@ same-length-2 c = search needs
 returns-2 : tie.Need-returns-2
 unfolding sizeFree givenOf inside
 returns-2 c = (
-  gives-done (CoreWrote 0) _ (coreWrote 0) (rw (le-ltb _ _ (c .before .before .before .before .before .before .before .before .before .if1 .left), c .before .before .before .before .before .before .grow .ensures)) (ap (performed (CoreWrote 0)) (c .before .before .set-size .ensures .0)) refl refl,
-  c .before .before .set-size .ensures .1,
+  gives-done (CoreWrote 0) _ (coreWrote 0) (rw (le-ltb _ _ (c .before .before .before .before .before .before .before .before .before .if1 .left), c .before .before .before .before .before .before .grow .ensures)) (ap (performed (CoreWrote 0)) (c .before .before .size-to .ensures .0)) refl refl,
+  c .before .before .size-to .ensures .1,
 )
 
 pub size-free-spec : {M : Type 1} → statement M
 size-free-spec =
     tie.close
-    (tie.spec returns grow-requires set-size-requires same-length same-length-2 returns-2)
+    (tie.spec returns grow-requires size-to-requires same-length same-length-2 returns-2)

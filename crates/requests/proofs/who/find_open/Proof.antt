@@ -12,6 +12,7 @@ use Rattle.lists.specs.declared.Found.{Found}
 use Rattle.lists.specs.FoundLaws.{Passed, passed-start, passed-here, passed-more, passed-none}
 use Rattle.lists.specs.Stored.{take-most}
 use Rattle.records.specs.Empty.{noOpen}
+use Rattle.records.specs.declared.Open.{Open}
 use Rattle.tables.specs.Words.{word, openOf, openArray}
 use Rattle.tables.specs.Written.{opensIn}
 use Rattle.tables.specs.ArrayLaws.{length-array}
@@ -23,7 +24,7 @@ use Rattle.requests.proofs.who.find_open.Tie as tie
 
 length-opens : (w : List ℕ) → length (openArray w) ≡ 64
 unfolding openArray
-length-opens w = length-array openOf 7 64 w
+length-opens w = length-array openOf 9 64 w
 
 -- the walk's opens are those in use
 whole : (w : List ℕ) (count : ℕ) → count ≡ min (word w 0) 64 → take count (openArray w) ≡ opensIn w
@@ -59,7 +60,7 @@ returns c =
     let long : length (openArray words) ≡ 64 = length-opens words in
     let few : count ≤ 64 = omega arith in
     let used : loop .i < word words 0 = omega arith in
-    ap Named (c .before .before .open-at .ensures ∙ sym (getD-take (word words 0) (openArray words) (loop .i) noOpen used))
+    ap (λ (o : Open). Named o (loop .i)) (c .before .before .open-at .ensures ∙ sym (getD-take (word words 0) (openArray words) (loop .i) noOpen used))
     ∙ ap (λ (x : Found). reachedAt x (opensIn words))
     (passed-here (loop .inv .1) noOpen (omega arith) (omega arith) (sym (ap (isOpen (args .c) (args .fid)) (c .before .before .open-at .ensures)) ∙ sym (c .before .open-is .ensures) ∙ c .if1 .taken)
     ∙ ap (found (isOpen (args .c) (args .fid))) (whole words count (c .before .before .before .before .before .in-use .ensures)))

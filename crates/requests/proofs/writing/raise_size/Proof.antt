@@ -3,8 +3,8 @@
 use borrow.Author.Needs.{needs}
 use mathlib.Core.Path.{ap, _∙_}
 use Prim.Native.Nat.{ℕ, max}
+use Rattle.records.specs.Change.{withChange}
 use Rattle.tables.specs.Words.{tablesOf}
-use Rattle.message.specs.Contents.{withSize}
 use Rattle.requests.proofs.writing.raise_size.Statement.{statement}
 use Rattle.requests.proofs.writing.raise_size.Tie as tie
 
@@ -14,8 +14,8 @@ file-size-requires c κs = search needs
 larger-requires : tie.Need-larger-requires
 larger-requires c κs = search needs
 
-set-size-requires : tie.Need-set-size-requires
-set-size-requires c κs = search needs
+change-file-requires : tie.Need-change-file-requires
+change-file-requires c κs = search needs
 
 same-length : tie.Need-same-length
 same-length c = search needs
@@ -24,7 +24,7 @@ returns : tie.Need-returns
 returns c =
     let args = c .before .before .before .before .before .before .before .before .args in
     let size = c .before .before .before .before .larger .ensures ∙ ap (λ (n : ℕ). max n (args .end)) (c .before .before .before .before .before .file-size .ensures) in
-    (c .before .before .set-size .ensures .0 ∙ ap (withSize (tablesOf (args .words .now)) (args .file)) size, c .before .before .set-size .ensures .1)
+    (c .before .before .change-file .ensures .0 ∙ ap (withChange (tablesOf (args .words .now)) (args .file)) size, c .before .before .change-file .ensures .1)
 
 pub raise-size-spec : {M : Type 1} → statement M
 raise-size-spec =
@@ -32,6 +32,6 @@ raise-size-spec =
     (tie.spec
     file-size-requires
     larger-requires
-    set-size-requires
+    change-file-requires
     same-length
     returns)
