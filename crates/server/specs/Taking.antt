@@ -142,7 +142,7 @@ module _ {c : Caller} {s first : List ℕ} {t₀ : Tables} {memory₀ : List ℕ
 
 -- the words as a turn leaves them
 pub record Kept (before after : List ℕ) : Type 0 where
-  pub long : length after ≡ 1461
+  pub long : length after ≡ 1605
   pub fit : inUseFit before ≡ true → inUseFit after ≡ true
 
 -- a block written at the front of the room left stands behind the others

@@ -108,7 +108,7 @@ fn answer_message(
     memory: &mut [u8],
     room: &mut [u8],
 ) -> Taken
-    requires { ⌜ length (now words) ≡ 1461 ⌝ }
+    requires { ⌜ length (now words) ≡ 1605 ⌝ }
     requires { ⌜ Good (tablesOf (now words)) ⌝ }
     requires { ⌜ 35 ≤ length (now s) ⌝ }
     requires { ⌜ length (now s) ≤ 8192 ⌝ }
@@ -139,7 +139,7 @@ fn answer_message(
 pub fn take_message(
     connection: u32,
     s: &[u8],
-    words: &mut [u64; 1461],
+    words: &mut [u64; 1605],
     memory: &mut [u8],
     room: &mut [u8],
 ) -> Taken

@@ -69,7 +69,7 @@ pub(crate) fn run_chain(
     memory: &mut [u8],
     room: &mut [u8],
 ) -> Ended
-    requires { ⌜ length (now words) ≡ 1461 ⌝ }
+    requires { ⌜ length (now words) ≡ 1605 ⌝ }
     requires { ⌜ Good (tablesOf (now words)) ⌝ }
     requires { ⌜ length (now memory) ≡ 65536 ⌝ }
     requires { ⌜ length (now s) ≤ 8192 ⌝ }
