@@ -11,7 +11,7 @@ use server::call::take_message;
 fn main() {
     let mut message = [0u8; 8193];
     let n = io::read_full(STDIN_FILENO, &mut message);
-    let mut words = [0u64; 1461];
+    let mut words = [0u64; 1605];
     let mut memory = [0u8; 65536];
     let mut room = [0u8; 12292];
     one_terminal(&mut words, &mut memory);

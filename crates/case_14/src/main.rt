@@ -12,7 +12,7 @@ fn ask(
     unlocks: u8,
     locks: u8,
     place: u8,
-    words: &mut [u64; 1461],
+    words: &mut [u64; 1605],
     memory: &mut [u8],
     room: &mut [u8],
 ) {
@@ -83,7 +83,7 @@ fn ask(
 }
 
 // 128 locks, a byte each.
-fn hold_all(words: &mut [u64; 1461], memory: &mut [u8], room: &mut [u8]) {
+fn hold_all(words: &mut [u64; 1605], memory: &mut [u8], room: &mut [u8]) {
     let mut place: u8 = 0;
     while place < 128 {
         ask(0, 1, place, words, memory, room);
@@ -92,7 +92,7 @@ fn hold_all(words: &mut [u64; 1461], memory: &mut [u8], room: &mut [u8]) {
 }
 
 fn main() {
-    let mut words = [0u64; 1461];
+    let mut words = [0u64; 1605];
     let mut memory = [0u8; 65536];
     let mut room = [0u8; 12292];
     let mut text = [0u8; 256];

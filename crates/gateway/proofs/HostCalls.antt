@@ -14,8 +14,8 @@ use Rattle.soundness.specs.Sound.{sound}
 use Rattle.host.specs.declared.answer.Returned.{Returned}
 use Rattle.host.specs.declared.answer.Row.{Row}
 use Rattle.host.specs.HostCall.{refused}
-use Rattle.host.specs.OnWords.{onWords, loadOnWords, memoryOnWords, Left}
-use Rattle.boundary.specs.Boundary.{ForNext, fileLoaded, loadNumberOf, memoryAfter}
+use Rattle.host.specs.OnWords.{onWords, loadOnWords, memoryOnWords, rowOf, Left}
+use Rattle.boundary.specs.Boundary.{ForNext, numberOf, isDone, idAfter, fileLoaded, loadNumberOf, memoryAfter}
 use Rattle.boundary.specs.BoundaryLaws.{Leaves, unfit, refused-leaves, done-leaves, undone-next, wrong-number, right-number, unfit-memory, fit-memory}
 
 module _ (w : List ℕ) (a : Returned) where
@@ -49,6 +49,41 @@ module _ (w : List ℕ) (a : Returned) where
 -- what a call leaves that answers another argument alike
 pub alike : {a b : Returned} {w out : List ℕ} {r : Row} → a ≡ b → Left a w out r → Left b w out r
 alike e l = rw (← e) l
+
+-- ---- a call that only reads: its row is an equation
+
+module _ (w : List ℕ) (a : Returned) (id : ℕ) (r : Row) (e : r ≡ rowOf (onWords w a)) where
+  -- what the host sees of it
+  pub record Answers (number given : ℕ) : Type 0 where
+    pub number-is : number ≡ numberOf w a
+    pub given-is : given ≡ idAfter id w a
+
+  row-fit : inUseFit w ≡ true → r ≡ rowOf a
+  row-fit f = e ∙ ap rowOf (on-fit w a f)
+
+  row-unfit : inUseFit w ≡ false → r .number ≡ 4
+  unfolding rowOf
+  row-unfit f = ap (λ (x : Row). x .number) e ∙ on-unfit w a f
+
+  pub refused-question : (r .number ≡ 0 → ⊥) → Answers (r .number) id
+  unfolding numberOf idAfter isDone rowOf
+  refused-question n =
+      ⊎-elim
+      (λ f.
+      let same : r .number ≡ a .number = ap (λ (x : Row). x .number) (row-fit f) in
+      record { number-is = rw f same; given-is = rw (f, ne-eqb (a .number) 0 (λ z. n (same ∙ z))) })
+      (λ f. record { number-is = rw f (row-unfit f); given-is = rw f })
+      (decided (inUseFit w))
+
+  pub answered-question : r .number ≡ 0 → Answers 0 (r .id)
+  unfolding numberOf idAfter isDone rowOf
+  answered-question z =
+      ⊎-elim
+      (λ f.
+      let same : a .number ≡ 0 = sym (ap (λ (x : Row). x .number) (row-fit f)) ∙ z in
+      record { number-is = rw f (sym same); given-is = rw (f, eq-eqb (a .number) 0 same) (ap (λ (x : Row). x .id) (row-fit f)) })
+      (λ f. absurd (let four : r .number ≡ 4 = row-unfit f in let no : ⊥ = omega arith in no))
+      (decided (inUseFit w))
 
 -- ---- a load
 

@@ -7,20 +7,24 @@ use Prim.Native.Nat.{ℕ, min, _<_}
 use native.Mathlib.Omega.{arith}
 use mathlib.Core.Bool.{true, false, not}
 use mathlib.Core.List.{List, map}
-use lib.ListN.{length}
+use lib.ListN.{length, getD}
 use lib.Dec.{leb, ltb, eqb}
 use borrow.Author.Tests.{eqb-true, lt-ltb, leb-true, leb-false}
 use Rattle.lists.specs.Truth.{decided, fails, holds-second, both-hold}
-use Rattle.lists.specs.Walk.{any}
+use Rattle.lists.specs.Walk.{any, found}
+use Rattle.lists.specs.declared.Found.{Found}
+use Rattle.lists.specs.declared.Found.the-variants.{At, Nothing}
 use Rattle.lists.specs.Members.{any-one, all-each, in-map}
 use Rattle.records.specs.declared.Tables.{Tables}
-use Rattle.records.specs.Held.{sessionsOf, treesOf}
+use Rattle.records.specs.Empty.{noOpen}
+use Rattle.records.specs.Held.{sessionsOf, treesOf, opensOf}
 use Rattle.numbers.specs.Number.{contains, numbered}
-use Rattle.numbers.specs.Column.{uidOf, tidOf}
+use Rattle.numbers.specs.Column.{uidOf, tidOf, fidOf}
 use Rattle.soundness.specs.Sound.{sound, treeOk}
 use Rattle.soundness.specs.Lookup.{isTree}
-use Rattle.host.specs.HostCall.{addTree, addOpen, loadNumber, loadFile, loadMemory}
+use Rattle.host.specs.HostCall.{addTree, addOpen, loadNumber, loadFile, loadMemory, askUnchanged}
 use Rattle.host.specs.OnWords.{loadOnWords, memoryOnWords}
+use Rattle.invariants.specs.FoundFacts.{found-hit}
 use Rattle.invariants.specs.GivenCases.{cond-case}
 use Rattle.invariants.specs.Numbered.{contains-in, numbered-within}
 use Rattle.invariants.specs.RuleLaws.{tree-says}
@@ -59,6 +63,18 @@ module _ (t : Tables) (s : sound t ≡ true) where
       let its : (r .0) .tid ≡ k = eqb-true ((r .0) .tid) k (both-hold (eqb ((r .0) .tid) k) (eqb ((r .0) .uid) uid) (r .2) .0) in
       let within = numbered-within 32 (in-map tidOf (r .1)) (sound-says t s .records .tids) .1 in
       omega arith
+
+  -- no open has it as its FID
+  unnamed : (f : Found) (k : ℕ) → found (λ o. eqb (o .fid) k) (opensOf t) ≡ f → 64 < k → f ≡ Nothing
+  unnamed (At j) k e h =
+      let hit = found-hit (λ o. eqb (o .fid) k) (opensOf t) j noOpen e in
+      let its : getD (opensOf t) j noOpen .fid ≡ k = eqb-true (getD (opensOf t) j noOpen .fid) k (hit .passes) in
+      let within = numbered-within 64 (in-map fidOf (hit .listed)) (sound-says t s .records .fids) .1 in
+      absurd (let no : ⊥ = omega arith in no)
+  unnamed Nothing k e h = refl
+
+  no-open : (k : ℕ) → 64 < k → found (λ o. eqb (o .fid) k) (opensOf t) ≡ Nothing
+  no-open k h = unnamed (found (λ o. eqb (o .fid) k) (opensOf t)) k refl h
 
 -- ---- the calls
 
@@ -108,6 +124,14 @@ module _ (t : Tables) where
         ∙ cut (λ x. addOpen t (min uid 65535) x process file access) 65535 tid (open-tid (min uid 65535) tid file access)
         ∙ cut (λ x. addOpen t (min uid 65535) (min tid 65535) process x access) 255 file (open-file (min uid 65535) (min tid 65535) file access)
         ∙ cut (λ x. addOpen t (min uid 65535) (min tid 65535) process (min file 255) x) 255 access (open-access (min uid 65535) (min tid 65535) (min file 255) access)))
+
+  -- a question: a FID past 65,535 is 6, as 65,535 is
+  ask-fid : (fid : ℕ) → 65535 < fid → askUnchanged t fid ≡ askUnchanged t 65535
+  unfolding askUnchanged
+  ask-fid fid h = ⊎-elim (λ s. rw (s, no-open t s fid (omega arith), no-open t s 65535 (omega arith))) (λ e. rw e) (decided (sound t))
+
+  pub ask-wide : (fid f : ℕ) → f ≡ min fid 65535 → askUnchanged t f ≡ askUnchanged t fid
+  ask-wide fid f e = rw e (sym (cut (askUnchanged t) 65535 fid (ask-fid fid)))
 
 -- a load: a file past 255 is 7, as 255 is
 module _ (t : Tables) (contents memory : List ℕ) where

@@ -1,4 +1,4 @@
-// The gateway as a C program calls it (include/gateway.h): the tables are 1461 words of the host's. A number that names a record, a
+// The gateway as a C program calls it (include/gateway.h): the tables are 1605 words of the host's. A number that names a record, a
 // right, a file or an access is 32 bits wide, and one that its field cannot hold is answered as document 01 says for that number.
 
 mod argument;
@@ -16,18 +16,19 @@ use host::names::set_catalogue;
 use host::open::add_open;
 use host::session::add_session;
 use host::tree::add_tree;
+use host::unchanged::ask_unchanged;
 use server::call::take_message;
 ghost use mathlib.Core.Path.{_≡_};
 ghost use mathlib.Core.Bool.{true};
 ghost use Rattle.host.specs.HostCall.{noTables};
 ghost use lib.ListN.{replicate};
 ghost use Rattle.tables.specs.Words.{tablesOf};
-ghost use Rattle.boundary.specs.Boundary.{numberOf, idAfter, sessionAdded, treeAdded, openAdded, connectionDropped, fileLoaded, loadNumberOf, memoryAfter, catalogueSet, messageTaken, lengthAfter, holderAfter, ready, ForNext};
+ghost use Rattle.boundary.specs.Boundary.{numberOf, idAfter, sessionAdded, treeAdded, openAdded, connectionDropped, fileLoaded, loadNumberOf, memoryAfter, catalogueSet, unchangedAsked, messageTaken, lengthAfter, holderAfter, ready, ForNext};
 
 // Tables to start from.
 #[no_mangle]
-pub extern "C" fn gateway_empty(tables: &mut [u64; 1461])
-    ensures { λ _. ⌜ now (tables .exit) ≡ replicate 1461 0 ⌝ }
+pub extern "C" fn gateway_empty(tables: &mut [u64; 1605])
+    ensures { λ _. ⌜ now (tables .exit) ≡ replicate 1605 0 ⌝ }
     ensures { λ _. ⌜ tablesOf (now (tables .exit)) ≡ noTables ⌝ }
     ensures { λ _. ⌜ ready (now (tables .exit)) ≡ true ⌝ }
 {
@@ -37,7 +38,7 @@ pub extern "C" fn gateway_empty(tables: &mut [u64; 1461])
 // A session on a connection; its UID goes to uid.
 #[no_mangle]
 pub extern "C" fn gateway_add_session(
-    tables: &mut [u64; 1461],
+    tables: &mut [u64; 1605],
     connection: u32,
     uid: &mut u16,
 ) -> u8
@@ -57,7 +58,7 @@ pub extern "C" fn gateway_add_session(
 // A tree of a session; its TID goes to tid.
 #[no_mangle]
 pub extern "C" fn gateway_add_tree(
-    tables: &mut [u64; 1461],
+    tables: &mut [u64; 1605],
     uid: u32,
     right: u32,
     tid: &mut u16,
@@ -80,7 +81,7 @@ pub extern "C" fn gateway_add_tree(
 // An open of a file through a tree; its FID goes to fid.
 #[no_mangle]
 pub extern "C" fn gateway_add_open(
-    tables: &mut [u64; 1461],
+    tables: &mut [u64; 1605],
     uid: u32,
     tid: u32,
     process: u32,
@@ -115,7 +116,7 @@ pub extern "C" fn gateway_add_open(
 // The contents of a file that has no open, put into the file memory.
 #[no_mangle]
 pub extern "C" fn gateway_load_file(
-    tables: &mut [u64; 1461],
+    tables: &mut [u64; 1605],
     file: u32,
     contents: &[u8],
     memory: &mut [u8],
@@ -135,7 +136,7 @@ pub extern "C" fn gateway_load_file(
 
 // A connection has ended: its sessions go, each with what hangs on it.
 #[no_mangle]
-pub extern "C" fn gateway_drop_connection(tables: &mut [u64; 1461], connection: u32) -> u8
+pub extern "C" fn gateway_drop_connection(tables: &mut [u64; 1605], connection: u32) -> u8
     ensures { λ r. ⌜ r ≡ numberOf (now (tables .entry)) (connectionDropped (now (tables .entry)) connection) ⌝ }
     ensures { λ r. ⌜ ForNext (now (tables .entry)) (now (tables .exit)) r (connectionDropped (now (tables .entry)) connection .tables) ⌝ }
 {
@@ -149,7 +150,7 @@ pub extern "C" fn gateway_drop_connection(tables: &mut [u64; 1461], connection: 
 
 // The catalogue, set whole: 225 words, a count and 16 names of 14 words each.
 #[no_mangle]
-pub extern "C" fn gateway_set_catalogue(tables: &mut [u64; 1461], catalogue: &[u64; 225]) -> u8
+pub extern "C" fn gateway_set_catalogue(tables: &mut [u64; 1605], catalogue: &[u64; 225]) -> u8
     ensures { λ r. ⌜ r ≡ numberOf (now (tables .entry)) (catalogueSet (now (tables .entry)) (now (catalogue .entry))) ⌝ }
     ensures { λ r. ⌜ ForNext (now (tables .entry)) (now (tables .exit)) r (catalogueSet (now (tables .entry)) (now (catalogue .entry)) .tables) ⌝ }
 {
@@ -161,11 +162,28 @@ pub extern "C" fn gateway_set_catalogue(tables: &mut [u64; 1461], catalogue: &[u
     DONE
 }
 
+// Whether an open has read and its file was not changed since, as far as the change numbers tell (document 02, CR 8): 1 goes to unchanged for "unchanged", 0 for "changed". The
+// tables are only read.
+#[no_mangle]
+pub extern "C" fn gateway_unchanged(tables: &[u64; 1605], fid: u32, unchanged: &mut u16) -> u8
+    ensures { λ r. ⌜ r ≡ numberOf (now (tables .entry)) (unchangedAsked (now (tables .entry)) fid) ⌝ }
+    ensures { λ _. ⌜ now (unchanged .exit) ≡ idAfter (now (unchanged .entry)) (now (tables .entry)) (unchangedAsked (now (tables .entry)) fid) ⌝ }
+{
+    let narrow_fid = to_number(fid);
+    let a = ask_unchanged(tables, narrow_fid);
+    let number = a.number;
+    if number != DONE {
+        return number;
+    }
+    *unchanged = a.id;
+    DONE
+}
+
 // A request message of a connection. The reply goes to the start of the room, its length to written, and who holds the lock in its way
 // to holder.
 #[no_mangle]
 pub extern "C" fn gateway_take_message(
-    tables: &mut [u64; 1461],
+    tables: &mut [u64; 1605],
     connection: u32,
     message: &[u8],
     memory: &mut [u8],

@@ -19,7 +19,7 @@ pub const CONNECTION: u32 = 5;
 
 // File 0 has 120 bytes; UID 1, TID 1 and FID 1 are a session, its tree for reading and writing, and an open of that file for both by
 // process 7.
-pub fn one_terminal(words: &mut [u64; 1461], memory: &mut [u8])
+pub fn one_terminal(words: &mut [u64; 1605], memory: &mut [u8])
     ensures { λ _. ⌜ tablesOf (now (words .exit)) ≡ terminalTables (now (memory .entry)) ⌝ }
     ensures { λ _. ⌜ inUseFit (now (words .exit)) ≡ true ⌝ }
     ensures { λ _. ⌜ now (memory .exit) ≡ terminalMemory (now (memory .entry)) ⌝ }
