@@ -16,7 +16,7 @@ ghost use lib.ListN.{length};
 // The whole history, call by call.
 fn replay(
     history: &[u8],
-    words: &mut [u64; 1461],
+    words: &mut [u64; 1605],
     memory: &mut [u8],
     room: &mut [u8],
     text: &mut [u8],
@@ -36,7 +36,7 @@ fn replay(
 fn main() {
     let mut history = [0u8; 262144];
     let n = io::read_full(STDIN_FILENO, &mut history);
-    let mut words = [0u64; 1461];
+    let mut words = [0u64; 1605];
     let mut memory = [0u8; 65536];
     let mut room = [0u8; 12292];
     let mut text = [0u8; 32768];

@@ -6,6 +6,7 @@
 //   5 drop a connection: connection 4
 //   6 take a message: connection 4, length 2, the bytes
 //   7 set the catalogue: its 225 words, each as 1
+//   8 ask whether the file of an open is unchanged: FID 2
 // Any other byte is passed over. What stands behind the end reads as 0, and bytes are cut there.
 
 use crate::line::put_line;
@@ -17,6 +18,7 @@ use host::names::set_catalogue;
 use host::open::add_open;
 use host::session::add_session;
 use host::tree::add_tree;
+use host::unchanged::ask_unchanged;
 use message::refusal::HeldBy;
 use numbers::number::at_most;
 use sample::names::catalogue_words;
@@ -47,7 +49,7 @@ fn host_step(o: Row, next: usize, words: &[u64], memory: &[u8], text: &mut [u8])
 fn load_step(
     s: &[u8],
     at: usize,
-    words: &mut [u64; 1461],
+    words: &mut [u64; 1605],
     memory: &mut [u8],
     text: &mut [u8],
 ) -> Step
@@ -66,7 +68,7 @@ fn load_step(
 fn message_step(
     s: &[u8],
     at: usize,
-    words: &mut [u64; 1461],
+    words: &mut [u64; 1605],
     memory: &mut [u8],
     room: &mut [u8],
     text: &mut [u8],
@@ -87,7 +89,7 @@ fn message_step(
 }
 
 // An open: UID, TID, process, file and access.
-fn open_step(s: &[u8], at: usize, words: &mut [u64; 1461], memory: &[u8], text: &mut [u8]) -> Step
+fn open_step(s: &[u8], at: usize, words: &mut [u64; 1605], memory: &[u8], text: &mut [u8]) -> Step
     requires { ⌜ at < length (now s) ⌝ }
     requires { ⌜ length (now s) ≤ 262144 ⌝ }
     ensures { λ r. ⌜ (at < r .next) × (r .length ≤ length (now (text .exit))) ⌝ }
@@ -110,7 +112,7 @@ fn open_step(s: &[u8], at: usize, words: &mut [u64; 1461], memory: &[u8], text: 
 fn catalogue_step(
     s: &[u8],
     at: usize,
-    words: &mut [u64; 1461],
+    words: &mut [u64; 1605],
     memory: &[u8],
     text: &mut [u8],
 ) -> Step
@@ -127,7 +129,7 @@ fn catalogue_step(
 pub(crate) fn play(
     s: &[u8],
     at: usize,
-    words: &mut [u64; 1461],
+    words: &mut [u64; 1605],
     memory: &mut [u8],
     room: &mut [u8],
     text: &mut [u8],
@@ -163,6 +165,13 @@ pub(crate) fn play(
         ),
         6 => message_step(s, at, words, memory, room, text),
         7 => catalogue_step(s, at, words, memory, text),
+        8 => host_step(
+            ask_unchanged(words, le16_at(s, at + 1)),
+            at + 3,
+            words,
+            memory,
+            text,
+        ),
         _ => Step {
             next: at + 1,
             length: 0,

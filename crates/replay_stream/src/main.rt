@@ -18,7 +18,7 @@ ghost use Prim.Native.Nat.{_≤_};
 ghost use lib.ListN.{length};
 
 // The whole stream. A call takes a byte at least, or the reader is stopped or the stream at its end, so that more calls than bytes change nothing.
-fn replay(stream: &[u8], words: &mut [u64; 1461], memory: &mut [u8; 65536], buffer: &mut [u8; 8192])
+fn replay(stream: &[u8], words: &mut [u64; 1605], memory: &mut [u8; 65536], buffer: &mut [u8; 8192])
     requires { ⌜ length (now stream) ≤ 65536 ⌝ }
 {
     let mut cut = first_cut(stream.len());
@@ -38,7 +38,7 @@ fn replay(stream: &[u8], words: &mut [u64; 1461], memory: &mut [u8; 65536], buff
 fn main() {
     let mut stream = [0u8; 65536];
     let n = io::read_full(STDIN_FILENO, &mut stream);
-    let mut words = [0u64; 1461];
+    let mut words = [0u64; 1605];
     let mut memory = [0u8; 65536];
     let mut buffer = [0u8; 8192];
     set_up(&mut words, &mut memory);

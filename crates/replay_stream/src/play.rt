@@ -31,7 +31,7 @@ fn three_names() -> [u64; 225] {
 }
 
 // The small gateway, with a second open of file 0, of process 8, one of file 1 for reading, and names to open files by.
-pub(crate) fn set_up(words: &mut [u64; 1461], memory: &mut [u8; 65536]) {
+pub(crate) fn set_up(words: &mut [u64; 1605], memory: &mut [u8; 65536]) {
     one_terminal(words, memory);
     load_file(words, 1, b"0017 0042 0311 0768", memory);
     add_open(words, 1, 1, 8, 0, 2);
@@ -52,7 +52,7 @@ fn frame_digest(number: u8, reply: &[u8]) -> u64 {
 }
 
 // A message handed out: taken, its reply written, and its line printed.
-fn play_message(message: &[u8], words: &mut [u64; 1461], memory: &mut [u8; 65536]) {
+fn play_message(message: &[u8], words: &mut [u64; 1605], memory: &mut [u8; 65536]) {
     let mut room = [0u8; 12292];
     let taken = take_message(CONNECTION, message, words, memory, &mut room);
     let size = at_most(taken.length, 12292);
@@ -65,7 +65,7 @@ fn play_at(
     bytes: &[u8],
     at: usize,
     size: usize,
-    words: &mut [u64; 1461],
+    words: &mut [u64; 1605],
     memory: &mut [u8; 65536],
 ) {
     let from = at_most(at, bytes.len());
@@ -77,7 +77,7 @@ pub(crate) fn play_piece(
     state: State,
     piece: &[u8],
     buffer: &mut [u8; 8192],
-    words: &mut [u64; 1461],
+    words: &mut [u64; 1605],
     memory: &mut [u8; 65536],
 ) -> Played {
     let step = read_piece(state, buffer, piece);

@@ -72,8 +72,23 @@ message-step-requires c κs = search needs
 catalogue-step-requires : tie.Need-catalogue-step-requires
 catalogue-step-requires c κs = search needs
 
-add-t66 : tie.Need-add-t66
-add-t66 c = omega arith
+add-le16-at-2 : tie.Need-add-le16-at-2
+add-le16-at-2 c = omega arith
+
+le16-at-requires-2 : tie.Need-le16-at-requires-2
+le16-at-requires-2 c κs = search needs
+
+ask-unchanged-requires : tie.Need-ask-unchanged-requires
+ask-unchanged-requires c κs = search needs
+
+add-host-step-4 : tie.Need-add-host-step-4
+add-host-step-4 c = omega arith
+
+host-step-requires-4 : tie.Need-host-step-requires-4
+host-step-requires-4 c κs = search needs
+
+add-t77 : tie.Need-add-t77
+add-t77 c = omega arith
 
 same-length : tie.Need-same-length
 same-length c =
@@ -168,8 +183,20 @@ returns-7 : tie.Need-returns-7
 returns-7 c =
     (omega (arith, c .before .before .catalogue-step .ensures .0), c .before .before .catalogue-step .ensures .1)
 
+same-length-16 : tie.Need-same-length-16
+same-length-16 c =
+    refl
+
+same-length-17 : tie.Need-same-length-17
+same-length-17 c =
+    c .before .before .host-step4 .kept .1 .1 .1 .1 .0
+
 returns-8 : tie.Need-returns-8
 returns-8 c =
+    (omega (arith, c .before .before .host-step4 .ensures .0), c .before .before .host-step4 .ensures .1)
+
+returns-9 : tie.Need-returns-9
+returns-9 c =
     (omega arith, omega arith)
 
 pub play-spec : {M : Type 1} → statement M
@@ -198,7 +225,12 @@ play-spec =
     host-step-requires-3
     message-step-requires
     catalogue-step-requires
-    add-t66
+    add-le16-at-2
+    le16-at-requires-2
+    ask-unchanged-requires
+    add-host-step-4
+    host-step-requires-4
+    add-t77
     same-length
     same-length-2
     returns
@@ -221,4 +253,7 @@ play-spec =
     same-length-14
     same-length-15
     returns-7
-    returns-8)
+    same-length-16
+    same-length-17
+    returns-8
+    returns-9)
