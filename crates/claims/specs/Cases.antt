@@ -47,7 +47,7 @@ oneTerminal =
       nsessions = 1;
       trees = record { tid = 1; uid = 1; right = 1 } ∷ [];
       ntrees = 1;
-      opens = record { fid = 1; uid = 1; tid = 1; process = 7; file = 0; access = 2; sharing = 4 } ∷ [];
+      opens = record { fid = 1; uid = 1; tid = 1; process = 7; file = 0; access = 2; sharing = 4; read = false; seen = 0 } ∷ [];
       nopens = 1;
       locks = [];
       nlocks = 0;

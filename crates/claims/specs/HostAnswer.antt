@@ -101,14 +101,14 @@ module _ (t : Tables) where
   -- "done; .. for an add, the new number": the open stands behind the others with that FID
   pub addOpen-held : (uid tid process file access : ℕ) → addOpen t uid tid process file access .number ≡ 0
       → opensOf (addOpen t uid tid process file access .tables)
-      ≡ opensOf t ++ (record { fid = addOpen t uid tid process file access .id; uid = uid; tid = tid; process = process; file = file; access = access; sharing = 4 } ∷ [])
+      ≡ opensOf t ++ (record { fid = addOpen t uid tid process file access .id; uid = uid; tid = tid; process = process; file = file; access = access; sharing = 4; read = false; seen = 0 } ∷ [])
   unfolding done newOpen
   addOpen-held uid tid process file access =
       addOpen-either t Held (refused-not-done HeldBy t) uid tid process file access
       (λ p e. opens-with t (opensOf t ++ (newOpen t uid tid process file access ∷ [])))
     where
       HeldBy : Returned → Type 0
-      HeldBy a = opensOf (a .tables) ≡ opensOf t ++ (record { fid = a .id; uid = uid; tid = tid; process = process; file = file; access = access; sharing = 4 } ∷ [])
+      HeldBy a = opensOf (a .tables) ≡ opensOf t ++ (record { fid = a .id; uid = uid; tid = tid; process = process; file = file; access = access; sharing = 4; read = false; seen = 0 } ∷ [])
 
       Held : Returned → Type 0
       Held a = a .number ≡ 0 → HeldBy a

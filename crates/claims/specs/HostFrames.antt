@@ -1,14 +1,15 @@
 -- What each host call leaves where it is done (number 0), table by table (document 01, "Tables and room" and "What a call
--- returns"; document 02, CR 6): the record added, field by field, and every other record, count and size as it was. Assumes nothing.
+-- returns"; document 02, CR 6 and CR 8): the record added, field by field, and every other record, count and file as it was. Assumes nothing.
 use mathlib.Core.Path.{_≡_, refl, sym, ap}
+use mathlib.Core.Bool.{false}
 use mathlib.Core.List.{List, [], _∷_, _++_, map}
 use Prim.Native.Nat.{ℕ, _+_}
 use lib.ListN.{length, getD, length-append}
+use Rattle.records.specs.Change.{raised, changesOf}
 use Rattle.records.specs.Empty.{noFile}
 use Rattle.records.specs.declared.Session.{Session}
 use Rattle.records.specs.declared.Tree.{Tree}
 use Rattle.records.specs.declared.Open.{Open}
-use Rattle.records.specs.declared.File.{File}
 use Rattle.records.specs.declared.Name.{Name}
 use Rattle.records.specs.declared.Tables.{Tables}
 use Rattle.records.specs.Held.{sessionsOf, treesOf, opensOf, locksOf, withSessions, withTrees, withOpens, withLocks, withFiles, withCatalogue}
@@ -22,7 +23,7 @@ use Rattle.invariants.specs.Shaped.{Shaped, sessions-with, trees-with, opens-wi
 use Rattle.invariants.specs.HostCases.{addSession-either, addTree-either, addOpen-either, loadFile-either, dropConnection-either, setCatalogue-either}
 use Rattle.invariants.specs.RemovalSound.{left, remove-left, left-sessions, left-trees, left-opens, left-locks}
 use Rattle.claims.specs.HostAnswer.{NewNumber, smallest-new, refused-not-done}
-use Rattle.claims.specs.LoadBytes.{Loaded, loadMemory-done, loadFile-size, loadFile-others, loadFile-records}
+use Rattle.claims.specs.LoadBytes.{Loaded, loadMemory-done, loadFile-size, loadFile-changes, loadFile-others, loadFile-records}
 use Rattle.claims.specs.RemovalPlain.{ConnectionGone, FilesStand, CatalogueStands, drop-plain}
 
 -- ---- a table that stands: its count and its records, in use or not
@@ -59,7 +60,7 @@ pub record SessionAdded (t : Tables) (connection : ℕ) (a : Returned) : Type 0 
   pub trees : TreesStand t (a .tables)
   pub opens : OpensStand t (a .tables)
   pub locks : LocksStand t (a .tables)
-  pub sizes : FilesStand t (a .tables)
+  pub files : FilesStand t (a .tables)
   pub catalogue : CatalogueStands t (a .tables)
 
 -- one tree behind the others, of that session, with that right and the TID given out; nothing else is touched
@@ -74,7 +75,7 @@ pub record TreeAdded (t : Tables) (uid right : ℕ) (a : Returned) : Type 0 wher
   pub sessions : SessionsStand t (a .tables)
   pub opens : OpensStand t (a .tables)
   pub locks : LocksStand t (a .tables)
-  pub sizes : FilesStand t (a .tables)
+  pub files : FilesStand t (a .tables)
   pub catalogue : CatalogueStands t (a .tables)
 
 -- one open behind the others, through that tree of that session, for that process, of that file, with that access and the FID
@@ -88,19 +89,22 @@ pub record OpenAdded (t : Tables) (uid tid process file access : ℕ) (a : Retur
   pub its-file : new .file ≡ file
   pub its-access : new .access ≡ access
   pub its-sharing : new .sharing ≡ 4
+  pub not-read : new .read ≡ false
+  pub seen-none : new .seen ≡ 0
   pub given-out : NewNumber 64 (map fidOf (opensOf t)) (a .id)
   pub opens : opensOf (a .tables) ≡ opensOf t ++ (new ∷ [])
   pub open-count : a .tables .nopens ≡ length (opensOf t) + 1
   pub sessions : SessionsStand t (a .tables)
   pub trees : TreesStand t (a .tables)
   pub locks : LocksStand t (a .tables)
-  pub sizes : FilesStand t (a .tables)
+  pub files : FilesStand t (a .tables)
   pub catalogue : CatalogueStands t (a .tables)
 
--- the file has the bytes and their number as its size; no other byte, size or table is touched, and no number is given out
+-- the file has the bytes and their number as its size, and its change number is raised; no other byte, file or table is touched, and no number is given out
 pub record FileLoaded (t : Tables) (file : ℕ) (bytes memory : List ℕ) (a : Returned) (after : List ℕ) : Type 0 where
   pub its-size : getD (a .tables .files) file noFile .size ≡ length bytes
-  pub other-sizes : (i : ℕ) → (i ≡ file → ⊥) → getD (a .tables .files) i noFile .size ≡ getD (t .files) i noFile .size
+  pub its-changes : changesOf (a .tables) file ≡ raised (changesOf t file)
+  pub other-files : (i : ℕ) → (i ≡ file → ⊥) → getD (a .tables .files) i noFile ≡ getD (t .files) i noFile
   pub file-bytes : Loaded file bytes memory after
   pub sessions : SessionsStand t (a .tables)
   pub trees : TreesStand t (a .tables)
@@ -110,13 +114,13 @@ pub record FileLoaded (t : Tables) (file : ℕ) (bytes memory : List ℕ) (a : R
   pub no-number : a .id ≡ 0
 
 -- the sessions of the connection are gone with what hangs on them; every other record stands in its order, each count is that of
--- the records left, neither size nor catalogue is touched, and no number is given out
+-- the records left, neither file nor catalogue is touched, and no number is given out
 pub record ConnectionDropped (t : Tables) (connection : ℕ) (a : Returned) : Type 0 where
   pub records : ConnectionGone connection t (a .tables)
   pub counts : Counted (a .tables)
   pub no-number : a .id ≡ 0
 
--- document 02, CR 6: "a catalogue, set whole by the host": its count and all its names, in use or not, are those given; no other table or size is
+-- document 02, CR 6: "a catalogue, set whole by the host": its count and all its names, in use or not, are those given; no other table or file is
 -- touched, and no number is given out
 pub record CatalogueSet (t : Tables) (given : List Name) (count : ℕ) (a : Returned) : Type 0 where
   pub name-count : a .tables .nnames ≡ count
@@ -125,7 +129,7 @@ pub record CatalogueSet (t : Tables) (given : List Name) (count : ℕ) (a : Retu
   pub trees : TreesStand t (a .tables)
   pub opens : OpensStand t (a .tables)
   pub locks : LocksStand t (a .tables)
-  pub sizes : FilesStand t (a .tables)
+  pub files : FilesStand t (a .tables)
   pub no-number : a .id ≡ 0
 
 -- ---- the calls
@@ -146,7 +150,7 @@ module _ (t : Tables) where
         trees = (refl, refl);
         opens = (refl, refl);
         locks = (refl, refl);
-        sizes = refl;
+        files = refl;
         catalogue = (refl, refl);
       }
 
@@ -166,7 +170,7 @@ module _ (t : Tables) where
         sessions = (refl, refl);
         opens = (refl, refl);
         locks = (refl, refl);
-        sizes = refl;
+        files = refl;
         catalogue = (refl, refl);
       }
 
@@ -186,13 +190,15 @@ module _ (t : Tables) where
         its-file = refl;
         its-access = refl;
         its-sharing = refl;
+        not-read = refl;
+        seen-none = refl;
         given-out = smallest-new fidOf 64 (t .nopens) (t .opens) (passed .room);
         opens = opens-with t (opensOf t ++ (newOpen t uid tid process file access ∷ []));
         open-count = length-append (opensOf t) (newOpen t uid tid process file access ∷ []);
         sessions = (refl, refl);
         trees = (refl, refl);
         locks = (refl, refl);
-        sizes = refl;
+        files = refl;
         catalogue = (refl, refl);
       }
 
@@ -234,7 +240,7 @@ module _ (t : Tables) where
         trees = (refl, refl);
         opens = (refl, refl);
         locks = (refl, refl);
-        sizes = refl;
+        files = refl;
         no-number = refl;
       }
 
@@ -251,7 +257,8 @@ module _ (t : Tables) where
       let only = loadFile-records t file bytes memory e in
       record {
         its-size = loadFile-size t file bytes memory e shaped;
-        other-sizes = λ i different. ap (λ (f : File). f .size) (loadFile-others t file bytes memory e i different);
+        its-changes = loadFile-changes t file bytes memory e shaped;
+        other-files = loadFile-others t file bytes memory e;
         file-bytes = loadMemory-done t file bytes memory e;
         sessions = (ap (λ (u : Tables). u .nsessions) only, ap (λ (u : Tables). u .sessions) only);
         trees = (ap (λ (u : Tables). u .ntrees) only, ap (λ (u : Tables). u .trees) only);

@@ -4,6 +4,7 @@ pub mod Distinct
 pub mod CataloguePlain
 pub mod SoundPlain
 pub mod HostReasons
+pub mod AskUnchanged
 pub mod LoadBytes
 pub mod RemovalPlain
 pub mod HostFrames

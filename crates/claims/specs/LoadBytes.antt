@@ -3,17 +3,18 @@
 use mathlib.Core.Path.{_≡_, sym, ap, _∙_}
 use mathlib.Core.List.{List, _++_}
 use Prim.Native.Nat.{ℕ, _+_, _-_, _*_, _≤_, _<_}
-use lib.ListN.{length, getD, set, replicate, length-append, length-replicate, getD-replicate, List·getD-append}
+use lib.ListN.{length, getD, replicate, length-append, length-replicate, getD-replicate, List·getD-append}
 use lib.Seq.{getD-append-add, getD-set-same, getD-set-other}
 use borrow.Author.Tests.{eq-eqb}
 use native.Mathlib.Omega.{arith}
 use Rattle.lists.specs.PutLaws.{length-put, put-front, put-inside, put-behind}
 use Rattle.lists.specs.Put.{put}
+use Rattle.records.specs.Change.{raised, changesOf, fileAfter, withChange}
 use Rattle.records.specs.Empty.{noFile}
 use Rattle.records.specs.declared.File.{File}
 use Rattle.records.specs.declared.Tables.{Tables}
 use Rattle.records.specs.Held.{withFiles}
-use Rattle.host.specs.HostCall.{done, loadNumber, withSize, loadFile, loadMemory}
+use Rattle.host.specs.HostCall.{done, loadNumber, loadFile, loadMemory}
 use Rattle.invariants.specs.Shaped.{Shaped}
 use Rattle.invariants.specs.HostCases.{LoadPassed, load-passed}
 use Rattle.claims.specs.HostAnswer.{loadFile-number}
@@ -80,8 +81,8 @@ module _ (t : Tables) (file : ℕ) (bytes memory : List ℕ) (e : loadFile t fil
         behind = λ k h. put-behind memory (padded bytes) (file * 4096) memory-fits k 0 (let m : file * 4096 + length (padded bytes) ≤ k = omega arith in m);
       })
 
-  tables-loaded : loadFile t file bytes memory .tables ≡ withFiles t (set (t .files) file (record { size = length bytes }))
-  unfolding loadFile done withSize
+  tables-loaded : loadFile t file bytes memory .tables ≡ withChange t file (length bytes)
+  unfolding loadFile done
   tables-loaded = rw (eq-eqb (loadNumber t file (length bytes) (length memory)) 0 (sym (loadFile-number t file bytes memory) ∙ e))
 
   -- "A load sets the size"
@@ -93,13 +94,24 @@ module _ (t : Tables) (file : ℕ) (bytes memory : List ℕ) (e : loadFile t fil
       let full = s .files16 in
       let inside : file < length (t .files) = omega arith in
       ap (λ (u : Tables). getD (u .files) file noFile .size) tables-loaded
-      ∙ ap (λ (f : File). f .size) (getD-set-same (t .files) file (record { size = length bytes }) noFile inside)
+      ∙ ap (λ (f : File). f .size) (getD-set-same (t .files) file (fileAfter (getD (t .files) file noFile) (length bytes)) noFile inside)
+
+  -- and raises the change number (document 02, CR 8)
+  pub loadFile-changes : Shaped t → changesOf (loadFile t file bytes memory .tables) file ≡ raised (changesOf t file)
+  unfolding withFiles changesOf
+  loadFile-changes s =
+      let p = passed in
+      let few = p .file15 in
+      let full = s .files16 in
+      let inside : file < length (t .files) = omega arith in
+      ap (λ (u : Tables). getD (u .files) file noFile .changes) tables-loaded
+      ∙ ap (λ (f : File). f .changes) (getD-set-same (t .files) file (fileAfter (getD (t .files) file noFile) (length bytes)) noFile inside)
 
   -- and no other
   pub loadFile-others : (i : ℕ) → (i ≡ file → ⊥) → getD (loadFile t file bytes memory .tables .files) i noFile ≡ getD (t .files) i noFile
   unfolding withFiles
   loadFile-others i different =
-      ap (λ (u : Tables). getD (u .files) i noFile) tables-loaded ∙ getD-set-other (t .files) file i (record { size = length bytes }) noFile different
+      ap (λ (u : Tables). getD (u .files) i noFile) tables-loaded ∙ getD-set-other (t .files) file i (fileAfter (getD (t .files) file noFile) (length bytes)) noFile different
 
   -- nor any other table
   pub loadFile-records : loadFile t file bytes memory .tables ≡ withFiles t (loadFile t file bytes memory .tables .files)

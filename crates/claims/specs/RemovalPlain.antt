@@ -1,6 +1,6 @@
 -- What is left of sound tables after each removal, in plain words (document 01, "Locks, reads and writes", last paragraph:
 -- "CLOSE removes the open and its locks. TREE_DISCONNECT removes the tree and its opens, LOGOFF the session and its trees,
--- PROCESS_EXIT the opens of that UID and process, each with what hangs on them"); the files' sizes stand as before. Assumes nothing.
+-- PROCESS_EXIT the opens of that UID and process, each with what hangs on them"); the files stand as before. Assumes nothing.
 use mathlib.Core.Path.{_≡_, refl, sym, ap, _∙_}
 use mathlib.Core.Bool.{Bool, true, false, not, _&&_, and-true}
 use mathlib.Core.List.{List, map, List·Memᴰ as In}

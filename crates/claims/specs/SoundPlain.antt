@@ -1,5 +1,5 @@
 -- Sound tables in plain words: document 01, "Tables and room", second paragraph, and document 02, CR 6 ("Soundness gains sharing codes and the
--- catalogue's rules"), clause by clause, and that `sound` says just that. Assumes nothing.
+-- catalogue's rules") and CR 8 ("By soundness an open's remembered number doesn't exceed its file's"), clause by clause, and that `sound` says just that. Assumes nothing.
 use mathlib.Core.Path.{_≡_, sym, ap, _∙_}
 use mathlib.Core.Logic.{inl, inr, _↔_}
 use mathlib.Core.Bool.{Bool, true, false, not, _&&_}
@@ -15,6 +15,7 @@ use Rattle.lists.specs.Truth.{both-hold, hold-both, either-holds, holds-second,
 use Rattle.lists.specs.Members.{all-each, each-all, any-one, one-any}
 use Rattle.lists.specs.PairLaws.{tails-pairs, pairs-tails, place-in}
 use Rattle.locks.specs.Range.{Overlap, overlaps, overlap-iff, overlaps-sym, passesEnd}
+use Rattle.records.specs.Change.{LARGEST, changesOf}
 use Rattle.records.specs.Empty.{noLock}
 use Rattle.records.specs.declared.Session.{Session}
 use Rattle.records.specs.declared.Tree.{Tree}
@@ -26,7 +27,7 @@ use Rattle.records.specs.Held.{sessionsOf, treesOf, opensOf, locksOf}
 use Rattle.numbers.specs.Number.{contains, numbered, numberOk}
 use Rattle.numbers.specs.Column.{uidOf, tidOf, fidOf}
 use Rattle.soundness.specs.File.{fileOf}
-use Rattle.soundness.specs.Sound.{sharingOk, sound, fileOk, treeOk, permits, holdsOpen, openOk, lockOk, agree, agreeAll}
+use Rattle.soundness.specs.Sound.{sharingOk, sound, fileOk, treeOk, permits, holdsOpen, openOk, lockOk, agree, agreeAll, seenOk}
 use Rattle.invariants.specs.Numbered.{number-says, named-one, one-named}
 use Rattle.soundness.specs.SoundLaws.{Room}
 use Rattle.invariants.specs.SoundParts.{Sound, sound-says, sound-ok}
@@ -59,6 +60,8 @@ pub record PlainSound (t : Tables) : Type 0 where
   -- "counts and file sizes are within these limits"
   pub counts : Room (t .nsessions) (t .ntrees) (t .nopens) (t .nlocks)
   pub sizes : (f : File) → In f (t .files) → f .size ≤ 4096
+  -- document 02, CR 8: "a 32-bit change number"
+  pub changes : (f : File) → In f (t .files) → f .changes < 2 ^ 32
   -- "numbers are distinct and lie in 1 to 16, 1 to 32 and 1 to 64"
   pub uids : Numbers 16 (map uidOf (sessionsOf t))
   pub tids : Numbers 32 (map tidOf (treesOf t))
@@ -77,6 +80,8 @@ pub record PlainSound (t : Tables) : Type 0 where
   pub sharings : (o : Open) → In o (opensOf t) → (1 ≤ o .sharing) × (o .sharing ≤ 4)
   -- "and the catalogue's rules": up to 16 names, each of 1 to 12 bytes, none of them 0, with a file of 0 to 15; none doubled
   pub catalogue : PlainCatalogue (t .names) (t .nnames)
+  -- document 02, CR 8: "an open's remembered number doesn't exceed its file's"
+  pub seen : (o : Open) → In o (opensOf t) → o .seen ≤ changesOf t (o .file)
   -- "no lock passes 2^64"
   pub lock-ends : (l : Lock) → In l (locksOf t) → l .offset + l .length ≤ 2 ^ 64
   -- "two locks of one file that overlap are both shared"
@@ -258,11 +263,12 @@ module _ (t : Tables) (s : Sound t) where
       (u .0, u .1, u .2 ∙ r .3)
 
   plain : PlainSound t
-  unfolding fileOk
+  unfolding fileOk seenOk changesOf
   plain =
       record {
         counts = s .room;
-        sizes = λ f m. leb-true (f .size) 4096 (all-each fileOk m (s .sizes));
+        sizes = λ f m. leb-true (f .size) 4096 (both-hold (leb (f .size) 4096) (leb (f .changes) LARGEST) (all-each fileOk m (s .sizes)) .0);
+        changes = λ f m. let most = leb-true (f .changes) LARGEST (both-hold (leb (f .size) 4096) (leb (f .changes) LARGEST) (all-each fileOk m (s .sizes)) .1) in omega arith;
         uids = numbered-says 16 (map uidOf (sessionsOf t)) (s .records .uids);
         tids = numbered-says 32 (map tidOf (treesOf t)) (s .records .tids);
         fids = numbered-says 64 (map fidOf (opensOf t)) (s .records .fids);
@@ -275,6 +281,7 @@ module _ (t : Tables) (s : Sound t) where
         files = λ o m. leb-true (o .file) 15 (plain-open o m .file);
         sharings = λ o m. sharing-says (o .sharing) (plain-open o m .sharing);
         catalogue = catalogue-says (t .names) (t .nnames) (s .catalogue);
+        seen = λ o m. leb-true (o .seen) (changesOf t (o .file)) (all-each (seenOk (t .files)) m (s .seen));
         lock-ends = λ l m. ends-says (l .offset) (l .length) (plain-lock l m .ends);
         lock-pairs = pairs-says (opensOf t) (s .records .fids) (locksOf t) (s .locks .agreed);
       }
@@ -304,11 +311,13 @@ module _ (t : Tables) (p : PlainSound t) where
   computed-fids = numbered-ok 64 (map fidOf (opensOf t)) (p .fids)
 
   computed : Sound t
-  unfolding fileOk
+  unfolding fileOk seenOk changesOf
   computed =
       record {
         room = p .counts;
-        sizes = each-all fileOk (t .files) (λ f m. le-leb (f .size) 4096 (p .sizes f m));
+        sizes = each-all fileOk (t .files)
+            (λ f m. let few = p .changes f m in
+            hold-both (leb (f .size) 4096) (leb (f .changes) LARGEST) (le-leb (f .size) 4096 (p .sizes f m)) (le-leb (f .changes) LARGEST (omega arith)));
         records = record {
           uids = numbered-ok 16 (map uidOf (sessionsOf t)) (p .uids);
           tids = numbered-ok 32 (map tidOf (treesOf t)) (p .tids);
@@ -321,6 +330,7 @@ module _ (t : Tables) (p : PlainSound t) where
           agreed = pairs-ok (opensOf t) computed-fids (locksOf t) (p .lock-open) (p .lock-pairs);
         };
         catalogue = catalogue-ok (t .names) (t .nnames) (p .catalogue);
+        seen = each-all (seenOk (t .files)) (opensOf t) (λ o m. le-leb (o .seen) (changesOf t (o .file)) (p .seen o m));
       }
 
 -- "Tables are sound if ..": the computed test holds of just the tables that the words describe

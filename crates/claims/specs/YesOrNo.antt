@@ -14,6 +14,7 @@ use Rattle.lists.specs.declared.Found.the-variants.{At, Nothing}
 use Rattle.records.specs.declared.Lock.{Lock}
 use Rattle.records.specs.declared.Open.{Open}
 use Rattle.records.specs.declared.Tables.{Tables}
+use Rattle.records.specs.Change.{changesOf, withRead}
 use Rattle.records.specs.Empty.{noOpen}
 use Rattle.records.specs.Held.{opensOf, locksOf, withLocks}
 use Rattle.locks.specs.Answer.{answers}
@@ -37,7 +38,7 @@ use Rattle.chain.specs.declared.block.Body.the-variants.{Locking as LockingBody
 use Rattle.chain.specs.declared.block.Block.{Block}
 use Rattle.message.specs.Caller.{callerOf}
 use Rattle.message.specs.declared.caller.Caller.{Caller}
-use Rattle.message.specs.Contents.{sizeOf, readBytes, grown, written, withSize, resized}
+use Rattle.message.specs.Contents.{sizeOf, readBytes, grown, written, resized, sizedTo}
 use Rattle.message.specs.Refusal.{status, statusOf}
 use Rattle.message.specs.declared.refusal.Status.{Status}
 use Rattle.message.specs.Command.{Said, locked, read, wrote, plain, coreWrote, Given, refused, done, isOpen, withOpen, servedType, requestOf, askBy, endsPast, coreSaid, rangeBy, oneRange, betweenSizes, perform}
@@ -108,7 +109,7 @@ readBefore c t memory f =
     (λ o.
     cond (eqb (o .access) 1) (refusedWith (status 1 5))
     (unlessConflict t (askBy c (f .fid) (f .offset) (f .max) Reading) (locksOf t)
-    (did t memory (read (readBytes t memory (o .file) (f .offset) (f .max))))))
+    (did (withRead t (f .fid) (changesOf t (o .file))) memory (read (readBytes t memory (o .file) (f .offset) (f .max))))))
 
 -- "A write is refused 1/33 exactly if any lock overlaps it save the writer's own exclusive ones." "or a write on access 0"; "class 3, code 39, write
 -- would end past 4,096"
@@ -139,7 +140,7 @@ rangeBefore c t memory f unlocks locks = coreGave (lockingBefore c t memory (one
 unfoldable pub setSizeBefore : Caller → Tables → List ℕ → WriteFields → Gave
 setSizeBefore c t memory f =
     writingBefore c t (f .fid) (λ o. betweenSizes c (f .fid) (sizeOf t (o .file)) (f .offset)) (ltb 4096 (f .offset))
-    (λ o. did (withSize t (o .file) (f .offset)) (grown t memory (o .file) (f .offset)) (coreWrote 0))
+    (λ o. did (sizedTo t (o .file) (f .offset)) (grown t memory (o .file) (f .offset)) (coreWrote 0))
 
 unfoldable pub coreWriteBefore : Caller → Tables → List ℕ → WriteFields → List ℕ → Gave
 coreWriteBefore c t memory f bytes = cond (eqb (f .count) 0) (setSizeBefore c t memory f) (coreGave (writeBefore c t memory f bytes))
