@@ -38,6 +38,7 @@ use Rattle.invariants.specs.Sound.{Good, size-most}
 use Rattle.invariants.specs.Fit.{Fit, take-message-good}
 use Rattle.demands.specs.StatusRead.{statusRead}
 use Rattle.invariants.specs.JustOpenedLaws.{meant-nobody}
+use Rattle.demands.specs.Remembering.{OnlyRemembers, only-remembers}
 use Rattle.demands.specs.RefusedCall.{gives, Untouched}
 use Rattle.demands.specs.Admitted.{Admitted}
 use Rattle.demands.specs.FileCommands.{Yields, WroteFile, read-left, read-yields, write-says, write-leaves, write-nothing, as-core, core-read-left, core-read-yields, core-write-leaves, core-write-says, data-counted, core-counted}
@@ -69,8 +70,8 @@ pub record ReadCall (c : Caller) (t : Tables) (f : ReadFields) (memory : List �
   pub offset-said : le16At (call .room) 45 ≡ 59
   -- and the reply ends with them
   pub reply-ends : call .length ≡ 59 + length bytes
-  -- nothing is changed
-  pub unchanged : Untouched t memory call
+  -- nothing is changed but what the open remembers
+  pub leaves : OnlyRemembers t through memory call
 
 -- a core READ through an open that the caller may use
 pub record CoreReadCall (c : Caller) (t : Tables) (f : ReadFields) (memory : List ℕ) (call : Taken) : Type 0 where
@@ -81,7 +82,7 @@ pub record CoreReadCall (c : Caller) (t : Tables) (f : ReadFields) (memory : Lis
   -- they stand in its reply block, and the reply ends with them
   pub in-reply : CoreReadBlock bytes (call .room)
   pub reply-ends : call .length ≡ 48 + length bytes
-  pub unchanged : Untouched t memory call
+  pub leaves : OnlyRemembers t through memory call
 
 -- ---- the command behind them
 
@@ -201,7 +202,7 @@ module _ (connection : ℕ) (s : List ℕ) (b : Block) (e : blocks s ≡ some (b
         length-said = rw r (read-length s long room bytes few);
         offset-said = rw r (read-offset s long room bytes);
         reply-ends = ends ∙ (let n : 32 + (27 + length bytes) ≡ 59 + length bytes = omega arith in n);
-        unchanged = record { same-tables = l .0; same-memory = l .1 };
+        leaves = only-remembers t (o .0) memory call (o .1 .opened .listed) (o .1 .opened .of-fid) (l .0) (l .1);
       }
 
   -- ---- the core READ and WRITE (document 02, CR 3)
@@ -231,7 +232,7 @@ module _ (connection : ℕ) (s : List ℕ) (b : Block) (e : blocks s ≡ some (b
         yields = y;
         in-reply = rw r (core-read-block s long room bytes few);
         reply-ends = ends ∙ (let n : 32 + (16 + length bytes) ≡ 48 + length bytes = omega arith in n);
-        unchanged = record { same-tables = l .0; same-memory = l .1 };
+        leaves = only-remembers t (o .0) memory call (o .1 .opened .listed) (o .1 .opened .of-fid) (l .0) (l .1);
       }
 
   pub core-filled : (f : WriteFields) → b .body ≡ CoreWriteBody f → length (drop 3 (areaOf s b)) ≡ f .count

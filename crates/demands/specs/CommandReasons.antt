@@ -19,6 +19,7 @@ use Rattle.lists.specs.declared.Found.the-variants.{At, Nothing}
 use Rattle.records.specs.declared.Open.{Open}
 use Rattle.records.specs.declared.Lock.{Lock}
 use Rattle.records.specs.declared.Tables.{Tables}
+use Rattle.records.specs.Change.{changesOf, withRead}
 use Rattle.records.specs.Empty.{noOpen}
 use Rattle.records.specs.Held.{opensOf, locksOf}
 use Rattle.locks.specs.Wire.{rangeSize, rangeAt, rangesAt, smallForm}
@@ -223,7 +224,7 @@ module _ (c : Caller) (t : Tables) (memory : List ℕ) (ok : sound t ≡ true) w
     read-open = getD (opensOf t) k noOpen
 
     abbrev read-end : Given
-    read-end = done t memory (read (readBytes t memory (read-open .file) (f .offset) (f .max)))
+    read-end = done (withRead t (f .fid) (changesOf t (read-open .file))) memory (read (readBytes t memory (read-open .file) (f .offset) (f .max)))
 
     read-refused : eqb (read-open .access) 1 ≡ true → doRead c t memory f ≡ refused NoAccess
     unfolding doRead

@@ -22,6 +22,7 @@ use Rattle.message.specs.Refusal.{status}
 use Rattle.message.specs.Contents.{sizeOf}
 use Rattle.message.specs.Message.{areaOf, dataOf, Taken, take-message}
 use Rattle.demands.specs.StatusRead.{statusRead}
+use Rattle.demands.specs.Remembering.{OnlyRemembers}
 use Rattle.demands.specs.RefusedCall.{Untouched}
 use Rattle.demands.specs.Admitted.{Admitted}
 use Rattle.demands.specs.FileCommands.{WroteFile, write-leaves, write-nothing}
@@ -45,8 +46,8 @@ pub record ReadDone (connection : ℕ) (s : List ℕ) (t : Tables) (memory : Lis
   pub length-said : le16At (call .room) 43 ≡ count
   pub offset-said : le16At (call .room) 45 ≡ 59
   pub reply-ends : call .length ≡ 59 + count
-  -- nothing is changed
-  pub unchanged : Untouched t memory call
+  -- nothing is changed but what the open remembers
+  pub leaves : OnlyRemembers t through memory call
 
 -- a WRITE through an open that the caller may use
 pub record WriteDone (connection : ℕ) (s : List ℕ) (t : Tables) (memory : List ℕ) (call : Taken) : Type 0 where
@@ -79,8 +80,8 @@ pub record CoreReadDone (connection : ℕ) (s : List ℕ) (t : Tables) (memory :
   pub mark : byteAt (call .room) 45 ≡ 0x01
   pub length-said : le16At (call .room) 46 ≡ count
   pub reply-ends : call .length ≡ 48 + count
-  -- nothing is changed
-  pub unchanged : Untouched t memory call
+  -- nothing is changed but what the open remembers
+  pub leaves : OnlyRemembers t through memory call
 
 -- a core WRITE of some bytes; count 0 is SetSize.antt
 pub record CoreWriteDone (connection : ℕ) (s : List ℕ) (t : Tables) (memory : List ℕ) (call : Taken) : Type 0 where
@@ -125,7 +126,7 @@ module _ (connection : ℕ) (s : List ℕ) {span : Span} (r : Reading s (span �
         length-said = d .length-said;
         offset-said = d .offset-said;
         reply-ends = d .reply-ends;
-        unchanged = d .unchanged;
+        leaves = d .leaves;
       }
 
   -- "Bytes between the old size and the write become 0, and a size below the write's end becomes that end"
@@ -179,7 +180,7 @@ module _ (connection : ℕ) (s : List ℕ) {span : Span} (r : Reading s (span �
         mark = r .mark;
         length-said = r .data-length;
         reply-ends = d .reply-ends;
-        unchanged = d .unchanged;
+        leaves = d .leaves;
       }
 
   pub core-write-reading : headerCommand s ≡ CORE-WRITE → 1 ≤ coreCount s FIRST → CoreWriteDone connection s t memory call

@@ -2,19 +2,21 @@
 -- it are those of the core's call with the same arguments, on the tables that the words hold; and what a call that is done leaves in
 -- them is what `HostFrames.antt` of `claims` says. From the equations of the contracts. Assumes nothing.
 use mathlib.Core.Path.{_≡_, refl, sym, ap, _∙_}
-use mathlib.Core.Logic.{_⊎_, ⊎-elim}
+use mathlib.Core.Logic.{_⊎_, ⊎-elim, _↔_}
 use Prim.Native.Nat.{ℕ, _<_, _≤_}
 use native.Mathlib.Omega.{arith}
 use native.Mathlib.Decide.{ℕ-discrete}
 use mathlib.Core.Bool.{true, false, _&&_}
-use mathlib.Core.List.{List, [], _∷_}
+use mathlib.Core.List.{List, [], _∷_, List·Memᴰ as In}
 use lib.ListN.{length}
 use lib.Dec.{eqb}
 use borrow.Author.Tests.{eqb-true, eq-eqb}
 use Rattle.lists.specs.Truth.{decided, both-hold, hold-both, fails, not-decided-twice}
+use Rattle.records.specs.declared.Open.{Open}
+use Rattle.records.specs.Held.{opensOf}
 use Rattle.host.specs.declared.answer.Returned.{Returned}
 use Rattle.soundness.specs.Sound.{sound}
-use Rattle.host.specs.HostCall.{refused, done, addSession, addTree, addOpen, loadFile, loadMemory, dropConnection, setCatalogue}
+use Rattle.host.specs.HostCall.{refused, done, addSession, addTree, addOpen, loadFile, loadMemory, dropConnection, setCatalogue, askUnchanged}
 use Rattle.locks.specs.declared.types.Holder.{Holder}
 use Rattle.message.specs.declared.refusal.HeldBy.{HeldBy}
 use Rattle.message.specs.declared.refusal.HeldBy.the-variants.{Nobody, Holder as held-by}
@@ -22,10 +24,11 @@ use Rattle.message.specs.Message.{Taken, notTaken, take-message}
 use Rattle.invariants.specs.GivenCases.{cond-case}
 use Rattle.invariants.specs.HostCases.{loadFile-either, dropConnection-either}
 use Rattle.tables.specs.Words.{word, nameArray, nameLimits, tableFits, inUseFit, tablesOf}
-use Rattle.boundary.specs.Boundary.{ready, ForNext, numberOf, isDone, idAfter, sessionAdded, treeAdded, openAdded, connectionDropped, fileLoaded, loadNumberOf, memoryAfter, catalogueSet, wrongRoom, messageTaken, lengthAfter, holderWords, holderAfter}
+use Rattle.boundary.specs.Boundary.{ready, ForNext, numberOf, isDone, idAfter, sessionAdded, treeAdded, openAdded, connectionDropped, fileLoaded, loadNumberOf, memoryAfter, catalogueSet, unchangedAsked, wrongRoom, messageTaken, lengthAfter, holderWords, holderAfter}
 use Rattle.boundary.specs.BoundaryLaws.{words-shaped, wrong-number, wrong-memory, unfit-memory, fit-memory, set-core, set-unsound, set-no-bytes, set-done-fits, set-no-number}
 use Rattle.boundary.specs.MessageLaws.{room-short, memory-wrong, room-right, row-room, message-fit, message-unfit, length-stands, length-given, holder-stands, holder-given}
 use Rattle.claims.specs.HostAnswer.{loadMemory-refused}
+use Rattle.claims.specs.AskUnchanged.{UpToDate, ask-stands, ask-sound, answer-of}
 use Rattle.claims.specs.HostFrames.{SessionAdded, TreeAdded, OpenAdded, FileLoaded, ConnectionDropped, CatalogueSet, addSession-frame, addTree-frame, addOpen-frame, loadFile-frame, dropConnection-frame, setCatalogue-frame}
 use Rattle.demands.specs.RoomKept.{refused-writes-nothing}
 
@@ -68,6 +71,15 @@ pub record CatalogueSeen (w given : List ℕ) (r : ℕ) (out : List ℕ) : Type 
   pub left : r ≡ 0 → CatalogueSet (tablesOf w) (nameArray given) (word given 0) (readOff r 0 out)
   pub kept : (r ≡ 0 → ⊥) → out ≡ w
   pub again : ready w ≡ true → ready out ≡ true
+
+-- the question whether a file has changed (document 02, CR 8): the tables are lent for reading only. The answer is 1 for "unchanged", 0 for "changed"
+pub record UnchangedSeen (w : List ℕ) (fid answer r after : ℕ) : Type 0 where
+  pub number : inUseFit w ≡ true → r ≡ askUnchanged (tablesOf w) fid .number
+  pub unfit : inUseFit w ≡ false → r ≡ 4
+  pub same : r ≡ 0 → after ≡ askUnchanged (tablesOf w) fid .id
+  -- so 1 exactly if the open of that FID has read, the numbers are equal and below the largest
+  pub means : r ≡ 0 → (o : Open) → In o (opensOf (tablesOf w)) → o .fid ≡ fid → (after ≡ 1) ↔ UpToDate (tablesOf w) o
+  pub kept : (r ≡ 0 → ⊥) → after ≡ answer
 
 -- what the host reads off after a message, with the holder h
 abbrev pub readTaken : ℕ → ℕ → HeldBy → List ℕ → List ℕ → List ℕ → Taken
@@ -129,6 +141,21 @@ module _ (w : List ℕ) (id : ℕ) (a : Returned) (r : ℕ) (out : List ℕ) (af
         kept = λ n. (next .kept n, refused-given n);
         again = next .again;
       }
+
+-- `gateway_unchanged`
+pub unchanged-seen : (w : List ℕ) (r fid answer after : ℕ) → r ≡ numberOf w (unchangedAsked w fid) → after ≡ idAfter answer w (unchangedAsked w fid) → UnchangedSeen w fid answer r after
+unfolding unchangedAsked
+unchanged-seen w r fid answer after number given =
+    let next : ForNext w w r (askUnchanged (tablesOf w) fid .tables) = record { held = λ _. sym (ask-stands (tablesOf w) fid); kept = λ _. refl; again = λ e. e } in
+    let same = done-given w answer _ r w after number given next in
+    let sound-words : r ≡ 0 → sound (tablesOf w) ≡ true = λ z. ask-sound (tablesOf w) fid (sym (number-fit w answer _ r w after number given next (done-fits w answer _ r w after number given next z)) ∙ z) in
+    record {
+      number = number-fit w answer _ r w after number given next;
+      unfit = number-unfit w answer _ r w after number given next;
+      same = same;
+      means = λ z o m e. rw (same z, ← e) (answer-of (tablesOf w) o (sound-words z) m);
+      kept = refused-given w answer _ r w after number given next;
+    }
 
 module _ (w : List ℕ) (r : ℕ) (out : List ℕ) where
   -- `gateway_add_session`

@@ -7,13 +7,15 @@ use mathlib.Core.Bool.{true}
 use mathlib.Core.List.{List}
 use Prim.Native.Nat.{ℕ, min, max, _+_, _-_, _*_, _≤_, _<_}
 use lib.ListN.{length, drop, getD, replicate, length-take, length-drop, length-replicate, getD-replicate}
-use lib.Seq.{length-take-le, getD-take, getD-drop, getD-set-same, getD-set-other, set-getD, ext-getD}
+use lib.Seq.{length-take-le, getD-take, getD-drop, getD-set-same, getD-set-other, ext-getD}
 use lib.Dec.{ltb}
 use borrow.Author.Tests.{ltb-true, ltb-false, eq-eqb, ne-eqb}
+use native.Mathlib.Decide.{ℕ-discrete}
 use native.Mathlib.Omega.{arith}
 use Rattle.lists.specs.Truth.{decided}
 use Rattle.lists.specs.Put.{put}
 use Rattle.lists.specs.PutLaws.{length-put, put-front, put-inside, put-behind}
+use Rattle.records.specs.Change.{raised, changesOf, fileAfter, withChange}
 use Rattle.records.specs.Empty.{noFile}
 use Rattle.records.specs.declared.File.{File}
 use Rattle.records.specs.declared.Tables.{Tables}
@@ -21,7 +23,7 @@ use Rattle.records.specs.Held.{withFiles}
 use Rattle.soundness.specs.Sound.{sound}
 use Rattle.invariants.specs.SoundParts.{sound-says}
 use Rattle.invariants.specs.Shaped.{Shaped}
-use Rattle.message.specs.Contents.{sizeOf, contents, readBytes, grown, written, withSize, resized}
+use Rattle.message.specs.Contents.{sizeOf, contents, readBytes, grown, written, resized, sizedTo}
 use Rattle.invariants.specs.Sound.{size-most}
 
 -- ---- the bytes of a file
@@ -214,48 +216,80 @@ pub resized-nothing : (t : Tables) (file offset : ℕ) → resized t file offset
 unfolding resized
 resized-nothing t file offset = refl
 
--- ---- the size
+-- ---- the size and the change number
 
 module _ (t : Tables) (file size : ℕ) where
-  -- a file's new size
-  pub sized-size : Shaped t → file ≤ 15 → sizeOf (withSize t file size) file ≡ size
-  unfolding sizeOf withFiles
-  sized-size s low =
+  -- a file changed: its new size, and its number raised (document 02, CR 8)
+  pub change-here : Shaped t → file ≤ 15 → getD (withChange t file size .files) file noFile ≡ record { size = size; changes = raised (changesOf t file) }
+  unfolding withFiles changesOf
+  change-here s low =
       let all16 = s .files16 in
       let inside : file < length (t .files) = omega arith in
-      ap (λ (f : File). f .size) (getD-set-same (t .files) file (record { size = size }) noFile inside)
+      getD-set-same (t .files) file (fileAfter (getD (t .files) file noFile) size) noFile inside
 
   -- no other is changed
-  pub sized-others : (i : ℕ) → (i ≡ file → ⊥) → sizeOf (withSize t file size) i ≡ sizeOf t i
-  unfolding sizeOf withFiles
-  sized-others i different = ap (λ (f : File). f .size) (getD-set-other (t .files) file i (record { size = size }) noFile different)
+  pub change-others : (i : ℕ) → (i ≡ file → ⊥) → getD (withChange t file size .files) i noFile ≡ getD (t .files) i noFile
+  unfolding withFiles
+  change-others i different = getD-set-other (t .files) file i (fileAfter (getD (t .files) file noFile) size) noFile different
 
   -- nor any other table
-  pub sized-records : withSize t file size ≡ withFiles t (withSize t file size .files)
+  pub change-records : withChange t file size ≡ withFiles t (withChange t file size .files)
   unfolding withFiles
-  sized-records = refl
+  change-records = refl
 
--- its old size leaves the tables as they stand
-pub sized-same : (t : Tables) (file : ℕ) → withSize t file (sizeOf t file) ≡ t
-unfolding sizeOf withFiles
-sized-same t file = ap (withFiles t) (set-getD (t .files) file noFile)
+  -- a size set: the file is changed where that alters the size
+  pub sized-changes : (size ≡ sizeOf t file → ⊥) → sizedTo t file size ≡ withChange t file size
+  unfolding sizedTo
+  sized-changes n = rw (ne-eqb (sizeOf t file) size (λ e. n (sym e)))
+
+  pub sized-same : size ≡ sizeOf t file → sizedTo t file size ≡ t
+  unfolding sizedTo
+  sized-same e = rw (eq-eqb (sizeOf t file) size (sym e))
+
+  pub sized-size : Shaped t → file ≤ 15 → sizeOf (sizedTo t file size) file ≡ size
+  unfolding sizeOf
+  sized-size s low =
+      elim (ℕ-discrete size (sizeOf t file)) [
+        | yes e ↦ ap (λ (u : Tables). getD (u .files) file noFile .size) (sized-same e) ∙ sym e
+        | no n ↦ ap (λ (u : Tables). getD (u .files) file noFile .size) (sized-changes n) ∙ ap (λ (f : File). f .size) (change-here s low)
+      ]
+
+  pub sized-others : (i : ℕ) → (i ≡ file → ⊥) → getD (sizedTo t file size .files) i noFile ≡ getD (t .files) i noFile
+  sized-others i different =
+      elim (ℕ-discrete size (sizeOf t file)) [
+        | yes e ↦ ap (λ (u : Tables). getD (u .files) i noFile) (sized-same e)
+        | no n ↦ ap (λ (u : Tables). getD (u .files) i noFile) (sized-changes n) ∙ change-others i different
+      ]
+
+  pub sized-records : sizedTo t file size ≡ withFiles t (sizedTo t file size .files)
+  unfolding withFiles
+  sized-records =
+      elim (ℕ-discrete size (sizeOf t file)) [
+        | yes e ↦ sized-same e ∙ ap (λ (u : Tables). withFiles t (u .files)) (sym (sized-same e))
+        | no n ↦ sized-changes n ∙ ap (λ (u : Tables). withFiles t (u .files)) (sym (sized-changes n))
+      ]
 
 module _ (t : Tables) (file offset count : ℕ) (some-bytes : 1 ≤ count) where
   -- "and a size below the write's end becomes that end"
   abbrev end : ℕ
   end = max (sizeOf t file) (offset + count)
 
-  resized-set : resized t file offset count ≡ withSize t file end
+  pub resized-changes : resized t file offset count ≡ withChange t file (max (sizeOf t file) (offset + count))
   unfolding resized
-  resized-set = rw (ne-eqb count 0 (λ e. omega arith))
+  resized-changes = rw (ne-eqb count 0 (λ e. omega arith))
 
   pub resized-size : Shaped t → file ≤ 15 → sizeOf (resized t file offset count) file ≡ max (sizeOf t file) (offset + count)
-  resized-size s low = rw resized-set (sized-size t file end s low)
+  unfolding sizeOf
+  resized-size s low = rw resized-changes (ap (λ (f : File). f .size) (change-here t file end s low))
+
+  pub resized-number : Shaped t → file ≤ 15 → changesOf (resized t file offset count) file ≡ raised (changesOf t file)
+  unfolding changesOf
+  resized-number s low = rw resized-changes (ap (λ (f : File). f .changes) (change-here t file end s low))
 
   -- and no other
-  pub resized-others : (i : ℕ) → (i ≡ file → ⊥) → sizeOf (resized t file offset count) i ≡ sizeOf t i
-  resized-others i different = rw resized-set (sized-others t file end i different)
+  pub resized-others : (i : ℕ) → (i ≡ file → ⊥) → getD (resized t file offset count .files) i noFile ≡ getD (t .files) i noFile
+  resized-others i different = rw resized-changes (change-others t file end i different)
 
   -- nor any other table
   pub resized-records : resized t file offset count ≡ withFiles t (resized t file offset count .files)
-  resized-records = rw resized-set (sized-records t file end)
+  resized-records = rw resized-changes (change-records t file end)

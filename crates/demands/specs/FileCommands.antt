@@ -14,7 +14,8 @@ use Rattle.lists.specs.declared.Found.{Found}
 use Rattle.lists.specs.declared.Found.the-variants.{At, Nothing}
 use Rattle.records.specs.declared.Open.{Open}
 use Rattle.records.specs.declared.Tables.{Tables}
-use Rattle.records.specs.Empty.{noOpen}
+use Rattle.records.specs.Change.{raised, changesOf, withRead}
+use Rattle.records.specs.Empty.{noOpen, noFile}
 use Rattle.records.specs.Held.{opensOf, withFiles}
 use Rattle.locks.specs.declared.types.Ask.{Ask}
 use Rattle.claims.specs.SoundPlain.{sound-plain}
@@ -30,14 +31,14 @@ use Rattle.invariants.specs.BlockParse.{bodyAt, blockAt}
 use Rattle.message.specs.declared.caller.Caller.{Caller}
 use Rattle.message.specs.declared.refusal.Refusal.{Refusal}
 use Rattle.message.specs.declared.refusal.Refusal.the-variants.{NoAccess, NoSpace}
-use Rattle.message.specs.Contents.{sizeOf, readBytes, grown, written, withSize, resized}
+use Rattle.message.specs.Contents.{sizeOf, readBytes, grown, written, resized, sizedTo}
 use Rattle.message.specs.Command.{Given, Said, refused, done, read, wrote, coreRead, coreWrote, unlessBarred, doRead, writing, endsPast, doWrite, coreSaid, asCore, doSetSize, doCoreWrite}
 use Rattle.message.specs.Message.{areaOf, dataOf}
 use Rattle.invariants.specs.Sound.{Good}
 use Rattle.demands.specs.Malformed.{length-area}
 use Rattle.demands.specs.MemorySize.{write-ends}
 use Rattle.demands.specs.Admitted.{Admitted, admitted-may, with-open}
-use Rattle.demands.specs.FileBytes.{Wrote, written-bytes, read-length, read-byte, resized-size, resized-others, resized-records, written-nothing, resized-nothing}
+use Rattle.demands.specs.FileBytes.{Wrote, written-bytes, read-length, read-byte, resized-size, resized-number, resized-others, resized-records, written-nothing, resized-nothing}
 
 -- "It yields the file's bytes in the range below its size", z being the size: so many, and which
 pub record Yields (file z offset most : ℕ) (memory bytes : List ℕ) : Type 0 where
@@ -45,15 +46,16 @@ pub record Yields (file z offset most : ℕ) (memory bytes : List ℕ) : Type 0 
   pub which : (i : ℕ) → i < length bytes → getD bytes i 0 ≡ getD memory (file * 4096 + offset + i) 0
 
 -- the tables and the file memory after a write of some bytes: "Bytes between the old size and the write become 0, and a size below the write's end becomes that
--- end"; every other size and every other table, the catalogue among them, as before
+-- end"; the change number raised (document 02, CR 8); every other file and every other table, the catalogue among them, as before
 pub record WroteFile (t after : Tables) (file offset : ℕ) (bytes memory left : List ℕ) : Type 0 where
   pub bytes-left : Wrote file (sizeOf t file) offset bytes memory left
   pub size : sizeOf after file ≡ max (sizeOf t file) (offset + length bytes)
-  pub other-sizes : (i : ℕ) → (i ≡ file → ⊥) → sizeOf after i ≡ sizeOf t i
+  pub number : changesOf after file ≡ raised (changesOf t file)
+  pub other-files : (i : ℕ) → (i ≡ file → ⊥) → getD (after .files) i noFile ≡ getD (t .files) i noFile
   pub other-tables : after ≡ withFiles t (after .files)
   pub catalogue : CatalogueStands t after
 
--- tables that differ in file sizes alone have the same catalogue
+-- tables that differ in files alone have the same catalogue
 pub catalogue-kept : (t after : Tables) → after ≡ withFiles t (after .files) → CatalogueStands t after
 unfolding withFiles
 catalogue-kept t after e = (ap (λ (x : Tables). x .nnames) e, ap (λ (x : Tables). x .names) e)
@@ -83,15 +85,16 @@ as-core (done v n x) e = (x, cc, cc)
 module _ (c : Caller) (t : Tables) (memory : List ℕ) (full : length memory ≡ 65536) (g : Good t) {u : Tables} {m : List ℕ} where
   -- ---- READ
 
-  -- it leaves tables and files, and says the bytes that it read through the open's file
+  -- of the tables it leaves all but what its open remembers (document 02, CR 8), and the files; it says the bytes that it read through the open's file
   pub read-left : {said : Said} (f : ReadFields) (o : Open) → Admitted c t (f .fid) o → doRead c t memory f ≡ done u m said
-      → (u ≡ t) × (m ≡ memory) × (said ≡ read (readBytes t memory (o .file) (f .offset) (f .max)))
+      → (u ≡ withRead t (f .fid) (changesOf t (o .file))) × (m ≡ memory) × (said ≡ read (readBytes t memory (o .file) (f .offset) (f .max)))
   unfolding doRead
   read-left {said} f o a e =
       let w = admitted-may c t (f .fid) (g .sound) o a in
       let h = not-refused (eqb (getD (opensOf t) (w .0) noOpen .access) 1) NoAccess _ (sym (with-open c t (f .fid) (w .0) _ (w .1)) ∙ e) in
-      let d : done t memory (read (readBytes t memory (getD (opensOf t) (w .0) noOpen .file) (f .offset) (f .max))) ≡ done u m said = not-barred t _ _ (h .1) in
-      let d′ : done t memory (read (readBytes t memory (o .file) (f .offset) (f .max))) ≡ done u m said = rw (w .2) at d in
+      let d : done (withRead t (f .fid) (changesOf t (getD (opensOf t) (w .0) noOpen .file))) memory (read (readBytes t memory (getD (opensOf t) (w .0) noOpen .file) (f .offset) (f .max))) ≡ done u m said =
+      not-barred t _ _ (h .1) in
+      let d′ : done (withRead t (f .fid) (changesOf t (o .file))) memory (read (readBytes t memory (o .file) (f .offset) (f .max))) ≡ done u m said = rw (w .2) at d in
       (cc, cc, cc)
 
   -- and these are the file's bytes in the range
@@ -134,7 +137,8 @@ module _ (c : Caller) (t : Tables) (memory : List ℕ) (full : length memory ≡
       (record {
         bytes-left = written-bytes t memory (o .file) (f .offset) (g .sound) full low bytes (omega arith) (omega arith);
         size = resized-size t (o .file) (f .offset) (f .count) some-bytes (g .shaped) low ∙ ap (λ (k : ℕ). max (sizeOf t (o .file)) (f .offset + k)) (sym n);
-        other-sizes = resized-others t (o .file) (f .offset) (f .count) some-bytes;
+        number = resized-number t (o .file) (f .offset) (f .count) some-bytes (g .shaped) low;
+        other-files = resized-others t (o .file) (f .offset) (f .count) some-bytes;
         other-tables = resized-records t (o .file) (f .offset) (f .count) some-bytes;
         catalogue = catalogue-kept t _ (resized-records t (o .file) (f .offset) (f .count) some-bytes);
       })
@@ -150,7 +154,7 @@ module _ (c : Caller) (t : Tables) (memory : List ℕ) (full : length memory ≡
 
   -- what the counterpart leaves, and its bytes in the core command's reply block
   pub core-read-left : {said : Said} (f : ReadFields) (o : Open) → Admitted c t (f .fid) o → asCore (doRead c t memory f) ≡ done u m said
-      → (u ≡ t) × (m ≡ memory) × (said ≡ coreRead (readBytes t memory (o .file) (f .offset) (f .max)))
+      → (u ≡ withRead t (f .fid) (changesOf t (o .file))) × (m ≡ memory) × (said ≡ coreRead (readBytes t memory (o .file) (f .offset) (f .max)))
   unfolding coreSaid
   core-read-left f o a e =
       let d = as-core (doRead c t memory f) e in
@@ -183,7 +187,7 @@ module _ (c : Caller) (t : Tables) (memory : List ℕ) (full : length memory ≡
 
   -- count 0 sets the size, inside the file's room: it leaves what the definitions say of the open's file
   pub set-size-left : {said : Said} (f : WriteFields) (o : Open) → Admitted c t (f .fid) o → doSetSize c t memory f ≡ done u m said
-      → (f .offset ≤ 4096) × (u ≡ withSize t (o .file) (f .offset)) × (m ≡ grown t memory (o .file) (f .offset)) × (said ≡ coreWrote 0)
+      → (f .offset ≤ 4096) × (u ≡ sizedTo t (o .file) (f .offset)) × (m ≡ grown t memory (o .file) (f .offset)) × (said ≡ coreWrote 0)
   unfolding doSetSize
   set-size-left f o a e =
       let s = writing-left (f .fid) _ (ltb 4096 (f .offset)) _ o a e in

@@ -37,12 +37,16 @@ pub mod FileCommands
 pub mod LockLeaves
 pub mod DoneCall
 pub mod ReplyBytes
+pub mod Remembering
 pub mod CallEffects
 pub mod WireFields
 pub mod Effects
 pub mod SetSize
 pub mod Shown
 pub mod OldBytes
+pub mod LastRead
+pub mod LastReadKept
+pub mod LastReadHistory
 pub mod LockEffects
 pub mod OpenEffects
 pub mod FirstReadings

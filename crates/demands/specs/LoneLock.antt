@@ -36,7 +36,7 @@ use Rattle.chain.specs.declared.block.ReadFields.{ReadFields}
 use Rattle.chain.specs.declared.block.WriteFields.{WriteFields}
 use Rattle.chain.specs.declared.block.RangeFields.{RangeFields}
 use Rattle.message.specs.declared.caller.Caller.{Caller}
-use Rattle.message.specs.Contents.{sizeOf, grown, withSize}
+use Rattle.message.specs.Contents.{sizeOf, grown, sizedTo}
 use Rattle.message.specs.Command.{Given, Said, coreWrote, refused, done, isSession, withSession, withTree, isOpen, openAt, withOpen, servedType, requestOf, lockingEnd, lockingAfter, doLocking, askBy, unlessBarred, barring, doRead, writing, endsPast, doWrite, asCore, rangeBy, oneRange, doRange, betweenSizes, doSetSize}
 use Rattle.message.specs.Refusal.{status, formsOf, statusOf, holderOf}
 use Rattle.message.specs.declared.refusal.HeldBy.{HeldBy}
@@ -284,7 +284,7 @@ module _ (c : Caller) (t : Tables) (memory : List ℕ) (k : ℕ) (ok : sound t �
   unfolding doSetSize betweenSizes
   size-conflict f may access =
       writing-conflict (f .fid) (lowerSize t (f .offset)) (sizesApart t (f .offset)) (ltb 4096 (f .offset))
-      (λ o. done (withSize t (o .file) (f .offset)) (grown t memory (o .file) (f .offset)) (coreWrote 0)) (λ o. done-not _ _ _) may access
+      (λ o. done (sizedTo t (o .file) (f .offset)) (grown t memory (o .file) (f .offset)) (coreWrote 0)) (λ o. done-not _ _ _) may access
 
 -- ---- a lone lock
 

@@ -13,10 +13,11 @@ use Rattle.records.specs.declared.Name.{Name}
 use Rattle.records.specs.declared.Tables.{Tables}
 use Rattle.records.specs.Empty.{noFile}
 use Rattle.records.specs.Held.{withSessions, withTrees, withOpens, withCatalogue}
-use Rattle.host.specs.HostCall.{noTables, refused as hostRefused, done as hostDone, addSession, addTree, addOpen, loadFile, loadMemory, dropConnection, setCatalogue}
+use Rattle.host.specs.HostCall.{noTables, refused as hostRefused, done as hostDone, addSession, addTree, addOpen, loadFile, loadMemory, dropConnection, setCatalogue, askUnchanged}
 use Rattle.host.specs.declared.answer.Returned.{Returned}
 use Rattle.claims.specs.RemovalPlain.{files-stand}
 use Rattle.claims.specs.HostAnswer.{loadFile-refused, loadFile-number, loadMemory-refused}
+use Rattle.claims.specs.AskUnchanged.{ask-stands}
 use Rattle.claims.specs.LoadBytes.{loadMemory-done, loadFile-size, loadFile-others}
 use Rattle.invariants.specs.HostCases.{load-passed, addSession-either, addTree-either, addOpen-either, dropConnection-either, setCatalogue-either}
 use Rattle.invariants.specs.Sound.{Good}
@@ -34,7 +35,7 @@ use Rattle.demands.specs.FileCommands.{WroteFile}
 use Rattle.demands.specs.SetSize.{SizeSet, SetSizeDone}
 use Rattle.demands.specs.WireFields.{readFrom}
 use Rattle.demands.specs.Effects.{ReadDone, CoreReadDone}
-use Rattle.demands.specs.Reached.{HostCall, add-session, add-tree, add-open, load, drop as drop-one, set-catalogue, message, take-message-memory, call-good, reached-good, start-good, ReachedLending, lending-start, lending-call, lending-reached}
+use Rattle.demands.specs.Reached.{HostCall, add-session, add-tree, add-open, load, drop as drop-one, set-catalogue, ask, message, take-message-memory, call-good, reached-good, start-good, ReachedLending, lending-start, lending-call, lending-reached}
 use Rattle.demands.specs.Shown.{Shown, bytes-shown, files-shown, file-shown, take-message-alike}
 
 -- ---- a file that was cut and grows again
@@ -133,7 +134,8 @@ zero-in-core-reply {s = s} {memory = memory} r z i few h l =
 
 -- ---- the host's calls
 
--- "add a session, tree or open; load a file; drop a connection; take a message with its connection number"; document 02, CR 6: "a catalogue, set whole by the host"
+-- "add a session, tree or open; load a file; drop a connection; take a message with its connection number"; document 02, CR 6: "a catalogue, set whole by the host"; CR 8: has the
+-- file of an open changed?
 pub data Asked : Type 0 where
   ask-session : (connection : ℕ) → Asked
   ask-tree : (uid right : ℕ) → Asked
@@ -141,9 +143,10 @@ pub data Asked : Type 0 where
   ask-load : (file : ℕ) (bytes : List ℕ) → Asked
   ask-drop : (connection : ℕ) → Asked
   ask-catalogue : (names : List Name) (count : ℕ) → length names ≡ 16 → Asked
+  ask-unchanged : (fid : ℕ) → Asked
   ask-message : (connection : ℕ) (s room : List ℕ) → Asked
 
--- what the host is told: the number, what is beside it (a new number, or the reply's length), the holder, the tables, and the reply room
+-- what the host is told: the number, what is beside it (a new number, an answer, or the reply's length), the holder, the tables, and the reply room
 pub record Told : Type 0 where
   pub number : ℕ
   pub beside : ℕ
@@ -164,6 +167,7 @@ told (ask-open uid tid process file access) t memory = hostTold (addOpen t uid t
 told (ask-load file bytes) t memory = hostTold (loadFile t file bytes memory)
 told (ask-drop connection) t memory = hostTold (dropConnection t connection)
 told (ask-catalogue names count full) t memory = hostTold (setCatalogue t names count)
+told (ask-unchanged fid) t memory = hostTold (askUnchanged t fid)
 told (ask-message connection s room) t memory = messageTold (take-message connection s t memory room)
 
 -- and the file memory that is left
@@ -174,6 +178,7 @@ memoryLeft (ask-open uid tid process file access) t memory = memory
 memoryLeft (ask-load file bytes) t memory = loadMemory t file bytes memory
 memoryLeft (ask-drop connection) t memory = memory
 memoryLeft (ask-catalogue names count full) t memory = memory
+memoryLeft (ask-unchanged fid) t memory = memory
 memoryLeft (ask-message connection s room) t memory = take-message connection s t memory room .memory
 
 -- these are the calls of Reached.antt, and all of them
@@ -185,6 +190,7 @@ asked-call (ask-open uid tid process file access) t memory = add-open uid tid pr
 asked-call (ask-load file bytes) t memory = load file bytes
 asked-call (ask-drop connection) t memory = drop-one connection
 asked-call (ask-catalogue names count full) t memory = set-catalogue names count full
+asked-call (ask-unchanged fid) t memory = ask fid
 asked-call (ask-message connection s room) t memory = message connection s room
 
 pub call-asked : {t after : Tables} {memory left : List ℕ} → HostCall t memory after left → (a : Asked) × (told a t memory .tables ≡ after) × (memoryLeft a t memory ≡ left)
@@ -195,9 +201,10 @@ call-asked (add-open uid tid process file access) = (ask-open uid tid process fi
 call-asked (load file bytes) = (ask-load file bytes, refl, refl)
 call-asked (drop-one connection) = (ask-drop connection, refl, refl)
 call-asked (set-catalogue names count full) = (ask-catalogue names count full, refl, refl)
+call-asked (ask fid) = (ask-unchanged fid, refl, refl)
 call-asked (message connection s room) = (ask-message connection s room, refl, refl)
 
--- a call that loads no file leaves the sizes
+-- a call that loads no file leaves the files
 module _ (t : Tables) where
   Stands : Returned → Type 0
   Stands a = a .tables .files ≡ t .files
@@ -266,6 +273,7 @@ module _ (t : Tables) (memory other : List ℕ) (g : Good t) (s : Shown t memory
   call-alike (ask-load file bytes) = (ap hostTold (load-same file bytes), load-alike file bytes)
   call-alike (ask-drop connection) = (refl, files-shown (drop-stands t connection) s)
   call-alike (ask-catalogue names count full) = (refl, files-shown (catalogue-stands t names count) s)
+  call-alike (ask-unchanged fid) = (refl, files-shown (ap (λ (u : Tables). u .files) (ask-stands t fid)) s)
   call-alike (ask-message connection m room) =
       let r = take-message-alike connection m t memory other room g s in
       (λ i. record { number = r .same-number i; beside = r .same-length i; holder = r .same-holder i; tables = r .same-tables i; room = r .same-room i }, r .shown)

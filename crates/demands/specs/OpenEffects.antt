@@ -46,7 +46,7 @@ use Rattle.demands.specs.WireFields.{senderProcess, openName, FirstBlock
 
 -- ---- the plain words
 
--- the tables after: one open more, behind the others, of that caller and file, with the codes asked for; every other table, the file sizes and the catalogue stand
+-- the tables after: one open more, behind the others, of that caller and file, with the codes asked for; it has not read; every other table, the files and the catalogue stand
 pub record OpenAdded (uid tid process access sharing : ℕ) (t : Tables) (file : ℕ) (after : Tables) (new : Open) : Type 0 where
   -- "UID, TID and FID are the smallest number from 1 not in use"
   pub given-out : NewNumber 64 (map fidOf (opensOf t)) (new .fid)
@@ -56,12 +56,14 @@ pub record OpenAdded (uid tid process access sharing : ℕ) (t : Tables) (file :
   pub its-file : new .file ≡ file
   pub its-access : new .access ≡ access
   pub its-sharing : new .sharing ≡ sharing
+  pub not-read : new .read ≡ false
+  pub seen-none : new .seen ≡ 0
   pub opens : opensOf after ≡ opensOf t ++ (new ∷ [])
   pub open-count : after .nopens ≡ length (opensOf t) + 1
   pub sessions : SessionsStand t after
   pub trees : TreesStand t after
   pub locks : LocksStand t after
-  pub sizes : FilesStand t after
+  pub files : FilesStand t after
   pub catalogue : CatalogueStands t after
   -- to the last record
   pub whole : after ≡ withOpens t (opensOf t ++ (new ∷ []))
@@ -90,12 +92,14 @@ open-added c t f file room =
       its-file = refl;
       its-access = refl;
       its-sharing = refl;
+      not-read = refl;
+      seen-none = refl;
       opens = opens-with t (opensOf t ++ (openBy c t f file ∷ []));
       open-count = length-append (opensOf t) (openBy c t f file ∷ []);
       sessions = (refl, refl);
       trees = (refl, refl);
       locks = (refl, refl);
-      sizes = refl;
+      files = refl;
       catalogue = (refl, refl);
       whole = refl;
     }

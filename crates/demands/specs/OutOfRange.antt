@@ -7,7 +7,7 @@ use Prim.Native.Nat.{ℕ, zero, suc, _+_, _*_, _≤_, _<_}
 use native.Mathlib.Omega.{arith}
 use native.Mathlib.Decide.{ℕ-discrete}
 use mathlib.Core.Bool.{Bool, true, false}
-use mathlib.Core.List.{List}
+use mathlib.Core.List.{List, List·Memᴰ as In}
 use lib.ListN.{length, drop}
 use lib.Seq.{getD-take, getD-drop}
 use lib.Dec.{leb, eqb}
@@ -16,8 +16,10 @@ use Rattle.lists.specs.Walk.{all}
 use Rattle.lists.specs.Truth.{decided, both-hold, fails, not-decided-twice, test-cases}
 use Rattle.lists.specs.Members.{in-map, all-each}
 use Rattle.lists.specs.PairLaws.{place-in}
+use Rattle.records.specs.declared.Open.{Open}
 use Rattle.records.specs.declared.Tables.{Tables}
-use Rattle.numbers.specs.Column.{uidOf, tidOf}
+use Rattle.records.specs.Held.{opensOf}
+use Rattle.numbers.specs.Column.{uidOf, tidOf, fidOf}
 use Rattle.soundness.specs.Sound.{sound}
 use Rattle.catalogue.specs.Name.{catalogueOk}
 use Rattle.host.specs.HostCall.{refused}
@@ -26,11 +28,12 @@ use Rattle.invariants.specs.Numbered.{numbered-within}
 use Rattle.invariants.specs.SoundParts.{sound-says}
 use Rattle.claims.specs.CataloguePlain.{BrokenRule, catalogue-says, rule-broken}
 use Rattle.claims.specs.SoundPlain.{sound-plain}
+use Rattle.claims.specs.AskUnchanged.{ask-unknown, ask-given}
 use Rattle.claims.specs.HostReasons.{HasSession, HasTree, tree-range, tree-nobody, open-range, open-nowhere, load-range, set-broken, set-done, addTree-given, addOpen-given, loadFile-given, setCatalogue-given}
 use Rattle.tables.specs.Words.{word, recordAt, nameArray, nameLimits, within, recordsFit, inUse, tableFits, inUseFit, tablesOf}
 use Rattle.tables.specs.RecordLaws.{within-holds, within-told, within-each, each-within}
 use Rattle.tables.specs.FitLaws.{all-upTo, upTo-all}
-use Rattle.boundary.specs.Boundary.{ready, numberOf, treeAdded, openAdded, fileLoaded, loadNumberOf, catalogueSet}
+use Rattle.boundary.specs.Boundary.{ready, numberOf, treeAdded, openAdded, fileLoaded, loadNumberOf, catalogueSet, unchangedAsked}
 use Rattle.boundary.specs.BoundaryLaws.{set-core, set-no-bytes}
 
 -- ---- sound tables have no number past the limits
@@ -48,6 +51,9 @@ module _ (t : Tables) (s : sound t ≡ true) where
       let most = numbered-within 32 (in-map tidOf m) (sound-says t s .records .tids) .1 in
       let same = its .2 in
       ⊎-elim (λ a. omega arith) (λ a. omega arith) h
+
+  no-open : (fid : ℕ) → 64 < fid → (o : Open) → In o (opensOf t) → o .fid ≡ fid → ⊥
+  no-open fid h o m e = let most = numbered-within 64 (in-map fidOf m) (sound-says t s .records .fids) .1 in omega arith
 
 -- ---- the calls
 
@@ -88,6 +94,14 @@ module _ (w : List ℕ) (h : ready w ≡ true) where
   load-file-range file contents memory e a =
       rw (eq-eqb (length memory) 65536 e)
       (core-number _ (loadFile-given (tablesOf w) file contents memory (load-range e (ready-says .1) (inl a))))
+
+  -- `gateway_unchanged`: "6 for an unknown FID", which a number that no FID can be is too
+  pub unchanged-fid-range : (fid : ℕ) → 64 < fid → numberOf w (unchangedAsked w fid) ≡ 6
+  unfolding unchangedAsked
+  unchanged-fid-range fid a =
+      core-number _
+      (ask-given (tablesOf w) fid
+      (ask-unknown (ready-says .1) (no-open (tablesOf w) (ready-says .1) fid a)))
 
 -- ---- `gateway_set_catalogue`
 

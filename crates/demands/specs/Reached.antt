@@ -12,10 +12,11 @@ use Rattle.lists.specs.Truth.{neither-holds}
 use Rattle.records.specs.declared.Name.{Name}
 use Rattle.records.specs.declared.Tables.{Tables}
 use Rattle.soundness.specs.Sound.{sound}
-use Rattle.host.specs.HostCall.{noTables, addSession, addTree, addOpen, loadFile, loadMemory, dropConnection, setCatalogue}
+use Rattle.host.specs.HostCall.{noTables, addSession, addTree, addOpen, loadFile, loadMemory, dropConnection, setCatalogue, askUnchanged}
 use Rattle.invariants.specs.HostSound.{start-sound, addSession-sound, addTree-sound, addOpen-sound, loadFile-sound, dropConnection-sound, setCatalogue-sound, addSession-shaped, addTree-shaped, addOpen-shaped, loadFile-shaped, dropConnection-shaped, setCatalogue-shaped}
 use Rattle.claims.specs.HostAnswer.{loadMemory-refused}
 use Rattle.claims.specs.LoadBytes.{loadMemory-done}
+use Rattle.claims.specs.AskUnchanged.{ask-stands}
 use Rattle.chain.specs.Header.{dropped}
 use Rattle.message.specs.Message.{answered, Taken, notTaken, replied, take-message}
 use Rattle.invariants.specs.GivenCases.{cond-case}
@@ -77,7 +78,8 @@ take-message-memory connection s t memory room g =
 -- ---- one call
 
 -- a call on these tables, the host lending that file memory, and the tables and the file memory that it leaves, done or refused: "add a session, tree or open;
--- load a file; drop a connection; take a message with its connection number"; document 02, CR 6: "a catalogue, set whole by the host", of 16 records
+-- load a file; drop a connection; take a message with its connection number"; document 02, CR 6: "a catalogue, set whole by the host", of 16 records; CR 8: the question
+-- whether a file has changed
 pub data HostCall (t : Tables) (memory : List ℕ) : Tables → List ℕ → Type 0 where
   add-session : (connection : ℕ) → HostCall t memory (addSession t connection .tables) memory
   add-tree : (uid right : ℕ) → HostCall t memory (addTree t uid right .tables) memory
@@ -85,6 +87,7 @@ pub data HostCall (t : Tables) (memory : List ℕ) : Tables → List ℕ → Typ
   load : (file : ℕ) (bytes : List ℕ) → HostCall t memory (loadFile t file bytes memory .tables) (loadMemory t file bytes memory)
   drop : (connection : ℕ) → HostCall t memory (dropConnection t connection .tables) memory
   set-catalogue : (names : List Name) (count : ℕ) → length names ≡ 16 → HostCall t memory (setCatalogue t names count .tables) memory
+  ask : (fid : ℕ) → HostCall t memory (askUnchanged t fid .tables) memory
   message : (connection : ℕ) (s room : List ℕ)
       → HostCall t memory (take-message connection s t memory room .tables) (take-message connection s t memory room .memory)
 
@@ -96,6 +99,7 @@ call-good {t} (add-open uid tid process file access) g = addOpen-good t g uid ti
 call-good {t} {memory = memory} (load file bytes) g = loadFile-good t g file bytes memory
 call-good {t} (drop c) g = dropConnection-good t g c
 call-good {t} (set-catalogue names count room) g = setCatalogue-good t g names count room
+call-good {t} (ask fid) g = rw (ask-stands t fid) g
 call-good {t} {memory = memory} (message c s room) g = take-message-good c s t memory room g
 
 -- and the file memory lent as long as it was
@@ -106,6 +110,7 @@ call-memory (add-open uid tid process file access) g = refl
 call-memory {t} {memory = memory} (load file bytes) g = loadMemory-length t file bytes memory
 call-memory (drop c) g = refl
 call-memory (set-catalogue names count room) g = refl
+call-memory (ask fid) g = refl
 call-memory {t} {memory = memory} (message c s room) g = take-message-memory c s t memory room g
 
 -- ---- all histories

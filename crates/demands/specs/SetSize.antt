@@ -1,6 +1,6 @@
 -- What a core WRITE of count 0 leaves (document 02, CR 3: "A core WRITE of count 0 sets the file's size to the offset (past 4,096 is 3/39), with zeros where it grows
 -- and no byte changed where it shrinks"), said of the definitions, of the command, of the call and of the message's bytes. Assumes nothing.
-use mathlib.Core.Path.{_≡_, refl, sym, ap, _∙_}
+use mathlib.Core.Path.{_≡_, sym, ap, _∙_}
 use mathlib.Core.Logic.{inl, inr}
 use Prim.Native.Nat.{ℕ, _+_, _-_, _*_, _≤_, _<_}
 use native.Mathlib.Omega.{arith}
@@ -13,7 +13,10 @@ use borrow.Author.Tests.{ltb-true, ltb-false, eq-eqb}
 use Rattle.lists.specs.Truth.{decided}
 use Rattle.lists.specs.PutLaws.{put-nothing}
 use Rattle.records.specs.declared.Open.{Open}
+use Rattle.records.specs.declared.File.{File}
 use Rattle.records.specs.declared.Tables.{Tables}
+use Rattle.records.specs.Change.{raised, changesOf}
+use Rattle.records.specs.Empty.{noFile}
 use Rattle.records.specs.Held.{withFiles}
 use Rattle.claims.specs.SoundPlain.{sound-plain}
 use Rattle.claims.specs.RemovalPlain.{CatalogueStands}
@@ -30,12 +33,12 @@ use Rattle.chain.specs.declared.block.Block.{Block}
 use Rattle.message.specs.Caller.{callerOf}
 use Rattle.message.specs.declared.caller.Caller.{Caller}
 use Rattle.message.specs.Refusal.{status}
-use Rattle.message.specs.Contents.{sizeOf, contents, grown, withSize}
+use Rattle.message.specs.Contents.{sizeOf, contents, grown, sizedTo}
 use Rattle.message.specs.Command.{Said, done, doSetSize, doCoreWrite}
 use Rattle.message.specs.Message.{Taken, take-message}
 use Rattle.demands.specs.StatusRead.{statusRead}
 use Rattle.demands.specs.Admitted.{Admitted}
-use Rattle.demands.specs.FileBytes.{Grew, contents-byte, contents-length, contents-same, file-inside, grown-bytes, sized-size, sized-others, sized-records, sized-same}
+use Rattle.demands.specs.FileBytes.{Grew, contents-byte, contents-length, contents-same, file-inside, grown-bytes, change-here, sized-changes, sized-same, sized-size, sized-others, sized-records}
 use Rattle.demands.specs.FileCommands.{catalogue-kept, set-size-left}
 use Rattle.demands.specs.ReplyBytes.{CoreWriteBlock}
 use Rattle.demands.specs.CallEffects.{core-write-done, core-write-open, core-write-reply}
@@ -45,10 +48,11 @@ use Rattle.demands.specs.WireFields.{coreWriteFields, one-first, first-b
 
 -- the tables and the file memory after a file's size was set
 pub record SizeSet (t after : Tables) (file size : ℕ) (memory left : List ℕ) : Type 0 where
-  -- its size is that; no other size, no other table, the catalogue among them, and no other record is changed
+  -- its size is that, and its change number raised where that "alters the size" (CR 8); no other file, no other table, the catalogue among them, is changed
   pub new-size : sizeOf after file ≡ size
-  pub other-sizes : (i : ℕ) → (i ≡ file → ⊥) → sizeOf after i ≡ sizeOf t i
-  pub whole : after ≡ withFiles t (set (t .files) file (record { size = size }))
+  pub other-files : (i : ℕ) → (i ≡ file → ⊥) → getD (after .files) i noFile ≡ getD (t .files) i noFile
+  pub number : (size ≡ sizeOf t file → ⊥) → changesOf after file ≡ raised (changesOf t file)
+  pub whole : (size ≡ sizeOf t file → ⊥) → after ≡ withFiles t (set (t .files) file (record { size = size; changes = raised (changesOf t file) }))
   pub catalogue : CatalogueStands t after
   -- "with zeros where it grows": its bytes are the old ones below the size, and then zeros
   pub new-contents : contents after left file ≡ take size (contents t memory file ++ replicate (size - sizeOf t file) 0)
@@ -67,7 +71,7 @@ module _ (t : Tables) (memory : List ℕ) (file size : ℕ) (g : Good t) (full :
   grew : Grew file (sizeOf t file) size memory (grown t memory file size)
   grew = grown-bytes t memory file size (g .sound) full low within
 
-  sized : sizeOf (withSize t file size) file ≡ size
+  sized : sizeOf (sizedTo t file size) file ≡ size
   sized = sized-size t file size (g .shaped) low
 
   -- the bytes that it had, and zeros up to the new size
@@ -102,41 +106,44 @@ module _ (t : Tables) (memory : List ℕ) (file size : ℕ) (g : Good t) (full :
             ∙ getD-replicate (size - sizeOf t file) (i - sizeOf t file) 0 0 few)
       ]
 
-  set-contents : contents (withSize t file size) (grown t memory file size) file ≡ take size filled
+  set-contents : contents (sizedTo t file size) (grown t memory file size) file ≡ take size filled
   set-contents =
       let long = grew .same-length in
       let now = sized in
-      let inside : file * 4096 + sizeOf (withSize t file size) file ≤ length (grown t memory file size) = omega arith in
-      let n = contents-length (withSize t file size) (grown t memory file size) file inside in
-      ext-getD 0 (contents (withSize t file size) (grown t memory file size) file) (take size filled) (n ∙ now ∙ sym filled-length)
-      (λ i h. let few : i < sizeOf (withSize t file size) file = omega arith in
+      let inside : file * 4096 + sizeOf (sizedTo t file size) file ≤ length (grown t memory file size) = omega arith in
+      let n = contents-length (sizedTo t file size) (grown t memory file size) file inside in
+      ext-getD 0 (contents (sizedTo t file size) (grown t memory file size) file) (take size filled) (n ∙ now ∙ sym filled-length)
+      (λ i h. let few : i < sizeOf (sizedTo t file size) file = omega arith in
       let few′ : i < size = omega arith in
-      contents-byte (withSize t file size) (grown t memory file size) file i few ∙ set-byte i few′ ∙ sym (getD-take size filled i 0 few′))
+      contents-byte (sizedTo t file size) (grown t memory file size) file i few ∙ set-byte i few′ ∙ sym (getD-take size filled i 0 few′))
 
-  others-stand : (x : ℕ) → x ≤ 15 → (x ≡ file → ⊥) → contents (withSize t file size) (grown t memory file size) x ≡ contents t memory x
+  others-stand : (x : ℕ) → x ≤ 15 → (x ≡ file → ⊥) → contents (sizedTo t file size) (grown t memory file size) x ≡ contents t memory x
+  unfolding sizeOf
   others-stand x h different =
       let most : sizeOf t x ≤ 4096 = size-most t x (sound-says t (g .sound)) in
-      contents-same t (withSize t file size) memory (grown t memory file size) x (file-inside t memory x (g .sound) full h) (grew .same-length)
-      (sized-others t file size x different) (λ i few. grew .other-files x i different (omega arith))
+      contents-same t (sizedTo t file size) memory (grown t memory file size) x (file-inside t memory x (g .sound) full h) (grew .same-length)
+      (ap (λ (f : File). f .size) (sized-others t file size x different)) (λ i few. grew .other-files x i different (omega arith))
 
-  shrunk : size ≤ sizeOf t file → grown t memory file size ≡ memory
+  pub shrunk : size ≤ sizeOf t file → grown t memory file size ≡ memory
   shrunk h =
       let none-more : size - sizeOf t file ≡ 0 = omega arith in
       rw none-more (put-nothing memory (file * 4096 + sizeOf t file))
 
   -- "sets the file's size to the offset"
-  pub size-set : SizeSet t (withSize t file size) file size memory (grown t memory file size)
+  pub size-set : SizeSet t (sizedTo t file size) file size memory (grown t memory file size)
+  unfolding changesOf
   size-set =
       record {
         new-size = sized;
-        other-sizes = sized-others t file size;
-        whole = refl;
-        catalogue = catalogue-kept t (withSize t file size) (sized-records t file size);
+        other-files = sized-others t file size;
+        number = λ n. ap (λ (u : Tables). getD (u .files) file noFile .changes) (sized-changes t file size n) ∙ ap (λ (f : File). f .changes) (change-here t file size (g .shaped) low);
+        whole = sized-changes t file size;
+        catalogue = catalogue-kept t (sizedTo t file size) (sized-records t file size);
         new-contents = set-contents;
         bytes-left = grew;
         other-contents = others-stand;
         none-changed = shrunk;
-        nothing-changed = λ e. (ap (withSize t file) e ∙ sized-same t file, shrunk (omega arith));
+        nothing-changed = λ e. (sized-same t file size e, shrunk (omega arith));
       }
 
 -- ---- the command

@@ -16,6 +16,7 @@ use Rattle.lists.specs.Walk.{any, found}
 use Rattle.lists.specs.declared.Found.{Found}
 use Rattle.lists.specs.declared.Found.the-variants.{At, Nothing}
 use Rattle.records.specs.declared.Open.{Open}
+use Rattle.records.specs.declared.File.{File}
 use Rattle.records.specs.declared.Tables.{Tables}
 use Rattle.records.specs.Empty.{noOpen, noName}
 use Rattle.records.specs.Held.{sessionsOf, treesOf, opensOf, namesOf, withOpens}
@@ -52,7 +53,7 @@ use Rattle.message.specs.declared.caller.Caller.{Caller}
 use Rattle.message.specs.Refusal.{formsOf}
 use Rattle.message.specs.declared.refusal.Refusal.{Refusal}
 use Rattle.message.specs.declared.refusal.Refusal.the-variants.{NotServed, NotSentence, NoSession, NoTree, NoAccess, LockType, NoSpace, OpenMode, BadAccess, BadShare, NoFids}
-use Rattle.message.specs.Contents.{sizeOf, contents, readBytes, grown, written, withSize, resized}
+use Rattle.message.specs.Contents.{sizeOf, contents, readBytes, grown, written, resized, sizedTo}
 use Rattle.message.specs.Command.{Said, Given, refused, done, isSession, withSession, withTree, isOpen, openAt, withOpen, servedType, withLockList, lockingEnd, lockingAfter, doLocking, unlessBarred, barring, doRead, writing, endsPast, doWrite, asCore, doRange, doSetSize, doCoreWrite, codesServed, openBy, openFile, openNamed, doOpen, perform}
 use Rattle.message.specs.Sharing.{keptOut}
 use Rattle.message.specs.JustOpened.{NOBODY, openedBy, bodyMeant}
@@ -93,7 +94,7 @@ pub bytes-shown : (t : Tables) (memory other : List ℕ) → Good t → length m
     → ((file i : ℕ) → file ≤ 15 → i < sizeOf t file → getD memory (file * 4096 + i) 0 ≡ getD other (file * 4096 + i) 0) → Shown t memory other
 bytes-shown t memory other g = sizes-shown t memory other (λ file _. size-most t file (sound-says t (g .sound)))
 
--- tables with the same sizes
+-- tables with the same files
 pub files-shown : {t u : Tables} {memory other : List ℕ} → u .files ≡ t .files → Shown t memory other → Shown u memory other
 unfolding contents sizeOf
 files-shown {t} {u} {memory} {other} e s =
@@ -238,12 +239,12 @@ pub record Filled (body : Body) (area bytes : List ℕ) : Type 0 where
   pub write-filled : (f : WriteFields) → body ≡ WriteBody f → length bytes ≡ f .count
   pub core-filled : (f : WriteFields) → body ≡ CoreWriteBody f → length (drop 3 area) ≡ f .count
 
-block-filled : {s : List ℕ} {at command : ℕ} → IsBlock s at command → (next : Next)
+pub block-filled : {s : List ℕ} {at command : ℕ} → IsBlock s at command → (next : Next)
     → Filled (bodyAt s command at) (areaOf s (blockAt s command at next)) (dataOf s (blockAt s command at next))
 block-filled h next = record { write-filled = data-counted h next; core-filled = core-counted h next }
 
 -- whatever FID is meant
-meant-filled : (just : ℕ) (b : Body) (area bytes : List ℕ) → Filled b area bytes → Filled (bodyMeant just b) area bytes
+pub meant-filled : (just : ℕ) (b : Body) (area bytes : List ℕ) → Filled b area bytes → Filled (bodyMeant just b) area bytes
 unfolding bodyMeant
 meant-filled just (LockingBody f) area bytes h = h
 meant-filled just (ReadBody f) area bytes h = record { write-filled = λ g e. never cc; core-filled = λ g e. never cc }
@@ -266,15 +267,16 @@ module _ (c : Caller) (t : Tables) (g : Good t) (memory other : List ℕ) (s : S
       (λ k e. both-cond GivenAlike (servedType (f .kind)) _ (refused LockType) _ (refused LockType) (λ _. locks-alike t memory other s _ _) (λ _. both-refused))
 
   read-alike : (f : ReadFields) → GivenAlike (doRead c t memory f) (doRead c t other f)
-  unfolding doRead readBytes
+  unfolding doRead readBytes withOpens
   read-alike f =
       open-alike c t (f .fid) _ _
       (λ k e. both-cond GivenAlike (eqb (getD (opensOf t) k noOpen .access) 1) (refused NoAccess) _ (refused NoAccess) _ (λ _. both-refused)
-      (λ _. barred-alike c t _ _ _ (rw (s .same (getD (opensOf t) k noOpen .file) (open-file c t (f .fid) k e (sound-says t (g .sound)))) (both-done s))))
+      (λ _. barred-alike c t _ _ _ (rw (s .same (getD (opensOf t) k noOpen .file) (open-file c t (f .fid) k e (sound-says t (g .sound)))) (both-done (files-shown refl s)))))
 
   -- a write whose data is as long as its count, that ends in its file
   written-shown : (file offset count : ℕ) (bytes : List ℕ) → length bytes ≡ count → endsPast offset count ≡ false → file ≤ 15
       → Shown (resized t file offset count) (written t memory file offset bytes) (written t other file offset bytes)
+  unfolding sizeOf
   written-shown file offset count bytes n ends low =
       elim (ℕ-discrete count 0) [
         | yes z ↦
@@ -287,7 +289,7 @@ module _ (c : Caller) (t : Tables) (g : Good t) (memory other : List ℕ) (s : S
             let most : sizeOf t file ≤ 4096 = size-most t file (sound-says t (g .sound)) in
             let size : sizeOf (resized t file offset count) file ≡ max (sizeOf t file) (offset + length bytes) =
             resized-size t file offset count some-bytes (g .shaped) low ∙ ap (λ (k : ℕ). max (sizeOf t file) (offset + k)) (sym n) in
-            wrote-shown t (resized t file offset count) file g s (resized-others t file offset count some-bytes) low (omega arith) offset bytes size
+            wrote-shown t (resized t file offset count) file g s (λ i n. ap (λ (f : File). f .size) (resized-others t file offset count some-bytes i n)) low (omega arith) offset bytes size
             (written-bytes t memory file offset (g .sound) (s .whole) low bytes some-data fits)
             (written-bytes t other file offset (g .sound) (s .other-whole) low bytes some-data fits)
       ]
@@ -299,10 +301,11 @@ module _ (c : Caller) (t : Tables) (g : Good t) (memory other : List ℕ) (s : S
       (λ k e past. both-done (written-shown (getD (opensOf t) k noOpen .file) (f .offset) (f .count) bytes n past (open-file c t (f .fid) k e (sound-says t (g .sound)))))
 
   -- count 0
-  grown-shown : (file size : ℕ) → size ≤ 4096 → file ≤ 15 → Shown (withSize t file size) (grown t memory file size) (grown t other file size)
+  grown-shown : (file size : ℕ) → size ≤ 4096 → file ≤ 15 → Shown (sizedTo t file size) (grown t memory file size) (grown t other file size)
+  unfolding sizeOf
   grown-shown file size h low =
       let now = sized-size t file size (g .shaped) low in
-      grew-shown t (withSize t file size) file g s (sized-others t file size) low (omega arith) size now
+      grew-shown t (sizedTo t file size) file g s (λ i n. ap (λ (f : File). f .size) (sized-others t file size i n)) low (omega arith) size now
       (grown-bytes t memory file size (g .sound) (s .whole) low h) (grown-bytes t other file size (g .sound) (s .other-whole) low h)
 
   set-size-alike : (f : WriteFields) → GivenAlike (doSetSize c t memory f) (doSetSize c t other f)
@@ -338,7 +341,7 @@ module _ (c : Caller) (t : Tables) (g : Good t) (memory other : List ℕ) (s : S
       (λ _. named-alike f (found (isNamed name) (namesOf t))) (λ _. both-refused))
       (λ _. both-refused))
 
-  -- a removal leaves the sizes
+  -- a removal leaves the files
   gone-alike : (gone : Gone) (said : Said) → GivenAlike (done (remove gone t) memory said) (done (remove gone t) other said)
   gone-alike gone said = both-done (files-shown (files-stand gone t) s)
 
