@@ -17,7 +17,7 @@ use Rattle.numbers.specs.Number.{contains, numberOk, numbered, freeFrom, smalle
 use Rattle.soundness.specs.File.{fileOf}
 use Rattle.soundness.specs.Lookup.{isTree}
 use Rattle.catalogue.specs.Name.{folded, sameName, nameBytes, isNamed, notZero, nameOk, differ, noneDoubled, catalogueOk}
-use Rattle.soundness.specs.Sound.{withinRoom, fileOk, treeOk, permits, holdsOpen, sharingOk, openOk, soundRecords, lockOk, agree, agreeAll, soundLocks, sound}
+use Rattle.soundness.specs.Sound.{withinRoom, fileOk, treeOk, permits, holdsOpen, sharingOk, openOk, soundRecords, lockOk, agree, agreeAll, soundLocks, sound, seenOk}
 use Rattle.host.specs.HostCall.{refused, done, newSession, addSession, newTree, addTree, newOpen, addOpen, isOf, loadNumber, loadFile, dropConnection, setCatalogue}
 use Rattle.chain.specs.Header.{startsSmb, isReply, dropped}
 use Rattle.message.specs.Refusal.{status, formsOf, statusOf, ntOf, holderOf}
@@ -137,12 +137,12 @@ pub done-0 : (addSession fewRecords 6 .number ≡ 0)
     × (addOpen fewRecords 3 2 7 15 2 .id ≡ 1)
     × (loadFile fewRecords 15 (replicate 4096 0xAA) memory .number ≡ 0)
     × (dropConnection fewRecords 6 .number ≡ 0)
-unfolding fewRecords tablesWith session tree open-of sizes memory refused done newSession addSession newTree addTree newOpen addOpen isOf loadNumber loadFile dropConnection sound withinRoom fileOk treeOk permits holdsOpen sharingOk catalogueOk noneDoubled openOk soundRecords lockOk agree agreeAll soundLocks fileOf isTree contains numberOk numbered freeFrom smallestFree any all allTails overlaps passesEnd
+unfolding fewRecords tablesWith session tree open-of sizes memory refused done newSession addSession newTree addTree newOpen addOpen isOf loadNumber loadFile dropConnection sound withinRoom fileOk treeOk permits holdsOpen sharingOk catalogueOk noneDoubled openOk soundRecords lockOk agree agreeAll soundLocks fileOf isTree contains numberOk numbered freeFrom smallestFree any all allTails overlaps passesEnd seenOk
 done-0 = (refl, refl, refl, refl, refl, refl, refl, refl)
 
 -- "1: message dropped"
 pub dropped-1 : (take-message 5 short fewRecords memory (replicate 12292 0) .number ≡ 1)
-unfolding fewRecords tablesWith session tree open-of sizes memory short take-message notTaken dropped startsSmb isReply sound withinRoom fileOk treeOk permits holdsOpen sharingOk catalogueOk noneDoubled openOk soundRecords lockOk agree agreeAll soundLocks fileOf isTree contains numberOk numbered freeFrom smallestFree any all allTails overlaps passesEnd
+unfolding fewRecords tablesWith session tree open-of sizes memory short take-message notTaken dropped startsSmb isReply sound withinRoom fileOk treeOk permits holdsOpen sharingOk catalogueOk noneDoubled openOk soundRecords lockOk agree agreeAll soundLocks fileOf isTree contains numberOk numbered freeFrom smallestFree any all allTails overlaps passesEnd seenOk
 dropped-1 = refl
 
 -- "2: reply room under 12,292 bytes, or file memory not 65,536": with 12,292 and 65,536 the next reason counts, here 4
@@ -152,7 +152,7 @@ pub room-2 : (take-message 5 short crowded memory (replicate 12291 0) .number �
     × (take-message 5 short crowded (0 ∷ memory) (replicate 12292 0) .number ≡ 2)
     × (loadFile crowded 16 [] (replicate 65535 0) .number ≡ 2)
     × (loadFile crowded 16 [] (0 ∷ memory) .number ≡ 2)
-unfolding crowded fewRecords tablesWith session tree open-of sizes countFrom memory short take-message notTaken dropped startsSmb isReply refused done newSession addSession newTree addTree newOpen addOpen isOf loadNumber loadFile dropConnection sound withinRoom fileOk treeOk permits holdsOpen sharingOk catalogueOk noneDoubled openOk soundRecords lockOk agree agreeAll soundLocks fileOf isTree contains numberOk numbered freeFrom smallestFree any all allTails overlaps passesEnd
+unfolding crowded fewRecords tablesWith session tree open-of sizes countFrom memory short take-message notTaken dropped startsSmb isReply refused done newSession addSession newTree addTree newOpen addOpen isOf loadNumber loadFile dropConnection sound withinRoom fileOk treeOk permits holdsOpen sharingOk catalogueOk noneDoubled openOk soundRecords lockOk agree agreeAll soundLocks fileOf isTree contains numberOk numbered freeFrom smallestFree any all allTails overlaps passesEnd seenOk
 room-2 = (refl, refl, refl, refl, refl, refl)
 
 -- "4: tables not sound"
@@ -162,7 +162,7 @@ pub sound-4 : (addSession crowded 6 .number ≡ 4)
     × (loadFile crowded 16 [] memory .number ≡ 4)
     × (dropConnection crowded 6 .number ≡ 4)
     × (take-message 5 short crowded memory (replicate 12292 0) .number ≡ 4)
-unfolding crowded fewRecords tablesWith session tree open-of sizes countFrom memory short take-message notTaken dropped startsSmb isReply refused done newSession addSession newTree addTree newOpen addOpen isOf loadNumber loadFile dropConnection sound withinRoom fileOk treeOk permits holdsOpen sharingOk catalogueOk noneDoubled openOk soundRecords lockOk agree agreeAll soundLocks fileOf isTree contains numberOk numbered freeFrom smallestFree any all allTails overlaps passesEnd
+unfolding crowded fewRecords tablesWith session tree open-of sizes countFrom memory short take-message notTaken dropped startsSmb isReply refused done newSession addSession newTree addTree newOpen addOpen isOf loadNumber loadFile dropConnection sound withinRoom fileOk treeOk permits holdsOpen sharingOk catalogueOk noneDoubled openOk soundRecords lockOk agree agreeAll soundLocks fileOf isTree contains numberOk numbered freeFrom smallestFree any all allTails overlaps passesEnd seenOk
 sound-4 = (refl, refl, refl, refl, refl, refl)
 
 -- one session of that UID, its tree of that TID and right, an open of that FID, file and access, those locks, and a first file of that size
@@ -177,7 +177,7 @@ oneOf uid tid right fid file access locks size =
       nopens = 1;
       locks = locks;
       nlocks = length locks;
-      files = record { size = size } ∷ [];
+      files = record { size = size; changes = 0 } ∷ [];
       names = [];
       nnames = 0;
     }
@@ -205,7 +205,7 @@ pub sound-records : (judged (oneOf 16 32 1 64 15 2 [] 4096) ≡ 0)
     × (judged (oneOf 16 32 0 64 15 1 [] 0) ≡ 4)
     × (judged (oneOf 16 32 0 64 15 0 [] 0) ≡ 0)
     × (judged (oneOf 16 32 1 64 15 2 [] 4097) ≡ 4)
-unfolding oneOf judged session tree open-of refused done dropConnection sound withinRoom fileOk treeOk permits holdsOpen sharingOk catalogueOk noneDoubled openOk soundRecords lockOk agree agreeAll soundLocks fileOf isTree contains numberOk numbered freeFrom smallestFree any all allTails overlaps passesEnd
+unfolding oneOf judged session tree open-of refused done dropConnection sound withinRoom fileOk treeOk permits holdsOpen sharingOk catalogueOk noneDoubled openOk soundRecords lockOk agree agreeAll soundLocks fileOf isTree contains numberOk numbered freeFrom smallestFree any all allTails overlaps passesEnd seenOk
 sound-records = (refl, refl, refl, refl, refl, refl, refl, refl, refl, refl, refl, refl, refl)
 
 -- "locks 128"; "no lock passes 2^64; and two locks of one file that overlap are both shared"
@@ -215,14 +215,14 @@ pub sound-locks : (judged (oneOf 16 32 1 64 15 2 (replicate 128 (lock64 7 0)) 0)
     × (judged (oneOf 16 32 1 64 15 2 (lock64 18446744073709551615 2 ∷ []) 0) ≡ 4)
     × (judged (oneOf 16 32 1 64 15 2 (lock64 0 10 ∷ lock64 10 10 ∷ []) 0) ≡ 0)
     × (judged (oneOf 16 32 1 64 15 2 (lock64 0 10 ∷ lock64 9 10 ∷ []) 0) ≡ 4)
-unfolding oneOf lock64 judged session tree open-of refused done dropConnection sound withinRoom fileOk treeOk permits holdsOpen sharingOk catalogueOk noneDoubled openOk soundRecords lockOk agree agreeAll soundLocks fileOf isTree contains numberOk numbered freeFrom smallestFree any all allTails overlaps passesEnd
+unfolding oneOf lock64 judged session tree open-of refused done dropConnection sound withinRoom fileOk treeOk permits holdsOpen sharingOk catalogueOk noneDoubled openOk soundRecords lockOk agree agreeAll soundLocks fileOf isTree contains numberOk numbered freeFrom smallestFree any all allTails overlaps passesEnd seenOk
 sound-locks = (refl, refl, refl, refl, refl, refl)
 
 -- "5: table full": 16 sessions, 32 trees, 64 opens
 pub full-5 : (addSession full 6 .number ≡ 5)
     × (addTree full 1 1 .number ≡ 5)
     × (addOpen full 1 2 7 0 2 .number ≡ 5)
-unfolding full upTo fewRecords tablesWith session tree open-of sizes countFrom refused done newSession addSession newTree addTree newOpen addOpen isOf loadNumber loadFile dropConnection sound withinRoom fileOk treeOk permits holdsOpen sharingOk catalogueOk noneDoubled openOk soundRecords lockOk agree agreeAll soundLocks fileOf isTree contains numberOk numbered freeFrom smallestFree any all allTails overlaps passesEnd
+unfolding full upTo fewRecords tablesWith session tree open-of sizes countFrom refused done newSession addSession newTree addTree newOpen addOpen isOf loadNumber loadFile dropConnection sound withinRoom fileOk treeOk permits holdsOpen sharingOk catalogueOk noneDoubled openOk soundRecords lockOk agree agreeAll soundLocks fileOf isTree contains numberOk numbered freeFrom smallestFree any all allTails overlaps passesEnd seenOk
 full-5 = (refl, refl, refl)
 
 -- one record less, and the last number is given out
@@ -232,7 +232,7 @@ pub last-number : (addSession nearly 6 .number ≡ 0)
     × (addTree nearly 1 1 .id ≡ 32)
     × (addOpen nearly 1 2 7 0 2 .number ≡ 0)
     × (addOpen nearly 1 2 7 0 2 .id ≡ 64)
-unfolding nearly upTo fewRecords tablesWith session tree open-of sizes countFrom refused done newSession addSession newTree addTree newOpen addOpen isOf loadNumber loadFile dropConnection sound withinRoom fileOk treeOk permits holdsOpen sharingOk catalogueOk noneDoubled openOk soundRecords lockOk agree agreeAll soundLocks fileOf isTree contains numberOk numbered freeFrom smallestFree any all allTails overlaps passesEnd
+unfolding nearly upTo fewRecords tablesWith session tree open-of sizes countFrom refused done newSession addSession newTree addTree newOpen addOpen isOf loadNumber loadFile dropConnection sound withinRoom fileOk treeOk permits holdsOpen sharingOk catalogueOk noneDoubled openOk soundRecords lockOk agree agreeAll soundLocks fileOf isTree contains numberOk numbered freeFrom smallestFree any all allTails overlaps passesEnd seenOk
 last-number = (refl, refl, refl, refl, refl, refl)
 
 -- "6: no such session, or no such tree of that session", before 5
@@ -241,7 +241,7 @@ pub none-6 : (addTree fewRecords 4 1 .number ≡ 6)
     × (addOpen fewRecords 4 2 7 1 2 .number ≡ 6)
     × (addTree full 17 1 .number ≡ 6)
     × (addOpen full 2 2 7 0 2 .number ≡ 6)
-unfolding full upTo fewRecords tablesWith session tree open-of sizes countFrom refused done newSession addSession newTree addTree newOpen addOpen isOf loadNumber loadFile dropConnection sound withinRoom fileOk treeOk permits holdsOpen sharingOk catalogueOk noneDoubled openOk soundRecords lockOk agree agreeAll soundLocks fileOf isTree contains numberOk numbered freeFrom smallestFree any all allTails overlaps passesEnd
+unfolding full upTo fewRecords tablesWith session tree open-of sizes countFrom refused done newSession addSession newTree addTree newOpen addOpen isOf loadNumber loadFile dropConnection sound withinRoom fileOk treeOk permits holdsOpen sharingOk catalogueOk noneDoubled openOk soundRecords lockOk agree agreeAll soundLocks fileOf isTree contains numberOk numbered freeFrom smallestFree any all allTails overlaps passesEnd seenOk
 none-6 = (refl, refl, refl, refl, refl)
 
 -- "7: number out of range (file above 15, access above 2, right above 1, load over 4,096 bytes)", before 6 and 9
@@ -253,19 +253,19 @@ pub range-7 : (addTree fewRecords 3 2 .number ≡ 7)
     × (addTree fewRecords 4 2 .number ≡ 7)
     × (addOpen fewRecords 4 2 7 16 2 .number ≡ 7)
     × (loadFile fewRecords 1 (replicate 4097 0xAA) memory .number ≡ 7)
-unfolding fewRecords tablesWith session tree open-of sizes memory refused done newSession addSession newTree addTree newOpen addOpen isOf loadNumber loadFile dropConnection sound withinRoom fileOk treeOk permits holdsOpen sharingOk catalogueOk noneDoubled openOk soundRecords lockOk agree agreeAll soundLocks fileOf isTree contains numberOk numbered freeFrom smallestFree any all allTails overlaps passesEnd
+unfolding fewRecords tablesWith session tree open-of sizes memory refused done newSession addSession newTree addTree newOpen addOpen isOf loadNumber loadFile dropConnection sound withinRoom fileOk treeOk permits holdsOpen sharingOk catalogueOk noneDoubled openOk soundRecords lockOk agree agreeAll soundLocks fileOf isTree contains numberOk numbered freeFrom smallestFree any all allTails overlaps passesEnd seenOk
 range-7 = (refl, refl, refl, refl, refl, refl, refl, refl)
 
 -- "8: open would exceed its tree's right", before 5: right 0 is read, access 1 write and 2 both
 pub exceeds-8 : (addOpen full 1 1 7 0 1 .number ≡ 8)
     × (addOpen full 1 1 7 0 2 .number ≡ 8)
     × (addOpen full 1 1 7 0 0 .number ≡ 5)
-unfolding full upTo fewRecords tablesWith session tree open-of sizes countFrom refused done newSession addSession newTree addTree newOpen addOpen isOf loadNumber loadFile dropConnection sound withinRoom fileOk treeOk permits holdsOpen sharingOk catalogueOk noneDoubled openOk soundRecords lockOk agree agreeAll soundLocks fileOf isTree contains numberOk numbered freeFrom smallestFree any all allTails overlaps passesEnd
+unfolding full upTo fewRecords tablesWith session tree open-of sizes countFrom refused done newSession addSession newTree addTree newOpen addOpen isOf loadNumber loadFile dropConnection sound withinRoom fileOk treeOk permits holdsOpen sharingOk catalogueOk noneDoubled openOk soundRecords lockOk agree agreeAll soundLocks fileOf isTree contains numberOk numbered freeFrom smallestFree any all allTails overlaps passesEnd seenOk
 exceeds-8 = (refl, refl, refl)
 
 -- "9: load of a file that has an open"
 pub open-9 : (loadFile fewRecords 1 [] memory .number ≡ 9)
-unfolding fewRecords tablesWith session tree open-of sizes memory refused done newSession addSession newTree addTree newOpen addOpen isOf loadNumber loadFile dropConnection sound withinRoom fileOk treeOk permits holdsOpen sharingOk catalogueOk noneDoubled openOk soundRecords lockOk agree agreeAll soundLocks fileOf isTree contains numberOk numbered freeFrom smallestFree any all allTails overlaps passesEnd
+unfolding fewRecords tablesWith session tree open-of sizes memory refused done newSession addSession newTree addTree newOpen addOpen isOf loadNumber loadFile dropConnection sound withinRoom fileOk treeOk permits holdsOpen sharingOk catalogueOk noneDoubled openOk soundRecords lockOk agree agreeAll soundLocks fileOf isTree contains numberOk numbered freeFrom smallestFree any all allTails overlaps passesEnd seenOk
 open-9 = refl
 
 -- ---- document 02, CR 6
@@ -278,7 +278,7 @@ shared-as sharing =
       nsessions = 1;
       trees = tree 2 3 1 ∷ [];
       ntrees = 1;
-      opens = record { fid = 4; uid = 3; tid = 2; process = 7; file = 1; access = 2; sharing = sharing } ∷ [];
+      opens = record { fid = 4; uid = 3; tid = 2; process = 7; file = 1; access = 2; sharing = sharing; read = false; seen = 0 } ∷ [];
       nopens = 1;
       locks = [];
       nlocks = 0;
@@ -288,7 +288,7 @@ shared-as sharing =
     }
 
 pub sharing-codes : map (λ sharing. judged (shared-as sharing)) (0 ∷ 1 ∷ 2 ∷ 3 ∷ 4 ∷ 5 ∷ []) ≡ 4 ∷ 0 ∷ 0 ∷ 0 ∷ 0 ∷ 4 ∷ []
-unfolding shared-as judged session tree sizes refused done dropConnection sound withinRoom fileOk treeOk permits holdsOpen sharingOk catalogueOk noneDoubled openOk soundRecords lockOk agree agreeAll soundLocks fileOf isTree contains numberOk numbered freeFrom smallestFree any all allTails overlaps passesEnd
+unfolding shared-as judged session tree sizes refused done dropConnection sound withinRoom fileOk treeOk permits holdsOpen sharingOk catalogueOk noneDoubled openOk soundRecords lockOk agree agreeAll soundLocks fileOf isTree contains numberOk numbered freeFrom smallestFree any all allTails overlaps passesEnd seenOk
 sharing-codes = refl
 
 -- what setting those names returns
@@ -324,10 +324,10 @@ pub catalogue-7 : (setting [] ≡ 0)
     × (setting (name (0x40 ∷ []) 1 ∷ name (0x60 ∷ []) 1 ∷ name (0x5B ∷ []) 1 ∷ name (0x7B ∷ []) 1 ∷ name (0xC4 ∷ []) 1 ∷ name (0xE4 ∷ []) 1 ∷ []) ≡ 0)
     × (setCatalogue fewRecords (name large 1 ∷ name large 16 ∷ []) 1 .number ≡ 0)
     × (setCatalogue crowded (name large 16 ∷ []) 1 .number ≡ 4)
-unfolding setting sixteen large small crowded fewRecords tablesWith session tree open-of name sizes countFrom refused done setCatalogue folded sameName nameBytes isNamed notZero nameOk differ noneDoubled catalogueOk sound withinRoom fileOk treeOk permits holdsOpen sharingOk openOk soundRecords lockOk agree agreeAll soundLocks fileOf isTree contains numberOk numbered freeFrom smallestFree any all allTails overlaps passesEnd
+unfolding setting sixteen large small crowded fewRecords tablesWith session tree open-of name sizes countFrom refused done setCatalogue folded sameName nameBytes isNamed notZero nameOk differ noneDoubled catalogueOk sound withinRoom fileOk treeOk permits holdsOpen sharingOk openOk soundRecords lockOk agree agreeAll soundLocks fileOf isTree contains numberOk numbered freeFrom smallestFree any all allTails overlaps passesEnd seenOk
 catalogue-7 = (refl, refl, refl, refl, refl, refl, refl, refl, refl, refl, refl, refl, refl, refl, refl)
 
 -- the open that the host adds has sharing code 4
 pub host-denies-nothing : map (λ (o : Open). o .sharing) (opensOf (addOpen nearly 1 2 7 0 2 .tables)) ≡ replicate 64 4
-unfolding nearly upTo fewRecords tablesWith session tree open-of sizes countFrom refused done newOpen addOpen withOpens stored sound withinRoom fileOk treeOk permits holdsOpen sharingOk catalogueOk noneDoubled openOk soundRecords lockOk agree agreeAll soundLocks fileOf isTree contains numberOk numbered freeFrom smallestFree any all allTails overlaps passesEnd
+unfolding nearly upTo fewRecords tablesWith session tree open-of sizes countFrom refused done newOpen addOpen withOpens stored sound withinRoom fileOk treeOk permits holdsOpen sharingOk catalogueOk noneDoubled openOk soundRecords lockOk agree agreeAll soundLocks fileOf isTree contains numberOk numbered freeFrom smallestFree any all allTails overlaps passesEnd seenOk
 host-denies-nothing = refl

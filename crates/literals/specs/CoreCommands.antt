@@ -12,7 +12,7 @@ use Rattle.lists.specs.Stored.{stored}
 use Rattle.wire.specs.LittleEndian.{le16At, le32At}
 use Rattle.records.specs.declared.Lock.{Lock}
 use Rattle.records.specs.declared.Tables.{Tables}
-use Rattle.records.specs.Held.{withLocks, withFiles}
+use Rattle.records.specs.Held.{withLocks, withFiles, withOpens}
 use Rattle.locks.specs.Range.{overlaps, passesEnd}
 use Rattle.locks.specs.Wire.{rangeSize, numberAt, rangeFrom, rangeAt, rangesAt, smallForm}
 use Rattle.locks.specs.Answer.{owns, bars, inWay, named, answersFor, answers}
@@ -21,7 +21,7 @@ use Rattle.numbers.specs.Number.{contains, numberOk, numbered}
 use Rattle.soundness.specs.File.{fileOf}
 use Rattle.soundness.specs.Lookup.{isTree}
 use Rattle.catalogue.specs.Name.{noneDoubled, catalogueOk}
-use Rattle.soundness.specs.Sound.{withinRoom, fileOk, treeOk, permits, holdsOpen, sharingOk, openOk, soundRecords, lockOk, agree, agreeAll, soundLocks, sound}
+use Rattle.soundness.specs.Sound.{withinRoom, fileOk, treeOk, permits, holdsOpen, sharingOk, openOk, soundRecords, lockOk, agree, agreeAll, soundLocks, sound, seenOk}
 use Rattle.chain.specs.Header.{startsSmb, isReply, dropped}
 use Rattle.chain.specs.Grammar.{Reading, Sentence}
 use Rattle.chain.specs.Parse.{shaped, bare, isLarge, lockingFits, dataInside, writeFits, coreWriteFits, mayFollow, linkFits, linkAt, answer, wideOffset, parseLocking, parseWrite, parseBare, parseCoreWrite, parse}
@@ -32,13 +32,14 @@ use Rattle.invariants.specs.ReaderSound.{spanOf, reader-sound}
 use Rattle.readings.specs.ReaderComplete.{no-sentence}
 use Rattle.message.specs.Caller.{callerOf}
 use Rattle.message.specs.Refusal.{status, formsOf, holderOf}
-use Rattle.message.specs.Contents.{sizeOf, contents, readBytes, written, resized}
+use Rattle.message.specs.Contents.{sizeOf, contents, readBytes, written, resized, sizedTo}
 use Rattle.message.specs.Command.{isSession, withSession, withTree, isOpen, openAt, withOpen, servedType, requestOf, withLockList, lockingEnd, lockingAfter, doLocking, askBy, unlessBarred, barring, doRead, endsPast, doWrite, coreSaid, asCore, rangeBy, oneRange, doRange, betweenSizes, doSetSize, doCoreWrite, perform}
 use Rattle.message.specs.Reply.{two, replyHeader, linkWords, replyBlock, refusedBlock, replySize, four, ntBit, smbNumber, statusNumber}
 use Rattle.message.specs.JustOpened.{fidMeant, bodyMeant}
 use Rattle.message.specs.Message.{areaOf, dataOf, after, linkTo, afterGiven, run, served, onlyStatus, runChain, answered, replyOf, replied, take-message}
-use Rattle.literals.specs.State.{session, tree, open-of, sizes, tablesWith, fewRecords, memory}
+use Rattle.literals.specs.State.{session, tree, open-of, having-read, sizes, tablesWith, fewRecords, memory}
 use Rattle.literals.specs.Replies.{message, lockBlock, lock100, range100, writeBlock, taken, Given, given, reply, doneReply, Row, refusal, opened, lock, heldAt, contested, rangeOf}
+use Rattle.records.specs.Change.{changesOf, noting}
 
 -- ---- requests, of FID 4 where none is named
 
@@ -152,7 +153,7 @@ malformed =
     (wrongMark ∷ wrongCount ∷ wrongLength ∷ byteLess ∷ byteMore ∷ noBlock ∷ halfBlock ∷ roundAbout ∷ [])
 
 pub malformed-replies : map (λ r. given (r .tables) (r .request)) malformed ≡ map (λ r. r .said) malformed
-unfolding malformed wrongMark wrongCount wrongLength byteLess byteMore noBlock halfBlock roundAbout row sent coreWrite message fewRecords tablesWith session tree open-of sizes memory given taken take-message dropped startsSmb isReply answered served replied replyOf replyHeader put runChain onlyStatus blocks blocksFrom blocksWithin afterParse afterBlock parse parseCoreWrite answer coreWriteFits shaped le16At le32At formsOf status refusedBlock refusal reply two sound withinRoom fileOk treeOk permits holdsOpen sharingOk catalogueOk noneDoubled openOk soundRecords lockOk agree agreeAll soundLocks fileOf isTree contains numberOk numbered any all allTails overlaps passesEnd four statusNumber smbNumber ntBit
+unfolding malformed wrongMark wrongCount wrongLength byteLess byteMore noBlock halfBlock roundAbout row sent coreWrite message fewRecords tablesWith session tree open-of sizes memory given taken take-message dropped startsSmb isReply answered served replied replyOf replyHeader put runChain onlyStatus blocks blocksFrom blocksWithin afterParse afterBlock parse parseCoreWrite answer coreWriteFits shaped le16At le32At formsOf status refusedBlock refusal reply two sound withinRoom fileOk treeOk permits holdsOpen sharingOk catalogueOk noneDoubled openOk soundRecords lockOk agree agreeAll soundLocks fileOf isTree contains numberOk numbered any all allTails overlaps passesEnd four statusNumber smbNumber ntBit seenOk
 malformed-replies = refl
 
 -- ---- replies
@@ -303,7 +304,7 @@ table = readReplies ++ (writeReplies ++ (sizeReplies ++ (rangeReplies ++ (whoMay
 
 -- what the definitions give is what the documents say, in every row
 pub core-replies : map (λ r. given (r .tables) (r .request)) table ≡ map (λ r. r .said) table
-unfolding table longWrite longRead topRange farSize emptyReply readReplies writeReplies resizedReply sizeReplies rangeReplies whoMayAsk ownShared conflicts sizeConflicts lockBetween chains row sent coreRead coreWrite writeTo sizeTo byteRange holderOf message fewRecords tablesWith session tree open-of sizes memory given taken take-message dropped startsSmb isReply answered served replied replyOf replyHeader put runChain onlyStatus blocks blocksFrom blocksWithin afterParse afterBlock before parse answer linkFits linkAt mayFollow shaped bare le16At le32At callerOf run bodyMeant fidMeant afterGiven after linkTo perform areaOf dataOf status formsOf replyBlock refusedBlock replySize linkWords two withSession isSession withTree withOpen isOpen openAt found foundFrom sound withinRoom fileOk treeOk permits holdsOpen sharingOk catalogueOk noneDoubled openOk soundRecords lockOk agree agreeAll soundLocks fileOf isTree contains numberOk numbered any all allTails overlaps passesEnd reply lock100 lockBlock range100 parseLocking lockingFits isLarge rangeSize doLocking servedType requestOf locking request releaseAll afterFind removeAt named afterReleases grantAll afterWalk afterGrants settle rangesOf ofHeader rangesAt rangeAt rangeFrom numberAt rangePasses askOf lockOf answers answersFor inWay bars owns lockingAfter lockingEnd withLockList stored wideOffset doRead unlessBarred barring askBy readBytes contents sizeOf writeBlock parseWrite writeFits dataInside doWrite endsPast resized written withFiles parseBare withLocks refusal opened lock heldAt contested rangeOf holderAt parseCoreWrite coreWriteFits coreSaid asCore rangeBy oneRange doRange smallForm betweenSizes doSetSize doCoreWrite four statusNumber smbNumber ntBit doneReply
+unfolding table longWrite longRead topRange farSize emptyReply readReplies writeReplies resizedReply sizeReplies rangeReplies whoMayAsk ownShared conflicts sizeConflicts lockBetween chains row sent coreRead coreWrite writeTo sizeTo byteRange holderOf message fewRecords tablesWith session tree open-of sizes memory given taken take-message dropped startsSmb isReply answered served replied replyOf replyHeader put runChain onlyStatus blocks blocksFrom blocksWithin afterParse afterBlock before parse answer linkFits linkAt mayFollow shaped bare le16At le32At callerOf run bodyMeant fidMeant afterGiven after linkTo perform areaOf dataOf status formsOf replyBlock refusedBlock replySize linkWords two withSession isSession withTree withOpen isOpen openAt found foundFrom sound withinRoom fileOk treeOk permits holdsOpen sharingOk catalogueOk noneDoubled openOk soundRecords lockOk agree agreeAll soundLocks fileOf isTree contains numberOk numbered any all allTails overlaps passesEnd reply lock100 lockBlock range100 parseLocking lockingFits isLarge rangeSize doLocking servedType requestOf locking request releaseAll afterFind removeAt named afterReleases grantAll afterWalk afterGrants settle rangesOf ofHeader rangesAt rangeAt rangeFrom numberAt rangePasses askOf lockOf answers answersFor inWay bars owns lockingAfter lockingEnd withLockList stored wideOffset doRead unlessBarred barring askBy readBytes contents sizeOf writeBlock parseWrite writeFits dataInside doWrite endsPast resized written withFiles parseBare withLocks refusal opened lock heldAt contested rangeOf holderAt parseCoreWrite coreWriteFits coreSaid asCore rangeBy oneRange doRange smallForm betweenSizes doSetSize doCoreWrite four statusNumber smbNumber ntBit doneReply seenOk noting changesOf withOpens sizedTo
 core-replies = refl
 
 -- ---- what else the call leaves
@@ -316,14 +317,14 @@ sizesIn t = map (λ f. f .size) (t .files)
 unfoldable pub file1 : List ℕ → ℕ → List ℕ
 file1 bytes rest = replicate 4096 0 ++ (bytes ++ replicate rest 0)
 
--- READ changes nothing, and a WRITE refused neither. A WRITE changes its bytes.
-pub core-left : (taken fewRecords (sent 0x0A (coreRead 4 3 2)) .tables ≡ fewRecords)
+-- READ changes nothing but what its open remembers (document 02, CR 8), and a WRITE refused nothing at all. A WRITE changes its bytes.
+pub core-left : (taken fewRecords (sent 0x0A (coreRead 4 3 2)) .tables ≡ tablesWith (session 3 5 ∷ []) (tree 2 3 1 ∷ []) (having-read 8 (open-of 4 3 2 0x0D0C1B1A 1 2) ∷ []) [])
     × (taken fewRecords (sent 0x0A (coreRead 4 3 2)) .memory ≡ memory)
     × (taken fewRecords (sent 0x0B (sizeTo 0x01 0x10)) .tables ≡ fewRecords)
     × (taken fewRecords (sent 0x0B (sizeTo 0x01 0x10)) .memory ≡ memory)
     × (sizesIn (taken fewRecords (sent 0x0B (writeTo 2 0)) .tables) ≡ 0 ∷ 6 ∷ replicate 14 0)
     × (taken fewRecords (sent 0x0B (writeTo 2 0)) .memory ≡ file1 (0xA0 ∷ 0xA1 ∷ 0xBB ∷ 0xCC ∷ 0xA4 ∷ 0xA5 ∷ []) 61434)
-unfolding sizesIn file1 sent coreRead coreWrite writeTo sizeTo byteRange holderOf message fewRecords tablesWith session tree open-of sizes memory taken take-message dropped startsSmb isReply answered served replied replyOf replyHeader put runChain onlyStatus blocks blocksFrom blocksWithin afterParse afterBlock before parse answer linkFits linkAt mayFollow shaped bare le16At le32At callerOf run bodyMeant fidMeant afterGiven after linkTo perform areaOf dataOf status formsOf replyBlock refusedBlock replySize linkWords two withSession isSession withTree withOpen isOpen openAt found foundFrom sound withinRoom fileOk treeOk permits holdsOpen sharingOk catalogueOk noneDoubled openOk soundRecords lockOk agree agreeAll soundLocks fileOf isTree contains numberOk numbered any all allTails overlaps passesEnd lock100 lockBlock range100 parseLocking lockingFits isLarge rangeSize doLocking servedType requestOf locking request releaseAll afterFind removeAt named afterReleases grantAll afterWalk afterGrants settle rangesOf ofHeader rangesAt rangeAt rangeFrom numberAt rangePasses askOf lockOf answers answersFor inWay bars owns lockingAfter lockingEnd withLockList stored doRead unlessBarred barring askBy readBytes contents sizeOf doWrite endsPast resized written withFiles parseBare withLocks opened lock parseCoreWrite coreWriteFits coreSaid asCore rangeBy oneRange doRange smallForm betweenSizes doSetSize doCoreWrite four statusNumber smbNumber ntBit
+unfolding having-read sizesIn file1 sent coreRead coreWrite writeTo sizeTo byteRange holderOf message fewRecords tablesWith session tree open-of sizes memory taken take-message dropped startsSmb isReply answered served replied replyOf replyHeader put runChain onlyStatus blocks blocksFrom blocksWithin afterParse afterBlock before parse answer linkFits linkAt mayFollow shaped bare le16At le32At callerOf run bodyMeant fidMeant afterGiven after linkTo perform areaOf dataOf status formsOf replyBlock refusedBlock replySize linkWords two withSession isSession withTree withOpen isOpen openAt found foundFrom sound withinRoom fileOk treeOk permits holdsOpen sharingOk catalogueOk noneDoubled openOk soundRecords lockOk agree agreeAll soundLocks fileOf isTree contains numberOk numbered any all allTails overlaps passesEnd lock100 lockBlock range100 parseLocking lockingFits isLarge rangeSize doLocking servedType requestOf locking request releaseAll afterFind removeAt named afterReleases grantAll afterWalk afterGrants settle rangesOf ofHeader rangesAt rangeAt rangeFrom numberAt rangePasses askOf lockOf answers answersFor inWay bars owns lockingAfter lockingEnd withLockList stored doRead unlessBarred barring askBy readBytes contents sizeOf doWrite endsPast resized written withFiles parseBare withLocks opened lock parseCoreWrite coreWriteFits coreSaid asCore rangeBy oneRange doRange smallForm betweenSizes doSetSize doCoreWrite four statusNumber smbNumber ntBit seenOk noting changesOf withOpens sizedTo
 core-left = (refl, refl, refl, refl, refl, refl)
 
 -- the tables after a WRITE of count 0 to 4: the file shrinks by the bytes A4 A5
@@ -342,7 +343,7 @@ pub sizes-left : (sizesIn shrunk ≡ 0 ∷ 4 ∷ replicate 14 0)
     × (taken shrunk (sent 0x0B (sizeTo 9 0)) .memory ≡ file1 (0xA0 ∷ 0xA1 ∷ 0xA2 ∷ 0xA3 ∷ []) 61436)
     × (sizesIn (taken shrunk (sent 0x0B (writeTo 6 0)) .tables) ≡ 0 ∷ 8 ∷ replicate 14 0)
     × (taken shrunk (sent 0x0B (writeTo 6 0)) .memory ≡ file1 (0xA0 ∷ 0xA1 ∷ 0xA2 ∷ 0xA3 ∷ 0x00 ∷ 0x00 ∷ 0xBB ∷ 0xCC ∷ []) 61432)
-unfolding shrunk sizesIn file1 sent coreRead coreWrite writeTo sizeTo byteRange holderOf message fewRecords tablesWith session tree open-of sizes memory taken take-message dropped startsSmb isReply answered served replied replyOf replyHeader put runChain onlyStatus blocks blocksFrom blocksWithin afterParse afterBlock before parse answer linkFits linkAt mayFollow shaped bare le16At le32At callerOf run bodyMeant fidMeant afterGiven after linkTo perform areaOf dataOf status formsOf replyBlock refusedBlock replySize linkWords two withSession isSession withTree withOpen isOpen openAt found foundFrom sound withinRoom fileOk treeOk permits holdsOpen sharingOk catalogueOk noneDoubled openOk soundRecords lockOk agree agreeAll soundLocks fileOf isTree contains numberOk numbered any all allTails overlaps passesEnd lock100 lockBlock range100 parseLocking lockingFits isLarge rangeSize doLocking servedType requestOf locking request releaseAll afterFind removeAt named afterReleases grantAll afterWalk afterGrants settle rangesOf ofHeader rangesAt rangeAt rangeFrom numberAt rangePasses askOf lockOf answers answersFor inWay bars owns lockingAfter lockingEnd withLockList stored doRead unlessBarred barring askBy readBytes contents sizeOf doWrite endsPast resized written withFiles parseBare withLocks opened lock parseCoreWrite coreWriteFits coreSaid asCore rangeBy oneRange doRange smallForm betweenSizes doSetSize doCoreWrite four statusNumber smbNumber ntBit
+unfolding shrunk sizesIn file1 sent coreRead coreWrite writeTo sizeTo byteRange holderOf message fewRecords tablesWith session tree open-of sizes memory taken take-message dropped startsSmb isReply answered served replied replyOf replyHeader put runChain onlyStatus blocks blocksFrom blocksWithin afterParse afterBlock before parse answer linkFits linkAt mayFollow shaped bare le16At le32At callerOf run bodyMeant fidMeant afterGiven after linkTo perform areaOf dataOf status formsOf replyBlock refusedBlock replySize linkWords two withSession isSession withTree withOpen isOpen openAt found foundFrom sound withinRoom fileOk treeOk permits holdsOpen sharingOk catalogueOk noneDoubled openOk soundRecords lockOk agree agreeAll soundLocks fileOf isTree contains numberOk numbered any all allTails overlaps passesEnd lock100 lockBlock range100 parseLocking lockingFits isLarge rangeSize doLocking servedType requestOf locking request releaseAll afterFind removeAt named afterReleases grantAll afterWalk afterGrants settle rangesOf ofHeader rangesAt rangeAt rangeFrom numberAt rangePasses askOf lockOf answers answersFor inWay bars owns lockingAfter lockingEnd withLockList stored doRead unlessBarred barring askBy readBytes contents sizeOf doWrite endsPast resized written withFiles parseBare withLocks opened lock parseCoreWrite coreWriteFits coreSaid asCore rangeBy oneRange doRange smallForm betweenSizes doSetSize doCoreWrite four statusNumber smbNumber ntBit seenOk noting changesOf withOpens sizedTo
 sizes-left = (refl, refl, refl, refl, refl, refl, refl, refl, refl, refl)
 
 -- 100 to 110 between two other locks of the sender
@@ -361,5 +362,5 @@ pub locks-left : (taken fewRecords (sent 0x0C (byteRange 4 10 100)) .tables .loc
     × (taken fewRecords (sent 0x24 (lock100 0x0B ++ sizeTo 0x01 0x10)) .tables .locks ≡ lock 0x0D0C1B1A 100 10 ∷ [])
     × (taken fewRecords (sent 0x24 (lockBetween 0x01 ++ sizeTo 9 0)) .tables .locks ≡ record { fid = 4; process = 0x0D0C1B1A; offset = 6; length = 3; shared = true } ∷ [])
     × (sizesIn (taken fewRecords (sent 0x24 (lockBetween 0x01 ++ sizeTo 9 0)) .tables) ≡ 0 ∷ 6 ∷ replicate 14 0)
-unfolding lockBetween sizesIn three topRange file1 sent coreRead coreWrite writeTo sizeTo byteRange holderOf message fewRecords tablesWith session tree open-of sizes memory taken take-message dropped startsSmb isReply answered served replied replyOf replyHeader put runChain onlyStatus blocks blocksFrom blocksWithin afterParse afterBlock before parse answer linkFits linkAt mayFollow shaped bare le16At le32At callerOf run bodyMeant fidMeant afterGiven after linkTo perform areaOf dataOf status formsOf replyBlock refusedBlock replySize linkWords two withSession isSession withTree withOpen isOpen openAt found foundFrom sound withinRoom fileOk treeOk permits holdsOpen sharingOk catalogueOk noneDoubled openOk soundRecords lockOk agree agreeAll soundLocks fileOf isTree contains numberOk numbered any all allTails overlaps passesEnd lock100 lockBlock range100 parseLocking lockingFits isLarge rangeSize doLocking servedType requestOf locking request releaseAll afterFind removeAt named afterReleases grantAll afterWalk afterGrants settle rangesOf ofHeader rangesAt rangeAt rangeFrom numberAt rangePasses askOf lockOf answers answersFor inWay bars owns lockingAfter lockingEnd withLockList stored doRead unlessBarred barring askBy readBytes contents sizeOf doWrite endsPast resized written withFiles parseBare withLocks opened lock parseCoreWrite coreWriteFits coreSaid asCore rangeBy oneRange doRange smallForm betweenSizes doSetSize doCoreWrite four statusNumber smbNumber ntBit
+unfolding lockBetween sizesIn three topRange file1 sent coreRead coreWrite writeTo sizeTo byteRange holderOf message fewRecords tablesWith session tree open-of sizes memory taken take-message dropped startsSmb isReply answered served replied replyOf replyHeader put runChain onlyStatus blocks blocksFrom blocksWithin afterParse afterBlock before parse answer linkFits linkAt mayFollow shaped bare le16At le32At callerOf run bodyMeant fidMeant afterGiven after linkTo perform areaOf dataOf status formsOf replyBlock refusedBlock replySize linkWords two withSession isSession withTree withOpen isOpen openAt found foundFrom sound withinRoom fileOk treeOk permits holdsOpen sharingOk catalogueOk noneDoubled openOk soundRecords lockOk agree agreeAll soundLocks fileOf isTree contains numberOk numbered any all allTails overlaps passesEnd lock100 lockBlock range100 parseLocking lockingFits isLarge rangeSize doLocking servedType requestOf locking request releaseAll afterFind removeAt named afterReleases grantAll afterWalk afterGrants settle rangesOf ofHeader rangesAt rangeAt rangeFrom numberAt rangePasses askOf lockOf answers answersFor inWay bars owns lockingAfter lockingEnd withLockList stored doRead unlessBarred barring askBy readBytes contents sizeOf doWrite endsPast resized written withFiles parseBare withLocks opened lock parseCoreWrite coreWriteFits coreSaid asCore rangeBy oneRange doRange smallForm betweenSizes doSetSize doCoreWrite four statusNumber smbNumber ntBit seenOk noting changesOf withOpens sizedTo
 locks-left = (refl, refl, refl, refl, refl, refl, refl, refl, refl, refl)

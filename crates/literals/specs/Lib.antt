@@ -12,3 +12,4 @@ pub mod Opening
 pub mod Stream
 pub mod TwoProcesses
 pub mod NtReplies
+pub mod Changes

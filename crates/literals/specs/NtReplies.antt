@@ -18,7 +18,7 @@ use Rattle.locks.specs.Request.{locking, request, releaseAll, afterFind, remove
 use Rattle.locks.specs.Wire.{rangeSize, rangesAt, rangeAt, rangeFrom, numberAt, smallForm}
 use Rattle.message.specs.Caller.{callerOf}
 use Rattle.message.specs.Command.{openNamed, perform, withSession, isSession, withTree, withOpen, isOpen, openAt, doLocking, servedType, requestOf, lockingAfter, lockingEnd, withLockList, doRead, unlessBarred, barring, askBy, doWrite, endsPast, coreSaid, asCore, rangeBy, oneRange, doRange, betweenSizes, doSetSize, doCoreWrite, doOpen, codesServed, nameAsked, openFile, openBy, openedSaid}
-use Rattle.message.specs.Contents.{readBytes, contents, sizeOf, resized, written}
+use Rattle.message.specs.Contents.{readBytes, contents, sizeOf, resized, written, sizedTo}
 use Rattle.message.specs.JustOpened.{bodyMeant, fidMeant, openedBy}
 use Rattle.message.specs.Message.{take-message, answered, served, replied, replyOf, runChain, onlyStatus, run, afterGiven, after, linkTo, areaOf, dataOf}
 use Rattle.message.specs.Refusal.{holderOf, status, formsOf}
@@ -29,13 +29,14 @@ use Rattle.records.specs.Held.{withFiles, withSessions, withTrees, withOpens, w
 use Rattle.removal.specs.Removal.{remove, sweepSessions, sweepTrees, sweepOpens, sweepLocks, sessionNamed, treeNamed, sessionStays, treeStays, openStays, lockStays, openNamed as openGone}
 use Rattle.soundness.specs.File.{fileOf}
 use Rattle.soundness.specs.Lookup.{isTree}
-use Rattle.soundness.specs.Sound.{sound, withinRoom, fileOk, treeOk, permits, holdsOpen, sharingOk, openOk, soundRecords, lockOk, agree, agreeAll, soundLocks}
+use Rattle.soundness.specs.Sound.{sound, withinRoom, fileOk, treeOk, permits, holdsOpen, sharingOk, openOk, soundRecords, lockOk, agree, agreeAll, soundLocks, seenOk}
 use Rattle.wire.specs.LittleEndian.{le16At, le32At}
 use Rattle.literals.specs.CoreCommands.{row as core, sent, coreRead, coreWrite, writeTo, sizeTo, byteRange}
 use Rattle.literals.specs.Counting.{countFrom}
 use Rattle.literals.specs.Opening.{row as toOpen, attributes, opensCrl, openCrl, moded, asking, noOpens, having, beside, another, allUsed, opening, crlBytes, crl, openWords, bBytes, aBytes, catalogued, twelve, fiveNames, twoSizes}
 use Rattle.literals.specs.Replies.{Row, lockingReply, readReply, writeReply, closeReply, logoffReply, disconnectReply, exitReply, lockReadReply, lockRefusedReply, unserved, malformed, noSession, noTree, noOpen, noRead, noWrite, lockType, noSuchLock, passesTop, noRecord, noSpace, readHeld, writeHeld, lockHeld, ownRangeHeld, chainHeld, messageOf, message, given, refusal, reply, doneReply, taken, opened, lock, contested, heldAt, lock100, lockBlock, range100, rangeOf, readBlock, writeBlock, closeBlock}
 use Rattle.literals.specs.State.{session, tree, open-of, sizes, tablesWith, fewRecords, memory, name}
+use Rattle.records.specs.Change.{changesOf, noting}
 
 -- "With the bit set in a request, the reply sets it and carries": of that request with Flags2 0xFFFF, Flags2 being the request's & 0x4001 (docs/DECISIONS.md, 127), 0x40 at 11, and at 5 those four bytes; all else is the
 -- same
@@ -121,7 +122,7 @@ table = allDone ++ (refusals ++ (conflicts ++ (coreRefusals ++ openRefusals)))
 
 -- what the definitions give is what the paper says, in every row
 pub nt-replies : map (λ r. given (r .tables) (r .request)) table ≡ map (λ r. r .said) table
-unfolding withBit doneReply attributes opensCrl allDone refusals conflicts core coreRefusals toOpen openRefusals table lockingReply readReply writeReply closeReply logoffReply disconnectReply exitReply lockReadReply lockRefusedReply unserved noSession noTree noOpen noRead noWrite lockType noSuchLock passesTop noRecord noSpace holderOf message messageOf fewRecords tablesWith session tree open-of sizes memory given taken take-message dropped startsSmb isReply answered served replied replyOf replyHeader put runChain onlyStatus blocks blocksFrom blocksWithin afterParse afterBlock before parse answer linkFits linkAt mayFollow shaped bare le16At le32At callerOf run bodyMeant fidMeant afterGiven after linkTo perform areaOf dataOf status formsOf replyBlock refusedBlock replySize linkWords two withSession isSession withTree withOpen isOpen openAt found foundFrom sound withinRoom fileOk treeOk permits holdsOpen sharingOk catalogueOk noneDoubled openOk soundRecords lockOk agree agreeAll soundLocks fileOf isTree contains numberOk numbered any all allTails overlaps passesEnd reply closeBlock lock100 lockBlock range100 parseLocking lockingFits isLarge rangeSize doLocking servedType requestOf locking request releaseAll afterFind removeAt named afterReleases grantAll afterWalk afterGrants settle rangesOf ofHeader rangesAt rangeAt rangeFrom numberAt rangePasses askOf lockOf answers answersFor inWay bars owns lockingAfter lockingEnd withLockList stored readBlock parseRead readFits wideOffset doRead unlessBarred barring askBy readBytes contents sizeOf writeBlock parseWrite writeFits dataInside doWrite endsPast resized written withFiles parseLogoff parseBare remove sweepSessions sweepTrees sweepOpens sweepLocks sessionNamed treeNamed openNamed sessionStays treeStays openStays lockStays keep withSessions withTrees withOpens withLocks refusal opened lock four statusNumber smbNumber ntBit readHeld writeHeld lockHeld ownRangeHeld chainHeld heldAt contested rangeOf holderAt sent coreRead coreWrite writeTo sizeTo byteRange parseCoreWrite coreWriteFits coreSaid asCore rangeBy oneRange doRange smallForm betweenSizes doSetSize doCoreWrite crl twelve fiveNames twoSizes catalogued having noOpens another beside openWords opening crlBytes aBytes bBytes openCrl asking moded allUsed name parseOpen openFits terminated openedBy doOpen codesServed nameAsked isNamed sameName folded nameBytes openFile openBy keptOut denied reads writes deniesReading deniesWriting openedSaid freeFrom smallestFree nameOk notZero differ openGone countFrom malformed
+unfolding withBit doneReply attributes opensCrl allDone refusals conflicts core coreRefusals toOpen openRefusals table lockingReply readReply writeReply closeReply logoffReply disconnectReply exitReply lockReadReply lockRefusedReply unserved noSession noTree noOpen noRead noWrite lockType noSuchLock passesTop noRecord noSpace holderOf message messageOf fewRecords tablesWith session tree open-of sizes memory given taken take-message dropped startsSmb isReply answered served replied replyOf replyHeader put runChain onlyStatus blocks blocksFrom blocksWithin afterParse afterBlock before parse answer linkFits linkAt mayFollow shaped bare le16At le32At callerOf run bodyMeant fidMeant afterGiven after linkTo perform areaOf dataOf status formsOf replyBlock refusedBlock replySize linkWords two withSession isSession withTree withOpen isOpen openAt found foundFrom sound withinRoom fileOk treeOk permits holdsOpen sharingOk catalogueOk noneDoubled openOk soundRecords lockOk agree agreeAll soundLocks fileOf isTree contains numberOk numbered any all allTails overlaps passesEnd reply closeBlock lock100 lockBlock range100 parseLocking lockingFits isLarge rangeSize doLocking servedType requestOf locking request releaseAll afterFind removeAt named afterReleases grantAll afterWalk afterGrants settle rangesOf ofHeader rangesAt rangeAt rangeFrom numberAt rangePasses askOf lockOf answers answersFor inWay bars owns lockingAfter lockingEnd withLockList stored readBlock parseRead readFits wideOffset doRead unlessBarred barring askBy readBytes contents sizeOf writeBlock parseWrite writeFits dataInside doWrite endsPast resized written withFiles parseLogoff parseBare remove sweepSessions sweepTrees sweepOpens sweepLocks sessionNamed treeNamed openNamed sessionStays treeStays openStays lockStays keep withSessions withTrees withOpens withLocks refusal opened lock four statusNumber smbNumber ntBit readHeld writeHeld lockHeld ownRangeHeld chainHeld heldAt contested rangeOf holderAt sent coreRead coreWrite writeTo sizeTo byteRange parseCoreWrite coreWriteFits coreSaid asCore rangeBy oneRange doRange smallForm betweenSizes doSetSize doCoreWrite crl twelve fiveNames twoSizes catalogued having noOpens another beside openWords opening crlBytes aBytes bBytes openCrl asking moded allUsed name parseOpen openFits terminated openedBy doOpen codesServed nameAsked isNamed sameName folded nameBytes openFile openBy keptOut denied reads writes deniesReading deniesWriting openedSaid freeFrom smallestFree nameOk notZero differ openGone countFrom malformed seenOk noting changesOf sizedTo
 nt-replies = refl
 
 -- the bit alone, and all but the bit and 0x0001: of Flags2 0x4000 the reply has it, of 0xBFFE nothing
@@ -129,5 +130,5 @@ pub bit-kept :
     (given fewRecords (messageOf 0x71 0x00 0x00 0x40 (0x00 ∷ 0x00 ∷ 0x00 ∷ [])) .reply
     ≡ set (reply 35 0x71 0 0 0 0x80 0x00 (0x00 ∷ 0x00 ∷ 0x00 ∷ []) .reply) 11 0x40)
     × (given fewRecords (messageOf 0x71 0x00 0xFE 0xBF (0x00 ∷ 0x00 ∷ 0x00 ∷ [])) .reply ≡ reply 35 0x71 0 0 0 0x80 0x00 (0x00 ∷ 0x00 ∷ 0x00 ∷ []) .reply)
-unfolding lockingReply readReply writeReply closeReply logoffReply disconnectReply exitReply lockReadReply lockRefusedReply unserved noSession noTree noOpen noRead noWrite lockType noSuchLock passesTop noRecord noSpace holderOf message messageOf fewRecords tablesWith session tree open-of sizes memory given taken take-message dropped startsSmb isReply answered served replied replyOf replyHeader put runChain onlyStatus blocks blocksFrom blocksWithin afterParse afterBlock before parse answer linkFits linkAt mayFollow shaped bare le16At le32At callerOf run bodyMeant fidMeant afterGiven after linkTo perform areaOf dataOf status formsOf replyBlock refusedBlock replySize linkWords two withSession isSession withTree withOpen isOpen openAt found foundFrom sound withinRoom fileOk treeOk permits holdsOpen sharingOk catalogueOk noneDoubled openOk soundRecords lockOk agree agreeAll soundLocks fileOf isTree contains numberOk numbered any all allTails overlaps passesEnd reply closeBlock lock100 lockBlock range100 parseLocking lockingFits isLarge rangeSize doLocking servedType requestOf locking request releaseAll afterFind removeAt named afterReleases grantAll afterWalk afterGrants settle rangesOf ofHeader rangesAt rangeAt rangeFrom numberAt rangePasses askOf lockOf answers answersFor inWay bars owns lockingAfter lockingEnd withLockList stored readBlock parseRead readFits wideOffset doRead unlessBarred barring askBy readBytes contents sizeOf writeBlock parseWrite writeFits dataInside doWrite endsPast resized written withFiles parseLogoff parseBare remove sweepSessions sweepTrees sweepOpens sweepLocks sessionNamed treeNamed openNamed sessionStays treeStays openStays lockStays keep withSessions withTrees withOpens withLocks refusal opened lock four statusNumber smbNumber ntBit readHeld writeHeld lockHeld ownRangeHeld chainHeld heldAt contested rangeOf holderAt sent coreRead coreWrite writeTo sizeTo byteRange parseCoreWrite coreWriteFits coreSaid asCore rangeBy oneRange doRange smallForm betweenSizes doSetSize doCoreWrite crl twelve fiveNames twoSizes catalogued having noOpens another beside openWords opening crlBytes aBytes bBytes openCrl asking moded allUsed name parseOpen openFits terminated openedBy doOpen codesServed nameAsked isNamed sameName folded nameBytes openFile openBy keptOut denied reads writes deniesReading deniesWriting openedSaid freeFrom smallestFree nameOk notZero differ openGone countFrom malformed
+unfolding lockingReply readReply writeReply closeReply logoffReply disconnectReply exitReply lockReadReply lockRefusedReply unserved noSession noTree noOpen noRead noWrite lockType noSuchLock passesTop noRecord noSpace holderOf message messageOf fewRecords tablesWith session tree open-of sizes memory given taken take-message dropped startsSmb isReply answered served replied replyOf replyHeader put runChain onlyStatus blocks blocksFrom blocksWithin afterParse afterBlock before parse answer linkFits linkAt mayFollow shaped bare le16At le32At callerOf run bodyMeant fidMeant afterGiven after linkTo perform areaOf dataOf status formsOf replyBlock refusedBlock replySize linkWords two withSession isSession withTree withOpen isOpen openAt found foundFrom sound withinRoom fileOk treeOk permits holdsOpen sharingOk catalogueOk noneDoubled openOk soundRecords lockOk agree agreeAll soundLocks fileOf isTree contains numberOk numbered any all allTails overlaps passesEnd reply closeBlock lock100 lockBlock range100 parseLocking lockingFits isLarge rangeSize doLocking servedType requestOf locking request releaseAll afterFind removeAt named afterReleases grantAll afterWalk afterGrants settle rangesOf ofHeader rangesAt rangeAt rangeFrom numberAt rangePasses askOf lockOf answers answersFor inWay bars owns lockingAfter lockingEnd withLockList stored readBlock parseRead readFits wideOffset doRead unlessBarred barring askBy readBytes contents sizeOf writeBlock parseWrite writeFits dataInside doWrite endsPast resized written withFiles parseLogoff parseBare remove sweepSessions sweepTrees sweepOpens sweepLocks sessionNamed treeNamed openNamed sessionStays treeStays openStays lockStays keep withSessions withTrees withOpens withLocks refusal opened lock four statusNumber smbNumber ntBit readHeld writeHeld lockHeld ownRangeHeld chainHeld heldAt contested rangeOf holderAt sent coreRead coreWrite writeTo sizeTo byteRange parseCoreWrite coreWriteFits coreSaid asCore rangeBy oneRange doRange smallForm betweenSizes doSetSize doCoreWrite crl twelve fiveNames twoSizes catalogued having noOpens another beside openWords opening crlBytes aBytes bBytes openCrl asking moded allUsed name parseOpen openFits terminated openedBy doOpen codesServed nameAsked isNamed sameName folded nameBytes openFile openBy keptOut denied reads writes deniesReading deniesWriting openedSaid freeFrom smallestFree nameOk notZero differ openGone countFrom malformed seenOk noting changesOf sizedTo
 bit-kept = (refl, refl)

@@ -2,6 +2,7 @@
 -- leaves. Messages and replies are those of Replies.antt. Assumes nothing.
 use mathlib.Core.Path.{_≡_, refl}
 use Prim.Native.Nat.{ℕ}
+use mathlib.Core.Bool.{false}
 use mathlib.Core.List.{List, [], _∷_, _++_, map}
 use lib.Dec.{eqb}
 use lib.ListN.{length, replicate}
@@ -25,7 +26,7 @@ use Rattle.numbers.specs.Number.{contains, numberOk, numbered, freeFrom, smalle
 use Rattle.catalogue.specs.Name.{folded, sameName, nameBytes, isNamed, notZero, nameOk, differ, noneDoubled, catalogueOk}
 use Rattle.soundness.specs.File.{fileOf}
 use Rattle.soundness.specs.Lookup.{isTree}
-use Rattle.soundness.specs.Sound.{withinRoom, fileOk, treeOk, permits, holdsOpen, sharingOk, openOk, soundRecords, lockOk, agree, agreeAll, soundLocks, sound}
+use Rattle.soundness.specs.Sound.{withinRoom, fileOk, treeOk, permits, holdsOpen, sharingOk, openOk, soundRecords, lockOk, agree, agreeAll, soundLocks, sound, seenOk}
 use Rattle.removal.specs.Removal.{sessionNamed, treeNamed, openNamed as openGone, sessionStays, treeStays, openStays, lockStays, sweepSessions, sweepTrees, sweepOpens, sweepLocks, remove}
 use Rattle.chain.specs.Header.{startsSmb, isReply, dropped}
 use Rattle.chain.specs.Parse.{shaped, bare, isLarge, lockingFits, readFits, terminated, openFits, mayFollow, linkFits, linkAt, answer, wideOffset, parseLocking, parseRead, parseOpen, parseBare, parse}
@@ -39,8 +40,9 @@ use Rattle.message.specs.Reply.{two, four, replyHeader, linkWords, replyBlock, 
 use Rattle.message.specs.JustOpened.{openedBy, fidMeant, bodyMeant}
 use Rattle.message.specs.Message.{areaOf, dataOf, after, linkTo, afterGiven, run, served, onlyStatus, runChain, answered, replyOf, replied, take-message}
 use Rattle.literals.specs.Counting.{countFrom}
-use Rattle.literals.specs.State.{session, tree, open-of, name, memory}
+use Rattle.literals.specs.State.{session, tree, open-of, having-read, name, memory}
 use Rattle.literals.specs.Replies.{message, lock100, lockBlock, range100, taken, Given, given, reply, doneReply, Row, refusal}
+use Rattle.records.specs.Change.{changesOf, noting}
 
 -- ---- tables with a catalogue
 
@@ -54,9 +56,10 @@ twelve = 0x41 ∷ 0x42 ∷ 0x43 ∷ 0x44 ∷ 0x45 ∷ 0x46 ∷ 0x47 ∷ 0x48 ∷
 unfoldable pub fiveNames : List Name
 fiveNames = name crl 1 ∷ name (0x41 ∷ []) 2 ∷ name twelve 15 ∷ name (0x43 ∷ 0x4F ∷ 0x50 ∷ 0x59 ∷ []) 1 ∷ name (0x5B ∷ 0x5A ∷ []) 3 ∷ []
 
--- file 1 has a size of 6, file 2 one of 3,845, which is 0x0F05
+-- file 1 has a size of 6 and was changed 8 times, file 2 a size of 3,845, which is 0x0F05, and a change number of four bytes
 unfoldable pub twoSizes : List File
-twoSizes = record { size = 0 } ∷ record { size = 6 } ∷ record { size = 0x0F05 } ∷ replicate 13 (record { size = 0 })
+twoSizes =
+    record { size = 0; changes = 0 } ∷ record { size = 6; changes = 8 } ∷ record { size = 0x0F05; changes = 0x01020304 } ∷ replicate 13 (record { size = 0; changes = 0 })
 
 unfoldable pub catalogued : List Session → List Tree → List Open → List Lock → Tables
 catalogued sessions trees opens locks =
@@ -84,7 +87,7 @@ noOpens = having 1 []
 
 -- an open of another session, UID 1 on connection 6, and its tree TID 1: that FID, file, access and sharing code
 unfoldable pub another : ℕ → ℕ → ℕ → ℕ → Open
-another fid file access sharing = record { fid = fid; uid = 1; tid = 1; process = 9; file = file; access = access; sharing = sharing }
+another fid file access sharing = record { fid = fid; uid = 1; tid = 1; process = 9; file = file; access = access; sharing = sharing; read = false; seen = 0 }
 
 -- beside the sender's session and tree, of that right, that session's, with those opens
 unfoldable pub beside : ℕ → List Open → Tables
@@ -287,7 +290,7 @@ sharing =
     ∷ row (having 1 (open-of 1 3 2 7 1 0 ∷ [])) (openCrl 0x30) (refusal 0x2D 1 0x20 0x00)
     ∷ row (having 1 (open-of 1 3 2 7 1 0 ∷ [])) (openCrl 0x22) (opensCrl 0x02 0x02)
     ∷ row (beside 1 (another 1 1 0 1 ∷ [])) (opening 0x40 (5 ∷ 0 ∷ 0x43 ∷ 0x4F ∷ 0x50 ∷ 0x59 ∷ 0 ∷ [])) (refusal 0x2D 1 0x20 0x00)
-    ∷ row (having 1 (record { fid = 1; uid = 3; tid = 2; process = 0x0D0C1B1A; file = 1; access = 0; sharing = 3 } ∷ [])) (openCrl 0x40) (refusal 0x2D 1 0x20 0x00)
+    ∷ row (having 1 (record { fid = 1; uid = 3; tid = 2; process = 0x0D0C1B1A; file = 1; access = 0; sharing = 3; read = false; seen = 0 } ∷ [])) (openCrl 0x40) (refusal 0x2D 1 0x20 0x00)
     ∷ row (beside 1 (another 1 1 0 4 ∷ another 2 1 0 3 ∷ [])) (openCrl 0x40) (refusal 0x2D 1 0x20 0x00)
     ∷ row (beside 1 (another 1 2 2 1 ∷ [])) (openCrl 0x12) (opensCrl 0x02 0x02)
     ∷ []
@@ -341,7 +344,7 @@ table = alone ++ (otherCase ++ (everyCode ++ (chains ++ (nobodys ++ (refusals ++
 
 -- what the definitions give is what the papers say, in every row
 pub open-replies : map (λ r. given (r .tables) (r .request)) table ≡ map (λ r. r .said) table
-unfolding table alone otherCase everyCode chains nobodys refusals sharing inOrder malformed notNames crl twelve fiveNames twoSizes catalogued having noOpens another beside openWords opening crlBytes aBytes bBytes openCrl crlThenRead readOf closeOf asking row fidAlone attributes opensCrl thenRead readBehind ofFile2 moded allUsed message name memory session tree open-of taken take-message dropped startsSmb isReply answered served replied replyOf replyHeader put runChain onlyStatus blocks blocksFrom blocksWithin afterParse afterBlock before parse parseOpen parseRead parseBare answer openFits terminated readFits wideOffset linkFits linkAt mayFollow shaped bare le16At le32At callerOf run bodyMeant fidMeant openedBy afterGiven after linkTo perform areaOf dataOf status formsOf holderOf replyBlock refusedBlock replySize linkWords two four withSession isSession withTree withOpen isOpen openAt found foundFrom doOpen codesServed nameAsked openNamed isNamed sameName folded nameBytes openFile openBy keptOut denied reads writes deniesReading deniesWriting openedSaid freeFrom smallestFree withOpens stored doRead unlessBarred barring askBy readBytes contents sizeOf sound withinRoom fileOk treeOk permits holdsOpen sharingOk catalogueOk noneDoubled nameOk notZero differ openOk soundRecords lockOk agree agreeAll soundLocks fileOf isTree contains numberOk numbered any all allTails overlaps passesEnd remove withSessions withTrees withLocks sessionNamed treeNamed openGone sessionStays treeStays openStays lockStays sweepSessions sweepTrees sweepOpens sweepLocks keep countFrom given reply refusal lock100 lockBlock range100 parseLocking lockingFits isLarge rangeSize doLocking servedType requestOf locking request releaseAll afterFind removeAt named afterReleases grantAll afterWalk afterGrants settle rangesOf ofHeader rangesAt rangeAt rangeFrom numberAt rangePasses askOf lockOf answers answersFor inWay bars owns lockingAfter lockingEnd withLockList statusNumber smbNumber ntBit doneReply
+unfolding table alone otherCase everyCode chains nobodys refusals sharing inOrder malformed notNames crl twelve fiveNames twoSizes catalogued having noOpens another beside openWords opening crlBytes aBytes bBytes openCrl crlThenRead readOf closeOf asking row fidAlone attributes opensCrl thenRead readBehind ofFile2 moded allUsed message name memory session tree open-of taken take-message dropped startsSmb isReply answered served replied replyOf replyHeader put runChain onlyStatus blocks blocksFrom blocksWithin afterParse afterBlock before parse parseOpen parseRead parseBare answer openFits terminated readFits wideOffset linkFits linkAt mayFollow shaped bare le16At le32At callerOf run bodyMeant fidMeant openedBy afterGiven after linkTo perform areaOf dataOf status formsOf holderOf replyBlock refusedBlock replySize linkWords two four withSession isSession withTree withOpen isOpen openAt found foundFrom doOpen codesServed nameAsked openNamed isNamed sameName folded nameBytes openFile openBy keptOut denied reads writes deniesReading deniesWriting openedSaid freeFrom smallestFree withOpens stored doRead unlessBarred barring askBy readBytes contents sizeOf sound withinRoom fileOk treeOk permits holdsOpen sharingOk catalogueOk noneDoubled nameOk notZero differ openOk soundRecords lockOk agree agreeAll soundLocks fileOf isTree contains numberOk numbered any all allTails overlaps passesEnd remove withSessions withTrees withLocks sessionNamed treeNamed openGone sessionStays treeStays openStays lockStays sweepSessions sweepTrees sweepOpens sweepLocks keep countFrom given reply refusal lock100 lockBlock range100 parseLocking lockingFits isLarge rangeSize doLocking servedType requestOf locking request releaseAll afterFind removeAt named afterReleases grantAll afterWalk afterGrants settle rangesOf ofHeader rangesAt rangeAt rangeFrom numberAt rangePasses askOf lockOf answers answersFor inWay bars owns lockingAfter lockingEnd withLockList statusNumber smbNumber ntBit doneReply seenOk noting changesOf
 open-replies = refl
 
 -- ---- each access and sharing code against each
@@ -367,7 +370,7 @@ with-each = (refl, refl, refl)
 
 -- the open that the sender gets: that FID, file, access and sharing code, of the header's UID, TID and process
 unfoldable pub new : ℕ → ℕ → ℕ → ℕ → Open
-new fid file access code = record { fid = fid; uid = 3; tid = 2; process = 0x0D0C1B1A; file = file; access = access; sharing = code }
+new fid file access code = record { fid = fid; uid = 3; tid = 2; process = 0x0D0C1B1A; file = file; access = access; sharing = code; read = false; seen = 0 }
 
 -- "UID, TID and FID are the smallest number from 1 not in use": the new open stands behind the others, with every other table, the names and the file memory as they were; codes as asked, whatever the
 -- ignored bits. It stands too where the READ behind it is refused; and is gone with the CLOSE of its FID. A refused one changes nothing.
@@ -379,9 +382,9 @@ pub open-left : (taken noOpens (asking (openCrl 0x40)) .tables ≡ having 1 (new
     × (taken (beside 1 (another 3 1 0 2 ∷ another 1 2 2 1 ∷ [])) (asking (openCrl 0x20)) .tables
     ≡ beside 1 (another 3 1 0 2 ∷ another 1 2 2 1 ∷ new 2 1 0 2 ∷ []))
     × (taken noOpens (asking (crlThenRead 0x41 ++ readOf 0xFF 0xFF 0xFF)) .tables ≡ having 1 (new 1 1 1 4 ∷ []))
-    × (taken noOpens (asking (crlThenRead 0x40 ++ (readOf 0x04 0xFF 0xFF ++ closeOf 0xFF 0xFF))) .tables ≡ having 1 (new 1 1 0 4 ∷ []))
+    × (taken noOpens (asking (crlThenRead 0x40 ++ (readOf 0x04 0xFF 0xFF ++ closeOf 0xFF 0xFF))) .tables ≡ having 1 (having-read 8 (new 1 1 0 4) ∷ []))
     × (taken noOpens (asking (crlThenRead 0x40 ++ (readOf 0x04 0xFF 0xFF ++ closeOf 0x01 0x00))) .tables .nopens ≡ 0)
     × (taken (beside 1 (another 1 1 0 2 ∷ [])) (asking (openCrl 0x41)) .tables ≡ beside 1 (another 1 1 0 2 ∷ []))
     × (taken (beside 1 (another 1 1 0 2 ∷ [])) (asking (openCrl 0x41)) .memory ≡ memory)
-unfolding new crl twelve fiveNames twoSizes catalogued having noOpens another beside openWords opening crlBytes aBytes openCrl crlThenRead readOf closeOf asking message name memory session tree open-of taken take-message dropped startsSmb isReply answered served replied replyOf replyHeader put runChain onlyStatus blocks blocksFrom blocksWithin afterParse afterBlock before parse parseOpen parseRead parseBare answer openFits terminated readFits wideOffset linkFits linkAt mayFollow shaped bare le16At le32At callerOf run bodyMeant fidMeant openedBy afterGiven after linkTo perform areaOf dataOf status formsOf holderOf replyBlock refusedBlock replySize linkWords two four withSession isSession withTree withOpen isOpen openAt found foundFrom doOpen codesServed nameAsked openNamed isNamed sameName folded nameBytes openFile openBy keptOut denied reads writes deniesReading deniesWriting openedSaid freeFrom smallestFree withOpens stored doRead unlessBarred barring askBy readBytes contents sizeOf sound withinRoom fileOk treeOk permits holdsOpen sharingOk catalogueOk noneDoubled nameOk notZero differ openOk soundRecords lockOk agree agreeAll soundLocks fileOf isTree contains numberOk numbered any all allTails overlaps passesEnd remove withSessions withTrees withLocks sessionNamed treeNamed openGone sessionStays treeStays openStays lockStays sweepSessions sweepTrees sweepOpens sweepLocks keep statusNumber smbNumber ntBit
+unfolding new having-read crl twelve fiveNames twoSizes catalogued having noOpens another beside openWords opening crlBytes aBytes openCrl crlThenRead readOf closeOf asking message name memory session tree open-of taken take-message dropped startsSmb isReply answered served replied replyOf replyHeader put runChain onlyStatus blocks blocksFrom blocksWithin afterParse afterBlock before parse parseOpen parseRead parseBare answer openFits terminated readFits wideOffset linkFits linkAt mayFollow shaped bare le16At le32At callerOf run bodyMeant fidMeant openedBy afterGiven after linkTo perform areaOf dataOf status formsOf holderOf replyBlock refusedBlock replySize linkWords two four withSession isSession withTree withOpen isOpen openAt found foundFrom doOpen codesServed nameAsked openNamed isNamed sameName folded nameBytes openFile openBy keptOut denied reads writes deniesReading deniesWriting openedSaid freeFrom smallestFree withOpens stored doRead unlessBarred barring askBy readBytes contents sizeOf sound withinRoom fileOk treeOk permits holdsOpen sharingOk catalogueOk noneDoubled nameOk notZero differ openOk soundRecords lockOk agree agreeAll soundLocks fileOf isTree contains numberOk numbered any all allTails overlaps passesEnd remove withSessions withTrees withLocks sessionNamed treeNamed openGone sessionStays treeStays openStays lockStays sweepSessions sweepTrees sweepOpens sweepLocks keep statusNumber smbNumber ntBit seenOk noting changesOf
 open-left = (refl, refl, refl, refl, refl, refl, refl, refl, refl, refl)

@@ -20,7 +20,7 @@ use Rattle.numbers.specs.Number.{contains, numberOk, numbered}
 use Rattle.soundness.specs.File.{fileOf}
 use Rattle.soundness.specs.Lookup.{isTree}
 use Rattle.catalogue.specs.Name.{noneDoubled, catalogueOk}
-use Rattle.soundness.specs.Sound.{withinRoom, fileOk, treeOk, permits, holdsOpen, sharingOk, openOk, soundRecords, lockOk, agree, agreeAll, soundLocks, sound}
+use Rattle.soundness.specs.Sound.{withinRoom, fileOk, treeOk, permits, holdsOpen, sharingOk, openOk, soundRecords, lockOk, agree, agreeAll, soundLocks, sound, seenOk}
 use Rattle.removal.specs.Removal.{sessionNamed, treeNamed, openNamed, sessionStays, treeStays, openStays, lockStays, sweepSessions, sweepTrees, sweepOpens, sweepLocks, remove}
 use Rattle.chain.specs.Header.{startsSmb, isReply, dropped}
 use Rattle.chain.specs.Parse.{shaped, bare, isLarge, lockingFits, readFits, dataInside, writeFits, mayFollow, linkFits, linkAt, answer, wideOffset, parseLocking, parseRead, parseWrite, parseLogoff, parseBare, parse}
@@ -35,6 +35,7 @@ use Rattle.message.specs.Reply.{two, replyHeader, linkWords, replyBlock, refuse
 use Rattle.message.specs.JustOpened.{fidMeant, bodyMeant}
 use Rattle.message.specs.Message.{areaOf, dataOf, after, linkTo, afterGiven, run, served, onlyStatus, runChain, answered, replyOf, Taken, replied, take-message}
 use Rattle.literals.specs.State.{session, tree, open-of, sizes, tablesWith, fewRecords, memory}
+use Rattle.records.specs.Change.{changesOf, noting}
 
 -- ---- requests
 
@@ -362,7 +363,7 @@ table =
 
 -- what the definitions give is what the document says, in every row
 pub replies : map (λ r. given (r .tables) (r .request)) table ≡ map (λ r. r .said) table
-unfolding table lockingReply readReply writeReply closeReply logoffReply disconnectReply exitReply noFlags otherFlags justFlags lockReadReply writeCloseReply lockRefusedReply unserved malformed noSession noTree noOpen noRead noWrite lockType noSuchLock passesTop noRecord lastRecord noSpace lastBytes holderOf message messageOf fewRecords tablesWith session tree open-of sizes memory given taken take-message dropped startsSmb isReply answered served replied replyOf replyHeader put runChain onlyStatus blocks blocksFrom blocksWithin afterParse afterBlock before parse answer linkFits linkAt mayFollow shaped bare le16At le32At callerOf run bodyMeant fidMeant afterGiven after linkTo perform areaOf dataOf status formsOf replyBlock refusedBlock replySize linkWords two withSession isSession withTree withOpen isOpen openAt found foundFrom sound withinRoom fileOk treeOk permits holdsOpen sharingOk catalogueOk noneDoubled openOk soundRecords lockOk agree agreeAll soundLocks fileOf isTree contains numberOk numbered any all allTails overlaps passesEnd reply closeBlock lock100 lockBlock range100 parseLocking lockingFits isLarge rangeSize doLocking servedType requestOf locking request releaseAll afterFind removeAt named afterReleases grantAll afterWalk afterGrants settle rangesOf ofHeader rangesAt rangeAt rangeFrom numberAt rangePasses askOf lockOf answers answersFor inWay bars owns lockingAfter lockingEnd withLockList stored readBlock parseRead readFits wideOffset doRead unlessBarred barring askBy readBytes contents sizeOf writeBlock parseWrite writeFits dataInside doWrite endsPast resized written withFiles parseLogoff parseBare remove sweepSessions sweepTrees sweepOpens sweepLocks sessionNamed treeNamed openNamed sessionStays treeStays openStays lockStays keep withSessions withTrees withOpens withLocks refusal opened lock four statusNumber smbNumber ntBit doneReply
+unfolding table lockingReply readReply writeReply closeReply logoffReply disconnectReply exitReply noFlags otherFlags justFlags lockReadReply writeCloseReply lockRefusedReply unserved malformed noSession noTree noOpen noRead noWrite lockType noSuchLock passesTop noRecord lastRecord noSpace lastBytes holderOf message messageOf fewRecords tablesWith session tree open-of sizes memory given taken take-message dropped startsSmb isReply answered served replied replyOf replyHeader put runChain onlyStatus blocks blocksFrom blocksWithin afterParse afterBlock before parse answer linkFits linkAt mayFollow shaped bare le16At le32At callerOf run bodyMeant fidMeant afterGiven after linkTo perform areaOf dataOf status formsOf replyBlock refusedBlock replySize linkWords two withSession isSession withTree withOpen isOpen openAt found foundFrom sound withinRoom fileOk treeOk permits holdsOpen sharingOk catalogueOk noneDoubled openOk soundRecords lockOk agree agreeAll soundLocks fileOf isTree contains numberOk numbered any all allTails overlaps passesEnd reply closeBlock lock100 lockBlock range100 parseLocking lockingFits isLarge rangeSize doLocking servedType requestOf locking request releaseAll afterFind removeAt named afterReleases grantAll afterWalk afterGrants settle rangesOf ofHeader rangesAt rangeAt rangeFrom numberAt rangePasses askOf lockOf answers answersFor inWay bars owns lockingAfter lockingEnd withLockList stored readBlock parseRead readFits wideOffset doRead unlessBarred barring askBy readBytes contents sizeOf writeBlock parseWrite writeFits dataInside doWrite endsPast resized written withFiles parseLogoff parseBare remove sweepSessions sweepTrees sweepOpens sweepLocks sessionNamed treeNamed openNamed sessionStays treeStays openStays lockStays keep withSessions withTrees withOpens withLocks refusal opened lock four statusNumber smbNumber ntBit doneReply seenOk noting changesOf
 replies = refl
 
 -- ---- "1/33 lock conflict", and the holder
@@ -474,7 +475,7 @@ unfoldable pub conflicts : List Row
 conflicts = conflict ∷ readHeld ∷ firstOfTwo ∷ writeHeld ∷ writeOwnShared ∷ lockHeld ∷ firstRangeHeld ∷ ownRangeHeld ∷ unlockHeld ∷ chainHeld ∷ []
 
 pub held : map (λ r. given (r .tables) (r .request)) conflicts ≡ map (λ r. r .said) conflicts
-unfolding conflicts conflict readHeld firstOfTwo writeHeld writeOwnShared lockHeld firstRangeHeld ownRangeHeld unlockHeld chainHeld heldAt contested rangeOf holderAt holderOf opened lock refusal reply message messageOf fewRecords tablesWith session tree open-of sizes memory given taken take-message dropped startsSmb isReply answered served replied replyOf replyHeader put runChain onlyStatus blocks blocksFrom blocksWithin afterParse afterBlock before parse answer linkFits linkAt mayFollow shaped bare le16At le32At callerOf run bodyMeant fidMeant afterGiven after linkTo perform areaOf dataOf status formsOf replyBlock refusedBlock replySize linkWords two withSession isSession withTree withOpen isOpen openAt found foundFrom sound withinRoom fileOk treeOk permits holdsOpen sharingOk catalogueOk noneDoubled openOk soundRecords lockOk agree agreeAll soundLocks fileOf isTree contains numberOk numbered any all allTails overlaps passesEnd lock100 lockBlock range100 parseLocking lockingFits isLarge rangeSize doLocking servedType requestOf locking request releaseAll afterFind removeAt named afterReleases grantAll afterWalk afterGrants settle rangesOf ofHeader rangesAt rangeAt rangeFrom numberAt rangePasses askOf lockOf answers answersFor inWay bars owns lockingAfter lockingEnd withLockList stored readBlock parseRead readFits wideOffset doRead unlessBarred barring askBy readBytes contents sizeOf writeBlock parseWrite writeFits dataInside doWrite endsPast resized written withFiles four statusNumber smbNumber ntBit
+unfolding conflicts conflict readHeld firstOfTwo writeHeld writeOwnShared lockHeld firstRangeHeld ownRangeHeld unlockHeld chainHeld heldAt contested rangeOf holderAt holderOf opened lock refusal reply message messageOf fewRecords tablesWith session tree open-of sizes memory given taken take-message dropped startsSmb isReply answered served replied replyOf replyHeader put runChain onlyStatus blocks blocksFrom blocksWithin afterParse afterBlock before parse answer linkFits linkAt mayFollow shaped bare le16At le32At callerOf run bodyMeant fidMeant afterGiven after linkTo perform areaOf dataOf status formsOf replyBlock refusedBlock replySize linkWords two withSession isSession withTree withOpen isOpen openAt found foundFrom sound withinRoom fileOk treeOk permits holdsOpen sharingOk catalogueOk noneDoubled openOk soundRecords lockOk agree agreeAll soundLocks fileOf isTree contains numberOk numbered any all allTails overlaps passesEnd lock100 lockBlock range100 parseLocking lockingFits isLarge rangeSize doLocking servedType requestOf locking request releaseAll afterFind removeAt named afterReleases grantAll afterWalk afterGrants settle rangesOf ofHeader rangesAt rangeAt rangeFrom numberAt rangePasses askOf lockOf answers answersFor inWay bars owns lockingAfter lockingEnd withLockList stored readBlock parseRead readFits wideOffset doRead unlessBarred barring askBy readBytes contents sizeOf writeBlock parseWrite writeFits dataInside doWrite endsPast resized written withFiles four statusNumber smbNumber ntBit seenOk noting changesOf withOpens
 held = refl
 
 -- ---- what else the call leaves
@@ -502,5 +503,5 @@ pub left : (taken fewRecords sharedLocks .tables .locks
     × (drop 39 (taken fewRecords (message 0x24 0x7F 0xFF (lock100 0xFF)) .room) ≡ replicate 12253 0xEE)
     × (taken fewRecords (message 0x2F 0x7F 0xFF (writeBlock 0xFF 2 0)) .memory
     ≡ replicate 4096 0 ++ (0xA0 ∷ 0xA1 ∷ 0xBB ∷ 0xCC ∷ 0xA4 ∷ 0xA5 ∷ replicate 61434 0))
-unfolding sharedLocks unlockAndLock opened lock message messageOf fewRecords tablesWith session tree open-of sizes memory taken take-message dropped startsSmb isReply answered served replied replyOf replyHeader put runChain onlyStatus blocks blocksFrom blocksWithin afterParse afterBlock before parse answer linkFits linkAt mayFollow shaped bare le16At le32At callerOf run bodyMeant fidMeant afterGiven after linkTo perform areaOf dataOf status formsOf replyBlock refusedBlock replySize linkWords two withSession isSession withTree withOpen isOpen openAt found foundFrom sound withinRoom fileOk treeOk permits holdsOpen sharingOk catalogueOk noneDoubled openOk soundRecords lockOk agree agreeAll soundLocks fileOf isTree contains numberOk numbered any all allTails overlaps passesEnd lock100 lockBlock range100 parseLocking lockingFits isLarge rangeSize doLocking servedType requestOf locking request releaseAll afterFind removeAt named afterReleases grantAll afterWalk afterGrants settle rangesOf ofHeader rangesAt rangeAt rangeFrom numberAt rangePasses askOf lockOf answers answersFor inWay bars owns lockingAfter lockingEnd withLockList stored writeBlock parseWrite writeFits dataInside wideOffset doWrite unlessBarred barring askBy endsPast resized written sizeOf withFiles four statusNumber smbNumber ntBit
+unfolding sharedLocks unlockAndLock opened lock message messageOf fewRecords tablesWith session tree open-of sizes memory taken take-message dropped startsSmb isReply answered served replied replyOf replyHeader put runChain onlyStatus blocks blocksFrom blocksWithin afterParse afterBlock before parse answer linkFits linkAt mayFollow shaped bare le16At le32At callerOf run bodyMeant fidMeant afterGiven after linkTo perform areaOf dataOf status formsOf replyBlock refusedBlock replySize linkWords two withSession isSession withTree withOpen isOpen openAt found foundFrom sound withinRoom fileOk treeOk permits holdsOpen sharingOk catalogueOk noneDoubled openOk soundRecords lockOk agree agreeAll soundLocks fileOf isTree contains numberOk numbered any all allTails overlaps passesEnd lock100 lockBlock range100 parseLocking lockingFits isLarge rangeSize doLocking servedType requestOf locking request releaseAll afterFind removeAt named afterReleases grantAll afterWalk afterGrants settle rangesOf ofHeader rangesAt rangeAt rangeFrom numberAt rangePasses askOf lockOf answers answersFor inWay bars owns lockingAfter lockingEnd withLockList stored writeBlock parseWrite writeFits dataInside wideOffset doWrite unlessBarred barring askBy endsPast resized written sizeOf withFiles four statusNumber smbNumber ntBit seenOk
 left = (refl, refl, refl, refl)

@@ -18,17 +18,22 @@ session uid connection = record { uid = uid; connection = connection }
 unfoldable pub tree : ℕ → ℕ → ℕ → Tree
 tree tid uid right = record { tid = tid; uid = uid; right = right }
 
--- an open as the host adds it, with sharing code 4
+-- an open as the host adds it, with sharing code 4; it has not read
 unfoldable pub open-of : ℕ → ℕ → ℕ → ℕ → ℕ → ℕ → Open
-open-of fid uid tid process file access = record { fid = fid; uid = uid; tid = tid; process = process; file = file; access = access; sharing = 4 }
+open-of fid uid tid process file access = record { fid = fid; uid = uid; tid = tid; process = process; file = file; access = access; sharing = 4; read = false; seen = 0 }
+
+-- an open that has read when its file's change number was this (document 02, CR 8)
+unfoldable pub having-read : ℕ → Open → Open
+having-read number o =
+    record { fid = o .fid; uid = o .uid; tid = o .tid; process = o .process; file = o .file; access = o .access; sharing = o .sharing; read = true; seen = number }
 
 -- a name of the catalogue, its bytes and then zeros
 unfoldable pub name : List ℕ → ℕ → Name
 name bytes file = record { length = length bytes; text = bytes ++ replicate (12 - length bytes) 0; file = file }
 
--- 16 files: file 1 has a size of 6, the others are empty
+-- 16 files: file 1 has a size of 6 and was changed 8 times, the others are empty and never were
 unfoldable pub sizes : List File
-sizes = record { size = 0 } ∷ record { size = 6 } ∷ replicate 14 (record { size = 0 })
+sizes = record { size = 0; changes = 0 } ∷ record { size = 6; changes = 8 } ∷ replicate 14 (record { size = 0; changes = 0 })
 
 -- tables with just those records, and no name in the catalogue
 unfoldable pub tablesWith : List Session → List Tree → List Open → List Lock → Tables

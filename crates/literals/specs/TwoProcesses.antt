@@ -18,7 +18,7 @@ use Rattle.numbers.specs.Number.{contains, numberOk, numbered}
 use Rattle.soundness.specs.File.{fileOf}
 use Rattle.soundness.specs.Lookup.{isTree}
 use Rattle.catalogue.specs.Name.{noneDoubled, catalogueOk}
-use Rattle.soundness.specs.Sound.{withinRoom, fileOk, treeOk, permits, holdsOpen, sharingOk, openOk, soundRecords, lockOk, agree, agreeAll, soundLocks, sound}
+use Rattle.soundness.specs.Sound.{withinRoom, fileOk, treeOk, permits, holdsOpen, sharingOk, openOk, soundRecords, lockOk, agree, agreeAll, soundLocks, sound, seenOk}
 use Rattle.removal.specs.Removal.{sessionNamed, treeNamed, openNamed, sessionStays, treeStays, openStays, lockStays, sweepSessions, sweepTrees, sweepOpens, sweepLocks, remove}
 use Rattle.chain.specs.Header.{startsSmb, isReply, dropped}
 use Rattle.chain.specs.Parse.{shaped, bare, isLarge, lockingFits, readFits, dataInside, writeFits, mayFollow, linkFits, linkAt, answer, wideOffset, parseLocking, parseRead, parseWrite, parseBare, parse}
@@ -33,6 +33,7 @@ use Rattle.message.specs.Message.{areaOf, after, linkTo, afterGiven, run, serve
 use Rattle.literals.specs.State.{session, tree, open-of, sizes, tablesWith, memory}
 use Rattle.literals.specs.Replies.{message, lockBlock, readBlock, writeBlock, taken, Given, given, reply, doneReply, lockReadReply, refusal, opened, lock, heldAt, rangeOf}
 use Rattle.records.specs.Empty.{noOpen, noLock}
+use Rattle.records.specs.Change.{changesOf, noting}
 
 -- that message, or reply, with those bytes in PIDHigh and PIDLow: of process high × 65,536 + low
 unfoldable pub sentBy : ℕ → ℕ → List ℕ → List ℕ
@@ -84,7 +85,7 @@ NotItsOwn high process =
 
 -- 65,537 has equal halves, 131,073 has not
 pub not-its-own : NotItsOwn 1 65537 × NotItsOwn 2 131073
-unfolding sentBy repliedTo rangeOf1 readOf2 writeTo2 longOf1 lockedBy lockThenRead lockReadReply heldAt rangeOf holderAt holderOf opened lock refusal reply message tablesWith session tree open-of sizes memory given taken take-message dropped startsSmb isReply answered served replied replyOf replyHeader put runChain blocks blocksFrom blocksWithin afterParse afterBlock before parse answer linkFits linkAt mayFollow shaped bare le16At le32At callerOf run bodyMeant fidMeant afterGiven after linkTo perform areaOf formsOf replyBlock refusedBlock replySize linkWords two withSession isSession withTree withOpen isOpen openAt found foundFrom sound withinRoom fileOk treeOk permits holdsOpen sharingOk catalogueOk noneDoubled openOk soundRecords lockOk agree agreeAll soundLocks fileOf isTree contains numberOk numbered any all allTails overlaps passesEnd lockBlock parseLocking lockingFits isLarge rangeSize doLocking servedType requestOf locking request releaseAll afterFind removeAt named afterReleases grantAll afterWalk afterGrants settle rangesOf ofHeader rangesAt rangeAt rangeFrom numberAt rangePasses askOf lockOf answers answersFor inWay bars owns lockingAfter lockingEnd withLockList stored readBlock parseRead readFits wideOffset doRead unlessBarred barring askBy readBytes contents sizeOf writeBlock parseWrite writeFits dataInside doWrite endsPast four statusNumber smbNumber ntBit doneReply
+unfolding sentBy repliedTo rangeOf1 readOf2 writeTo2 longOf1 lockedBy lockThenRead lockReadReply heldAt rangeOf holderAt holderOf opened lock refusal reply message tablesWith session tree open-of sizes memory given taken take-message dropped startsSmb isReply answered served replied replyOf replyHeader put runChain blocks blocksFrom blocksWithin afterParse afterBlock before parse answer linkFits linkAt mayFollow shaped bare le16At le32At callerOf run bodyMeant fidMeant afterGiven after linkTo perform areaOf formsOf replyBlock refusedBlock replySize linkWords two withSession isSession withTree withOpen isOpen openAt found foundFrom sound withinRoom fileOk treeOk permits holdsOpen sharingOk catalogueOk noneDoubled openOk soundRecords lockOk agree agreeAll soundLocks fileOf isTree contains numberOk numbered any all allTails overlaps passesEnd lockBlock parseLocking lockingFits isLarge rangeSize doLocking servedType requestOf locking request releaseAll afterFind removeAt named afterReleases grantAll afterWalk afterGrants settle rangesOf ofHeader rangesAt rangeAt rangeFrom numberAt rangePasses askOf lockOf answers answersFor inWay bars owns lockingAfter lockingEnd withLockList stored readBlock parseRead readFits wideOffset doRead unlessBarred barring askBy readBytes contents sizeOf writeBlock parseWrite writeFits dataInside doWrite endsPast four statusNumber smbNumber ntBit doneReply seenOk noting changesOf withOpens
 not-its-own = ((refl, refl, refl, refl, refl, refl, refl, refl, refl, refl), (refl, refl, refl, refl, refl, refl, refl, refl, refl, refl))
 
 -- a lock of FID 6 and that process, of the one byte there
@@ -106,5 +107,5 @@ pub exit-of-one : (taken bothProcesses (sentBy 0 1 exit) .tables .opens ≡ open
     × (taken bothProcesses (sentBy 0 1 exit) .tables .locks ≡ lockOn6 65537 0 ∷ lockOn6 1 4 ∷ noLock ∷ [])
     × (taken bothProcesses (sentBy 1 1 exit) .tables .opens ≡ open-of 4 3 2 1 1 2 ∷ noOpen ∷ [])
     × (taken bothProcesses (sentBy 1 1 exit) .tables .locks ≡ lock 1 0 1 ∷ noLock ∷ noLock ∷ [])
-unfolding sentBy bothProcesses lockOn6 exit lock message tablesWith session tree open-of sizes memory taken take-message dropped startsSmb isReply answered served replied put runChain blocks blocksFrom blocksWithin afterParse afterBlock before parse answer shaped bare le16At callerOf run bodyMeant fidMeant afterGiven after perform withSession isSession sound withinRoom fileOk treeOk permits holdsOpen sharingOk catalogueOk noneDoubled openOk soundRecords lockOk agree agreeAll soundLocks fileOf contains numberOk numbered any all allTails overlaps passesEnd stored parseBare remove sweepSessions sweepTrees sweepOpens sweepLocks sessionNamed treeNamed openNamed sessionStays treeStays openStays lockStays keep withSessions withTrees withOpens withLocks
+unfolding sentBy bothProcesses lockOn6 exit lock message tablesWith session tree open-of sizes memory taken take-message dropped startsSmb isReply answered served replied put runChain blocks blocksFrom blocksWithin afterParse afterBlock before parse answer shaped bare le16At callerOf run bodyMeant fidMeant afterGiven after perform withSession isSession sound withinRoom fileOk treeOk permits holdsOpen sharingOk catalogueOk noneDoubled openOk soundRecords lockOk agree agreeAll soundLocks fileOf contains numberOk numbered any all allTails overlaps passesEnd stored parseBare remove sweepSessions sweepTrees sweepOpens sweepLocks sessionNamed treeNamed openNamed sessionStays treeStays openStays lockStays keep withSessions withTrees withOpens withLocks seenOk
 exit-of-one = (refl, refl, refl, refl)

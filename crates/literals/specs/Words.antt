@@ -12,16 +12,16 @@ use Rattle.message.specs.declared.refusal.HeldBy.the-variants.{Nobody, Holder a
 use Rattle.boundary.specs.Boundary.{holderWords}
 use Rattle.literals.specs.Counting.{countFrom}
 
--- 1461 words, the word at each place the place itself; but the last open's file (576), access (577) and sharing (578), which fit up to 255, are 216, 217 and 218,
--- and of the first lock and the last, shared (584, 1219) is 1 and 0. A name's words are cut to a byte: 1237 is 213.
+-- 1605 words, the word at each place the place itself; but the last open's file (702), access (703) and sharing (704), which fit up to 255, are 216, 217 and 218,
+-- of the first open and the last, read (138, 705) is 1 and 0, and so is shared of the first lock and the last (712, 1347). A name's words are cut to a byte: 1381 is 101.
 unfoldable pub ownWords : List ℕ
-ownWords = set (set (set (set (set (countFrom 0 1461) 576 216) 577 217) 578 218) 584 1) 1219 0
+ownWords = set (set (set (set (set (set (set (countFrom 0 1605) 702 216) 703 217) 704 218) 138 1) 705 0) 712 1) 1347 0
 
 unfoldable pub taken : Tables
 taken = tablesOf ownWords
 
 -- session_count, tree_count, open_count, lock_count and the catalogue's count
-pub counts : (taken .nsessions ≡ 0) × (taken .ntrees ≡ 33) × (taken .nopens ≡ 130) × (taken .nlocks ≡ 579) × (taken .nnames ≡ 1236)
+pub counts : (taken .nsessions ≡ 0) × (taken .ntrees ≡ 33) × (taken .nopens ≡ 130) × (taken .nlocks ≡ 707) × (taken .nnames ≡ 1380)
 unfolding taken ownWords countFrom tablesOf
 counts = (refl, refl, refl, refl, refl)
 
@@ -47,26 +47,26 @@ pub tree-words : (getD (taken .trees) 0 noTree ≡ record { tid = 34; uid = 35; 
 unfolding taken ownWords countFrom tablesOf treeArray arrayOf upTo treeOf
 tree-words = (refl, refl)
 
--- fid, uid, tid, process, file, access, sharing
-pub open-words : (getD (taken .opens) 0 noOpen ≡ record { fid = 131; uid = 132; tid = 133; process = 134; file = 135; access = 136; sharing = 137 })
-    × (getD (taken .opens) 63 noOpen ≡ record { fid = 572; uid = 573; tid = 574; process = 575; file = 216; access = 217; sharing = 218 })
+-- fid, uid, tid, process, file, access, sharing, read, seen
+pub open-words : (getD (taken .opens) 0 noOpen ≡ record { fid = 131; uid = 132; tid = 133; process = 134; file = 135; access = 136; sharing = 137; read = true; seen = 139 })
+    × (getD (taken .opens) 63 noOpen ≡ record { fid = 698; uid = 699; tid = 700; process = 701; file = 216; access = 217; sharing = 218; read = false; seen = 706 })
 unfolding taken ownWords countFrom tablesOf openArray arrayOf upTo openOf
 open-words = (refl, refl)
 
 -- fid, process, offset, length, shared
-pub lock-words : (getD (taken .locks) 0 noLock ≡ record { fid = 580; process = 581; offset = 582; length = 583; shared = true })
-    × (getD (taken .locks) 127 noLock ≡ record { fid = 1215; process = 1216; offset = 1217; length = 1218; shared = false })
+pub lock-words : (getD (taken .locks) 0 noLock ≡ record { fid = 708; process = 709; offset = 710; length = 711; shared = true })
+    × (getD (taken .locks) 127 noLock ≡ record { fid = 1343; process = 1344; offset = 1345; length = 1346; shared = false })
 unfolding taken ownWords countFrom tablesOf lockArray arrayOf upTo lockOf
 lock-words = (refl, refl)
 
--- size
-pub file-words : (getD (taken .files) 0 noFile ≡ record { size = 1220 }) × (getD (taken .files) 15 noFile ≡ record { size = 1235 })
+-- size, changes
+pub file-words : (getD (taken .files) 0 noFile ≡ record { size = 1348; changes = 1349 }) × (getD (taken .files) 15 noFile ≡ record { size = 1378; changes = 1379 })
 unfolding taken ownWords countFrom tablesOf fileArray upTo
 file-words = (refl, refl)
 
 -- length, twelve bytes, file
-pub name-words : (getD (taken .names) 0 noName ≡ record { length = 213; text = countFrom 214 12; file = 226 })
-    × (getD (taken .names) 15 noName ≡ record { length = 167; text = countFrom 168 12; file = 180 })
+pub name-words : (getD (taken .names) 0 noName ≡ record { length = 101; text = countFrom 102 12; file = 114 })
+    × (getD (taken .names) 15 noName ≡ record { length = 55; text = countFrom 56 12; file = 68 })
 unfolding taken ownWords countFrom tablesOf nameArray arrayOf upTo nameOf
 name-words = (refl, refl)
 
@@ -74,13 +74,13 @@ name-words = (refl, refl)
 
 -- one record of each table in use, its words 0
 unfoldable pub oneEach : List ℕ
-oneEach = set (set (set (set (set (replicate 1461 0) 0 1) 33 1) 130 1) 579 1) 1236 1
+oneEach = set (set (set (set (set (replicate 1605 0) 0 1) 33 1) 130 1) 707 1) 1380 1
 
 -- the word at a place fits up to that value, and not above it
 unfoldable pub fitsUpTo : ℕ → ℕ → Bool
 fitsUpTo at most = inUseFit (set oneEach at most) && not (inUseFit (set oneEach at (most + 1)))
 
--- a session's UID and connection; a tree's TID, UID and right; an open's FID, UID, TID, process, file, access and sharing; a lock's FID, process and shared; a name's
+-- a session's UID and connection; a tree's TID, UID and right; an open's FID, UID, TID, process, file, access, sharing and read; a lock's FID, process and shared; a name's
 -- length, its first byte and its last, and its file
 pub limits : (fitsUpTo 1 65535 ≡ true)
     × (fitsUpTo 2 4294967295 ≡ true)
@@ -94,21 +94,23 @@ pub limits : (fitsUpTo 1 65535 ≡ true)
     × (fitsUpTo 135 255 ≡ true)
     × (fitsUpTo 136 255 ≡ true)
     × (fitsUpTo 137 255 ≡ true)
-    × (fitsUpTo 580 65535 ≡ true)
-    × (fitsUpTo 581 4294967295 ≡ true)
-    × (fitsUpTo 584 1 ≡ true)
-    × (fitsUpTo 1237 255 ≡ true)
-    × (fitsUpTo 1238 255 ≡ true)
-    × (fitsUpTo 1249 255 ≡ true)
-    × (fitsUpTo 1250 255 ≡ true)
+    × (fitsUpTo 138 1 ≡ true)
+    × (fitsUpTo 708 65535 ≡ true)
+    × (fitsUpTo 709 4294967295 ≡ true)
+    × (fitsUpTo 712 1 ≡ true)
+    × (fitsUpTo 1381 255 ≡ true)
+    × (fitsUpTo 1382 255 ≡ true)
+    × (fitsUpTo 1393 255 ≡ true)
+    × (fitsUpTo 1394 255 ≡ true)
 unfolding fitsUpTo oneEach inUseFit recordsFit within all upTo
-limits = (refl, refl, refl, refl, refl, refl, refl, refl, refl, refl, refl, refl, refl, refl, refl, refl, refl, refl, refl)
+limits = (refl, refl, refl, refl, refl, refl, refl, refl, refl, refl, refl, refl, refl, refl, refl, refl, refl, refl, refl, refl)
 
--- a lock's offset and length are any word, and the words of records not in use are free: the largest word at the second record's places fits
+-- a lock's offset and length, an open's number seen and a file's two words are any word, and the words of records not in use are free: the largest word at the second
+-- record's places fits
 unfoldable pub fits : ℕ → Bool
 fits at = inUseFit (set oneEach at 18446744073709551615)
 
-pub free-words : all fits (582 ∷ 583 ∷ 3 ∷ 4 ∷ (countFrom 37 3 ++ (countFrom 138 7 ++ (countFrom 585 5 ++ countFrom 1251 14)))) ≡ true
+pub free-words : all fits (710 ∷ 711 ∷ 139 ∷ 1348 ∷ 1349 ∷ 3 ∷ 4 ∷ (countFrom 37 3 ++ (countFrom 140 9 ++ (countFrom 713 5 ++ countFrom 1395 14)))) ≡ true
 unfolding fits oneEach inUseFit recordsFit within all upTo countFrom
 free-words = refl
 
