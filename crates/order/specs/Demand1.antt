@@ -7,7 +7,7 @@ use lib.ListN.{length, length-replicate}
 use Rattle.wire.specs.LittleEndian.{le32At}
 use Rattle.records.specs.declared.Name.{Name}
 use Rattle.records.specs.declared.Tables.{Tables}
-use Rattle.host.specs.HostCall.{addSession, addTree, addOpen, loadFile, loadMemory, dropConnection, setCatalogue}
+use Rattle.host.specs.HostCall.{addSession, addTree, addOpen, loadFile, loadMemory, dropConnection, setCatalogue, askUnchanged}
 use Rattle.chain.specs.Layout.{LOCKING, READ, WRITE, CLOSE, LOGOFF, TREE_DISCONNECT, PROCESS_EXIT, CORE-READ, CORE-WRITE, LOCK_BYTE_RANGE, UNLOCK_BYTE_RANGE, OPEN, FIRST, firstFid, coreCount}
 use Rattle.chain.specs.Grammar.{Span, Reading, Sentence}
 use Rattle.chain.specs.Parse.{rangeFields, openFields}
@@ -19,6 +19,7 @@ use Rattle.message.specs.declared.refusal.Status.{Status}
 use Rattle.message.specs.declared.refusal.HeldBy.the-variants.{Nobody}
 use Rattle.invariants.specs.Sound.{Good}
 use Rattle.claims.specs.HostReasons.{SessionReason, TreeReason, OpenReason, LoadReason, DropReason, SetReason, addSession-reason, addSession-given, addTree-reason, addTree-given, addOpen-reason, addOpen-given, loadFile-reason, loadFile-given, dropConnection-reason, dropConnection-given, setCatalogue-reason, setCatalogue-given}
+use Rattle.claims.specs.AskUnchanged.{AskReason, ask-reason, ask-given, ask-stands, ask-refused}
 use Rattle.claims.specs.HostAnswer.{Unchanged, addSession-refused, addTree-refused, addOpen-refused, loadFile-refused, loadMemory-refused, dropConnection-refused, setCatalogue-refused}
 use Rattle.demands.specs.MessageReasons.{MessageReason, take-message-reason, take-message-given}
 use Rattle.demands.specs.NotServed.{not-served-exact}
@@ -48,6 +49,8 @@ pub record NumberForItsReason : Type 0 where
   pub drop : (t : Tables) (connection n : ℕ) → (dropConnection t connection .number ≡ n) ↔ DropReason t n
   -- document 02, CR 6: "for the catalogue 7: over 16 names, a name of another length, with a zero byte or doubled, a file above 15"
   pub catalogue : (t : Tables) (names : List Name) (count n : ℕ) → (setCatalogue t names count .number ≡ n) ↔ SetReason t names count n
+  -- document 02, CR 8: "6 for an unknown FID, after 4"
+  pub ask : (t : Tables) (fid n : ℕ) → (askUnchanged t fid .number ≡ n) ↔ AskReason t fid n
 
 -- the same of the Status in the reply: of a message whose command is not known, and of each command alone in its message. (2/1: Demand3. In a chain: Demand3, OneToAMessage.)
 pub record StatusForItsReason : Type 0 where
@@ -85,6 +88,7 @@ pub record RefusedByNumber : Type 0 where
       → Unchanged t (loadFile t file bytes memory) × (loadMemory t file bytes memory ≡ memory)
   pub drop : (t : Tables) (connection : ℕ) → (dropConnection t connection .number ≡ 0 → ⊥) → Unchanged t (dropConnection t connection)
   pub catalogue : (t : Tables) (names : List Name) (count : ℕ) → (setCatalogue t names count .number ≡ 0 → ⊥) → Unchanged t (setCatalogue t names count)
+  pub ask : (t : Tables) (fid : ℕ) → (askUnchanged t fid .number ≡ 0 → ⊥) → Unchanged t (askUnchanged t fid)
 
 -- nor does a message change anything that is no sentence, whatever its command (2/1, 2/22): its reply is the header and one refused block, with no holder
 abbrev pub NoSentence : Type 0
@@ -154,6 +158,7 @@ demand-1 =
         load = λ t file bytes memory. exactly (loadFile-reason t file bytes memory) (λ n r. loadFile-given t file bytes memory r);
         drop = λ t connection. exactly (dropConnection-reason t connection) (λ n r. dropConnection-given t connection r);
         catalogue = λ t names count. exactly (setCatalogue-reason t names count) (λ n r. setCatalogue-given t names count r);
+        ask = λ t fid. exactly (ask-reason t fid) (λ n r. ask-given t fid r);
       };
       status-for-its-reason = record {
         not-known = λ c a. not-served-exact (c .connection) (c .message) (c .tables) (c .memory) (c .room) (a .fit);
@@ -181,6 +186,7 @@ demand-1 =
         load = λ t file bytes memory n. (loadFile-refused t file bytes memory n, loadMemory-refused t file bytes memory n);
         drop = dropConnection-refused;
         catalogue = setCatalogue-refused;
+        ask = λ t fid n. record { same-tables = ask-stands t fid; no-number = ask-refused t fid n };
       };
       no-sentence = λ c a none.
           let q = no-sentence-taken (c .connection) (c .message) (c .tables) (c .memory) (c .room) (a .fit) none in (q .0 .same-tables, q .0 .same-memory, q .1, q .2);

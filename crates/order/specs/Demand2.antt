@@ -28,8 +28,9 @@ use Rattle.demands.specs.OpenEffects.{OpenDone, open-reading}
 use Rattle.demands.specs.SetSize.{SetSizeDone, set-size-reading}
 use Rattle.demands.specs.LockEffects.{LockingDone, LockRangeDone, UnlockRangeDone, locking-reading, lock-reading, unlock-reading}
 use Rattle.claims.specs.RemovalPlain.{Closed, Disconnected, LoggedOff, Exited}
+use Rattle.claims.specs.AskUnchanged.{ask-stands}
 use Rattle.claims.specs.HostFrames.{SessionAdded, TreeAdded, OpenAdded, FileLoaded, ConnectionDropped, CatalogueSet, addSession-frame, addTree-frame, addOpen-frame, loadFile-frame, dropConnection-frame, setCatalogue-frame}
-use Rattle.host.specs.HostCall.{addSession, addTree, addOpen, loadFile, loadMemory, dropConnection, setCatalogue}
+use Rattle.host.specs.HostCall.{addSession, addTree, addOpen, loadFile, loadMemory, dropConnection, setCatalogue, askUnchanged}
 use Rattle.records.specs.declared.Name.{Name}
 use Rattle.records.specs.declared.Tables.{Tables}
 use Rattle.invariants.specs.Sound.{Good}
@@ -85,6 +86,8 @@ pub record HostCallsDone : Type 0 where
       → FileLoaded t file bytes memory (loadFile t file bytes memory) (loadMemory t file bytes memory)
   pub drop : (t : Tables) (connection : ℕ) → dropConnection t connection .number ≡ 0 → ConnectionDropped t connection (dropConnection t connection)
   pub catalogue : (t : Tables) (names : List Name) (count : ℕ) → setCatalogue t names count .number ≡ 0 → CatalogueSet t names count (setCatalogue t names count)
+  -- document 02, CR 8: the question leaves everything
+  pub ask : (t : Tables) (fid : ℕ) → askUnchanged t fid .tables ≡ t
 
 -- ---- locks
 
@@ -202,6 +205,7 @@ demand-2 =
         load = λ t g. loadFile-frame t (g .shaped);
         drop = dropConnection-frame;
         catalogue = setCatalogue-frame;
+        ask = ask-stands;
       };
       lone-lock = λ c spans o a r asks bits valid low.
           let q = lone-lock-reading (c .connection) (c .message) r (c .tables) (c .memory) (c .room) (a .fit) o (asks .is-locking) (asks .no-unlock) (asks .one-lock) bits valid low in (

@@ -12,5 +12,7 @@ pub mod Request2
 pub mod Request3
 pub mod Possible3
 pub mod Possible6
+pub mod Request8
+pub mod Possible8
 pub mod Possible7
 pub mod Request7

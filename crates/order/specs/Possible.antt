@@ -25,7 +25,7 @@ use Rattle.locks.specs.Request.{ofHeader, rangesOf, holderAt, askOf, lockOf, re
 use Rattle.soundness.specs.File.{fileOf}
 use Rattle.soundness.specs.Lookup.{isTree}
 use Rattle.catalogue.specs.Name.{noneDoubled, catalogueOk}
-use Rattle.soundness.specs.Sound.{withinRoom, fileOk, treeOk, permits, holdsOpen, sharingOk, openOk, soundRecords, lockOk, agree, agreeAll, soundLocks, sound}
+use Rattle.soundness.specs.Sound.{withinRoom, fileOk, treeOk, permits, holdsOpen, sharingOk, openOk, soundRecords, lockOk, agree, agreeAll, soundLocks, sound, seenOk}
 use Rattle.chain.specs.Layout.{FIRST, lockType}
 use Rattle.chain.specs.Grammar.{Span, Reading, Sentence}
 use Rattle.chain.specs.Header.{startsSmb, isReply, dropped}
@@ -57,6 +57,8 @@ use Rattle.demands.specs.WireFields.{senderProcess}
 use Rattle.demands.specs.Processes.{UpperHalvesDiffer}
 use Rattle.order.specs.Demand2.{rangeAsked, AsksOneLock, ValidOpen}
 use Rattle.order.specs.Call.{Call, gives, Answerable, BeginsKnown, Says}
+use Rattle.records.specs.Change.{changesOf, noting}
+use Rattle.records.specs.Held.{withOpens}
 
 -- one terminal on connection 5: a session, its tree, one open of file 0 with that access by process 7; and, where `held` is 1, a shared lock of process 9 on the
 -- bytes 105 to 124
@@ -67,7 +69,7 @@ plant access held =
       nsessions = 1;
       trees = record { tid = 1; uid = 1; right = 1 } ∷ replicate 31 noTree;
       ntrees = 1;
-      opens = record { fid = 1; uid = 1; tid = 1; process = 7; file = 0; access = access; sharing = 4 } ∷ replicate 63 noOpen;
+      opens = record { fid = 1; uid = 1; tid = 1; process = 7; file = 0; access = access; sharing = 4; read = false; seen = 0 } ∷ replicate 63 noOpen;
       nopens = 1;
       locks = record { fid = 1; process = 9; offset = 105; length = 20; shared = true } ∷ replicate 127 noLock;
       nlocks = held;
@@ -83,7 +85,7 @@ asked message t = record { connection = 5; message = message; tables = t; memory
 -- ---- the tables are sound and have their room
 
 plant-sound : (sound (plant 2 0) ≡ true) × (sound (plant 1 0) ≡ true) × (sound (plant 2 1) ≡ true)
-unfolding sound withinRoom fileOk treeOk permits holdsOpen sharingOk catalogueOk noneDoubled openOk soundRecords lockOk agree agreeAll soundLocks any all allTails contains numberOk numbered overlaps passesEnd fileOf plant
+unfolding sound withinRoom fileOk treeOk permits holdsOpen sharingOk catalogueOk noneDoubled openOk soundRecords lockOk agree agreeAll soundLocks any all allTails contains numberOk numbered overlaps passesEnd fileOf plant seenOk
 plant-sound = (refl, refl, refl)
 
 good : (access held : ℕ) → sound (plant access held) ≡ true → Good (plant access held)
@@ -152,7 +154,7 @@ processNine = held-by (record { lock = record { fid = 1; process = 9; offset = 1
 -- on an open for both LOCKING and READ are done; on one for writing READ is refused (1/5) behind LOCKING's block; beside the shared lock LOCKING is (1/33), and has
 -- its holder
 answers-given : answer-to (message 61 []) (plant 2 0) 0 0 34 Nobody × answer-to (message 61 []) (plant 1 0) 1 5 10 Nobody × answer-to (message 61 []) (plant 2 1) 1 33 3 processNine
-unfolding asked message blocks blocksFrom blocksWithin afterParse afterBlock before parse parseLocking parseRead answer lockingFits readFits linkFits linkAt mayFollow shaped bare isLarge le16At le32At wideOffset rangeSize answered served runChain run bodyMeant fidMeant afterGiven after perform doLocking withOpen withTree withSession isSession isTree isOpen openAt found foundFrom any servedType requestOf lockingAfter lockingEnd withLockList locking rangesOf ofHeader rangesAt rangeFrom rangeAt numberAt request afterReleases afterGrants grantAll afterWalk holderAt holderOf processNine releaseAll afterFind removeAt rangePasses passesEnd askOf lockOf answers answersFor inWay bars named owns overlaps settle stored doRead unlessBarred barring askBy fileOf callerOf areaOf dataOf status formsOf plant answer-to readBytes contents sizeOf replySize replyBlock refusedBlock linkTo linkWords two
+unfolding asked message blocks blocksFrom blocksWithin afterParse afterBlock before parse parseLocking parseRead answer lockingFits readFits linkFits linkAt mayFollow shaped bare isLarge le16At le32At wideOffset rangeSize answered served runChain run bodyMeant fidMeant afterGiven after perform doLocking withOpen withTree withSession isSession isTree isOpen openAt found foundFrom any servedType requestOf lockingAfter lockingEnd withLockList locking rangesOf ofHeader rangesAt rangeFrom rangeAt numberAt request afterReleases afterGrants grantAll afterWalk holderAt holderOf processNine releaseAll afterFind removeAt rangePasses passesEnd askOf lockOf answers answersFor inWay bars named owns overlaps settle stored doRead unlessBarred barring askBy fileOf callerOf areaOf dataOf status formsOf plant answer-to readBytes contents sizeOf replySize replyBlock refusedBlock linkTo linkWords two noting changesOf withOpens
 answers-given = ((refl, refl, refl), (refl, refl, refl), (refl, refl, refl))
 
 call-says : (t : Tables) (ok : Good t) (class code size : ℕ) (held : HeldBy) → answer-to (message 61 []) t class code size held
@@ -186,7 +188,7 @@ pub served-type : OnlyTwoBits (lockType (message 61 []) FIRST)
 unfolding message
 served-type = refl
 
-pub valid-open : ValidOpen (asked (message 61 []) (plant 2 1)) (record { fid = 1; uid = 1; tid = 1; process = 7; file = 0; access = 2; sharing = 4 })
+pub valid-open : ValidOpen (asked (message 61 []) (plant 2 1)) (record { fid = 1; uid = 1; tid = 1; process = 7; file = 0; access = 2; sharing = 4; read = false; seen = 0 })
 unfolding asked message plant callerOf le16At SessionHere HasTree
 valid-open =
     record {

@@ -15,7 +15,7 @@ use Rattle.records.specs.declared.Open.{Open}
 use Rattle.records.specs.declared.Lock.{Lock}
 use Rattle.records.specs.declared.Tables.{Tables}
 use Rattle.records.specs.Empty.{noSession, noTree, noOpen, noLock, noFile, noName}
-use Rattle.records.specs.Held.{withFiles}
+use Rattle.records.specs.Held.{withFiles, withOpens}
 use Rattle.numbers.specs.Number.{contains, numberOk, numbered}
 use Rattle.locks.specs.Range.{overlaps, passesEnd}
 use Rattle.locks.specs.Wire.{rangeSize, numberAt, rangeFrom, rangeAt, rangesAt, smallForm}
@@ -24,7 +24,7 @@ use Rattle.locks.specs.Request.{ofHeader, rangesOf, holderAt, askOf, lockOf, re
 use Rattle.soundness.specs.File.{fileOf}
 use Rattle.soundness.specs.Lookup.{isTree}
 use Rattle.catalogue.specs.Name.{noneDoubled, catalogueOk}
-use Rattle.soundness.specs.Sound.{withinRoom, fileOk, treeOk, permits, holdsOpen, sharingOk, openOk, soundRecords, lockOk, agree, agreeAll, soundLocks, sound}
+use Rattle.soundness.specs.Sound.{withinRoom, fileOk, treeOk, permits, holdsOpen, sharingOk, openOk, soundRecords, lockOk, agree, agreeAll, soundLocks, sound, seenOk}
 use Rattle.chain.specs.Layout.{LOCKING, READ, WRITE, CORE-READ, CORE-WRITE, LOCK_BYTE_RANGE, UNLOCK_BYTE_RANGE}
 use Rattle.chain.specs.Header.{startsSmb, isReply, dropped}
 use Rattle.chain.specs.Parse.{shaped, bare, isLarge, lockingFits, coreWriteFits, mayFollow, linkFits, linkAt, answer, parseLocking, parseBare, parseCoreWrite, parse}
@@ -34,7 +34,7 @@ use Rattle.message.specs.Refusal.{status, formsOf, holderOf}
 use Rattle.message.specs.declared.refusal.HeldBy.{HeldBy}
 use Rattle.message.specs.declared.refusal.HeldBy.the-variants.{Nobody, Holder as held-by}
 use Rattle.message.specs.Command.{isSession, withSession, withTree, isOpen, openAt, withOpen, servedType, requestOf, withLockList, lockingEnd, lockingAfter, doLocking, askBy, unlessBarred, barring, doRead, endsPast, doWrite, coreSaid, asCore, rangeBy, oneRange, doRange, betweenSizes, doSetSize, doCoreWrite, perform}
-use Rattle.message.specs.Contents.{sizeOf, contents, readBytes, written, resized}
+use Rattle.message.specs.Contents.{sizeOf, contents, readBytes, written, resized, sizedTo}
 use Rattle.message.specs.Reply.{two, linkWords, replySize, replyBlock, refusedBlock}
 use Rattle.message.specs.JustOpened.{fidMeant, bodyMeant}
 use Rattle.message.specs.Message.{areaOf, dataOf, Ran, after, linkTo, afterGiven, run, served, runChain, answered, Taken, replied}
@@ -54,12 +54,13 @@ use Rattle.demands.specs.CorePairCases.{sent, coreRead, andxRead, coreWrite, an
 use Rattle.order.specs.Call.{Call, gives, Answerable, OneCommand, Says, sender, sending}
 use Rattle.order.specs.Demand2.{ValidCoreOpen}
 use Rattle.order.specs.Request3.{AsksSize, SentInstead, OnWhatItLeft, request-3}
+use Rattle.records.specs.Change.{changesOf, noting}
 
 -- ---- a bench
 
 -- UID 3 on connection 5, its tree TID 2, and FID 4, an open of file 1 for both by process 65,543, whose file has 6 bytes; and, where `held` is 1, that lock
 unfoldable pub benchOpen : Open
-benchOpen = record { fid = 4; uid = 3; tid = 2; process = 65543; file = 1; access = 2; sharing = 4 }
+benchOpen = record { fid = 4; uid = 3; tid = 2; process = 65543; file = 1; access = 2; sharing = 4; read = false; seen = 0 }
 
 unfoldable pub bench : Lock → ℕ → Tables
 bench lock held =
@@ -68,11 +69,11 @@ bench lock held =
       nsessions = 1;
       trees = record { tid = 2; uid = 3; right = 1 } ∷ replicate 31 noTree;
       ntrees = 1;
-      opens = record { fid = 4; uid = 3; tid = 2; process = 65543; file = 1; access = 2; sharing = 4 } ∷ replicate 63 noOpen;
+      opens = record { fid = 4; uid = 3; tid = 2; process = 65543; file = 1; access = 2; sharing = 4; read = false; seen = 0 } ∷ replicate 63 noOpen;
       nopens = 1;
       locks = lock ∷ replicate 127 noLock;
       nlocks = held;
-      files = noFile ∷ record { size = 6 } ∷ replicate 14 noFile;
+      files = noFile ∷ record { size = 6; changes = 2 } ∷ replicate 14 noFile;
       names = replicate 16 noName;
       nnames = 0;
     }
@@ -85,7 +86,7 @@ unfoldable pub own : Lock
 own = record { fid = 4; process = 65543; offset = 100; length = 10; shared = false }
 
 bench-sound : (sound (bench others 0) ≡ true) × (sound (bench others 1) ≡ true) × (sound (bench own 1) ≡ true)
-unfolding sound withinRoom fileOk treeOk permits holdsOpen sharingOk catalogueOk noneDoubled openOk soundRecords lockOk agree agreeAll soundLocks any all allTails contains numberOk numbered overlaps passesEnd fileOf bench others own
+unfolding sound withinRoom fileOk treeOk permits holdsOpen sharingOk catalogueOk noneDoubled openOk soundRecords lockOk agree agreeAll soundLocks any all allTails contains numberOk numbered overlaps passesEnd fileOf bench others own seenOk
 bench-sound = (refl, refl, refl)
 
 good : (lock : Lock) (held : ℕ) → sound (bench lock held) ≡ true → Good (bench lock held)
@@ -150,7 +151,7 @@ given-here : Given (answered 5 cut (bench others 0) memory) 0 0 5 Nobody
     × Given (answered 5 (sent CORE-WRITE coreWrite) (bench others 0) memory) 0 0 5 Nobody
     × Given (answered 5 lockThenRead (bench others 0) memory) 0 0 26 Nobody
     × Given (answered 5 tooLarge (bench others 1) memory) 1 33 3 othersHold
-unfolding Given cut grow tooLarge lockThenRead othersHold sent sizeTo coreWriteOf coreRead coreWrite coreBytes andxLocking short100 bench others own memory blocks blocksFrom blocksWithin afterParse afterBlock before parse parseLocking parseBare parseCoreWrite answer lockingFits coreWriteFits linkFits linkAt mayFollow shaped bare isLarge le16At le32At rangeSize answered served runChain run bodyMeant fidMeant afterGiven after perform withOpen withTree withSession isSession isTree isOpen openAt found foundFrom any servedType requestOf lockingAfter lockingEnd withLockList doLocking locking rangesOf ofHeader rangesAt rangeFrom rangeAt numberAt request afterReleases afterGrants grantAll afterWalk holderAt holderOf releaseAll afterFind removeAt rangePasses passesEnd askOf lockOf answers answersFor inWay bars named owns overlaps settle stored doRead unlessBarred barring askBy fileOf callerOf areaOf dataOf status formsOf readBytes contents sizeOf replySize replyBlock refusedBlock linkTo linkWords two coreSaid asCore rangeBy oneRange doRange smallForm betweenSizes doSetSize doCoreWrite doWrite endsPast resized written put withFiles
+unfolding Given cut grow tooLarge lockThenRead othersHold sent sizeTo coreWriteOf coreRead coreWrite coreBytes andxLocking short100 bench others own memory blocks blocksFrom blocksWithin afterParse afterBlock before parse parseLocking parseBare parseCoreWrite answer lockingFits coreWriteFits linkFits linkAt mayFollow shaped bare isLarge le16At le32At rangeSize answered served runChain run bodyMeant fidMeant afterGiven after perform withOpen withTree withSession isSession isTree isOpen openAt found foundFrom any servedType requestOf lockingAfter lockingEnd withLockList doLocking locking rangesOf ofHeader rangesAt rangeFrom rangeAt numberAt request afterReleases afterGrants grantAll afterWalk holderAt holderOf releaseAll afterFind removeAt rangePasses passesEnd askOf lockOf answers answersFor inWay bars named owns overlaps settle stored doRead unlessBarred barring askBy fileOf callerOf areaOf dataOf status formsOf readBytes contents sizeOf replySize replyBlock refusedBlock linkTo linkWords two coreSaid asCore rangeBy oneRange doRange smallForm betweenSizes doSetSize doCoreWrite doWrite endsPast resized written put withFiles noting changesOf withOpens sizedTo
 given-here = (
   (refl, refl, refl),
   (refl, refl, refl),
@@ -287,7 +288,7 @@ left-computed =
 -- its open stands, and of the file memory the bytes A4 A5 stand at 4,100, where the file has ended
 left-there : Admitted (callerOf 5 grow) (answered 5 cut (bench others 0) memory .tables) 4 benchOpen
     × (getD (answered 5 cut (bench others 0) memory .memory) 4100 0 ≡ 0xA4)
-unfolding grow benchOpen SessionHere HasTree cut sent sizeTo coreWriteOf bench others memory blocks blocksFrom blocksWithin afterParse afterBlock parse parseCoreWrite answer coreWriteFits shaped le16At le32At answered served runChain run bodyMeant fidMeant afterGiven after perform withOpen withTree withSession isSession isTree isOpen openAt found foundFrom any unlessBarred barring askBy fileOf callerOf areaOf dataOf sizeOf betweenSizes doSetSize doCoreWrite put withFiles answers answersFor inWay bars owns overlaps
+unfolding grow benchOpen SessionHere HasTree cut sent sizeTo coreWriteOf bench others memory blocks blocksFrom blocksWithin afterParse afterBlock parse parseCoreWrite answer coreWriteFits shaped le16At le32At answered served runChain run bodyMeant fidMeant afterGiven after perform withOpen withTree withSession isSession isTree isOpen openAt found foundFrom any unlessBarred barring askBy fileOf callerOf areaOf dataOf sizeOf betweenSizes doSetSize doCoreWrite put withFiles answers answersFor inWay bars owns overlaps sizedTo
 left-there = (
   record { session = (_, first refl, refl, refl); tree = (_, first refl, refl, refl); opened = record { listed = first refl; of-fid = refl; of-uid = refl; of-tid = refl } },
   refl,

@@ -19,7 +19,7 @@ use Rattle.locks.specs.Range.{overlaps, passesEnd}
 use Rattle.catalogue.specs.Name.{folded, sameName, nameBytes, isNamed, notZero, nameOk, differ, noneDoubled, catalogueOk}
 use Rattle.soundness.specs.File.{fileOf}
 use Rattle.soundness.specs.Lookup.{isTree}
-use Rattle.soundness.specs.Sound.{withinRoom, fileOk, treeOk, permits, holdsOpen, sharingOk, openOk, soundRecords, lockOk, agree, agreeAll, soundLocks, sound}
+use Rattle.soundness.specs.Sound.{withinRoom, fileOk, treeOk, permits, holdsOpen, sharingOk, openOk, soundRecords, lockOk, agree, agreeAll, soundLocks, sound, seenOk}
 use Rattle.host.specs.HostCall.{done, setCatalogue}
 use Rattle.chain.specs.Layout.{READ, OPEN, FIRST, fidAfterAndx}
 use Rattle.chain.specs.Grammar.{Span, Reading}
@@ -55,6 +55,7 @@ use Rattle.demands.specs.WireFields.{openName}
 use Rattle.order.specs.Call.{Call, gives, Answerable, OneCommand, Says, sender, someRoom, ownMessage}
 use Rattle.order.specs.Demand2.{DoneAlone, demand-2}
 use Rattle.order.specs.Request6.{request-6}
+use Rattle.records.specs.Change.{changesOf, noting}
 
 -- ---- tables with a catalogue
 
@@ -70,22 +71,22 @@ office names count others =
       nsessions = 1;
       trees = record { tid = 2; uid = 3; right = 1 } ∷ replicate 31 noTree;
       ntrees = 1;
-      opens = record { fid = 1; uid = 3; tid = 2; process = 9; file = 1; access = 0; sharing = 2 } ∷ replicate 63 noOpen;
+      opens = record { fid = 1; uid = 3; tid = 2; process = 9; file = 1; access = 0; sharing = 2; read = false; seen = 0 } ∷ replicate 63 noOpen;
       nopens = others;
       locks = replicate 128 noLock;
       nlocks = 0;
-      files = noFile ∷ record { size = 6 } ∷ replicate 14 noFile;
+      files = noFile ∷ record { size = 6; changes = 2 } ∷ replicate 14 noFile;
       names = names;
       nnames = count;
     }
 
 -- the host sets the catalogue
 pub set-so : setCatalogue (office (replicate 16 noName) 0 0) twoNames 2 ≡ done 0 (office twoNames 2 0)
-unfolding setCatalogue done withCatalogue office twoNames crl name folded sameName nameBytes isNamed notZero nameOk differ noneDoubled catalogueOk sound withinRoom fileOk treeOk permits holdsOpen sharingOk openOk soundRecords lockOk agree agreeAll soundLocks any all allTails contains numberOk numbered overlaps passesEnd fileOf
+unfolding setCatalogue done withCatalogue office twoNames crl name folded sameName nameBytes isNamed notZero nameOk differ noneDoubled catalogueOk sound withinRoom fileOk treeOk permits holdsOpen sharingOk openOk soundRecords lockOk agree agreeAll soundLocks any all allTails contains numberOk numbered overlaps passesEnd fileOf seenOk
 set-so = refl
 
 office-sound : (sound (office twoNames 2 0) ≡ true) × (sound (office twoNames 2 1) ≡ true)
-unfolding office twoNames crl name folded sameName nameBytes isNamed notZero nameOk differ noneDoubled catalogueOk sound withinRoom fileOk treeOk permits holdsOpen sharingOk openOk soundRecords lockOk agree agreeAll soundLocks any all allTails contains numberOk numbered overlaps passesEnd fileOf
+unfolding office twoNames crl name folded sameName nameBytes isNamed notZero nameOk differ noneDoubled catalogueOk sound withinRoom fileOk treeOk permits holdsOpen sharingOk openOk soundRecords lockOk agree agreeAll soundLocks any all allTails contains numberOk numbered overlaps passesEnd fileOf seenOk
 office-sound = (refl, refl)
 
 good : (others : ℕ) → sound (office twoNames 2 others) ≡ true → Good (office twoNames 2 others)
@@ -136,7 +137,7 @@ given-here : (answered 5 toRead (office twoNames 2 0) memory .forms .status ≡ 
     × (answered 5 toWrite (office twoNames 2 1) memory .forms .status ≡ status 1 32)
     × (answered 5 openThenRead (office twoNames 2 0) memory .forms .status ≡ status 0 0)
     × (answered 5 openFirst (office twoNames 2 0) memory .forms .status ≡ status 0 0)
-unfolding toRead toWrite openThenRead openFirst asking message openCrl opening openWords crlBytes crlThenRead readOf office twoNames crl name memory blocks blocksFrom blocksWithin afterParse afterBlock before parse parseOpen parseRead answer openFits terminated readFits wideOffset linkFits linkAt mayFollow shaped bare le16At le32At answered served runChain run bodyMeant fidMeant openedBy afterGiven after perform withOpen withTree withSession isSession isTree isOpen openAt found foundFrom any doOpen codesServed sharingOk nameAsked openNamed isNamed sameName folded nameBytes openFile openBy holdsOpen permits keptOut denied reads writes deniesReading deniesWriting openedSaid smallestFree freeFrom contains withOpens stored doRead unlessBarred barring askBy fileOf callerOf areaOf dataOf status formsOf readBytes contents sizeOf replySize
+unfolding toRead toWrite openThenRead openFirst asking message openCrl opening openWords crlBytes crlThenRead readOf office twoNames crl name memory blocks blocksFrom blocksWithin afterParse afterBlock before parse parseOpen parseRead answer openFits terminated readFits wideOffset linkFits linkAt mayFollow shaped bare le16At le32At answered served runChain run bodyMeant fidMeant openedBy afterGiven after perform withOpen withTree withSession isSession isTree isOpen openAt found foundFrom any doOpen codesServed sharingOk nameAsked openNamed isNamed sameName folded nameBytes openFile openBy holdsOpen permits keptOut denied reads writes deniesReading deniesWriting openedSaid smallestFree freeFrom contains withOpens stored doRead unlessBarred barring askBy fileOf callerOf areaOf dataOf status formsOf readBytes contents sizeOf replySize noting changesOf
 given-here = (refl, refl, refl, refl)
 
 -- the same of the call
@@ -195,7 +196,7 @@ write-permitted =
 pub write-kept-out : KeptOut (office twoNames 2 1) 1 1 4
 unfolding office
 write-kept-out =
-    record { another = record { fid = 1; uid = 3; tid = 2; process = 9; file = 1; access = 0; sharing = 2 }; listed = first refl; of-file = refl; clash = asks-denied writing writes-1 writing-by-2 }
+    record { another = record { fid = 1; uid = 3; tid = 2; process = 9; file = 1; access = 0; sharing = 2; read = false; seen = 0 }; listed = first refl; of-file = refl; clash = asks-denied writing writes-1 writing-by-2 }
 
 pub write-refused : Says (asked toWrite 1) 1 32
 unfolding status

@@ -141,8 +141,8 @@ LockBetween c o =
     InWay (c .tables) o (locksOf (c .tables)) (coveredFrom c o) (coveredCount c o) (λ l. (l .shared ≡ false) × Owner (firstFid (c .message) FIRST) (sender c .process) l → ⊥)
 
 pub record SetsTheSize : Type 0 where
-  -- done: the open's file has the offset as its size; its bytes are the old ones below it, then zeros; where it shrinks or stays no byte of the file memory is changed; every
-  -- other size, record and file is as before; where the size was the offset already, nothing at all is changed (demands/specs/SetSize.antt)
+  -- done: the open's file has the offset as its size; its bytes are the old ones below it, then zeros; where it shrinks or stays no byte of the file memory is changed; its change
+  -- number is raised where the size is another (CR 8); every other file and record is as before; where the size was the offset already, nothing at all is changed (demands/specs/SetSize.antt)
   pub sets : (c : Call) (o : Open) → AsksSize c o → Says c 0 0
       → SizeSet (c .tables) (gives c .tables) (o .file) (coreOffset (c .message) FIRST) (c .memory) (gives c .memory)
   -- refused 1/33 exactly for such a lock, also where the offset is past 4,096
