@@ -30,6 +30,9 @@ pub enum Call {
     SetCatalogue {
         catalogue: Box<CatalogueWords>,
     },
+    Unchanged {
+        fid: u32,
+    },
     TakeMessage {
         connection: u32,
         message: Vec<u8>,
@@ -37,8 +40,8 @@ pub enum Call {
 }
 
 impl Call {
-    /// Makes the call. It gives the number of what was added, the reply's
-    /// length, or else 0. Only a message taken writes the holder.
+    /// Makes the call. It gives the number of what was added, 1 for "unchanged",
+    /// the reply's length, or else 0. Only a message taken writes the holder.
     pub fn make(
         &self,
         words: &mut Words,
@@ -67,6 +70,7 @@ impl Call {
             Call::SetCatalogue { ref catalogue } => {
                 words::set_catalogue(words, catalogue).map(|()| 0)
             }
+            Call::Unchanged { fid } => words::unchanged(words, fid).map(usize::from),
             Call::TakeMessage {
                 connection,
                 ref message,

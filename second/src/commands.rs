@@ -1,7 +1,8 @@
 //! What each request does, from "Locks, reads and writes" of document 01,
 //! with the refusals in the order of "Refusals on the wire". A command that
 //! is refused has changed nothing. The core commands have "the rules of their
-//! AndX counterparts" (document 02, request 3); OPEN_ANDX is request 6's.
+//! AndX counterparts" (document 02, request 3); OPEN_ANDX is request 6's. Reads and
+//! writes do to change numbers what request 8 says.
 
 use crate::holder::{unless_held, Holder, Refused};
 use crate::host::file_bytes_mut;
@@ -349,8 +350,8 @@ fn first_lock_of(tables: &Tables, file: u8, in_the_way: impl Fn(&Lock) -> bool) 
 
 /// "A read is refused 1/33 exactly if an exclusive lock of another owner
 /// overlaps offset and max. It yields the file's bytes in the range below its
-/// size."
-fn read(tables: &Tables, asker: &Asker, fid: u16, range: Range) -> Result<Done, Refused> {
+/// size." Once granted it remembers, "also one that yields or asks no byte".
+fn read(tables: &mut Tables, asker: &Asker, fid: u16, range: Range) -> Result<Done, Refused> {
     let open = find_open(tables, asker, fid)?;
     if open.access == ACCESS_WRITE {
         return Err(WireRefusal::Access.into());
@@ -359,6 +360,7 @@ fn read(tables: &Tables, asker: &Asker, fid: u16, range: Range) -> Result<Done, 
         !lock.shared && !owns(asker, fid, lock) && lock.range.overlaps(range)
     });
     unless_held(held, WireRefusal::FileLockConflict)?;
+    tables.remember(fid);
     let size = u128::from(tables.files[usize::from(open.file)].size);
     // Both are at most the size, 4,096.
     let start = range.start().min(size) as usize;
@@ -427,18 +429,25 @@ fn resize(
     }
     // "with zeros where it grows and no byte changed where it shrinks"
     zeros_from_size(tables, memory, open.file, size as usize);
-    tables.files[usize::from(open.file)].size = size;
+    // "count 0 only if the size changes"
+    let file = &mut tables.files[usize::from(open.file)];
+    if size != old {
+        file.size = size;
+        file.change();
+    }
     Ok(Done::Written(0))
 }
 
 /// "Bytes between the old size and the write become 0, and a size below the
-/// write's end becomes that end."
+/// write's end becomes that end." A write of at least one byte raises the change
+/// number "also where the bytes are equal".
 fn put_data(tables: &mut Tables, memory: &mut [u8], file: u8, start: usize, data: &[u8]) {
     zeros_from_size(tables, memory, file, start);
     let end = start + data.len();
     file_bytes_mut(memory, file)[start..end].copy_from_slice(data);
-    let size = &mut tables.files[usize::from(file)].size;
-    *size = (*size).max(end as u64);
+    let record = &mut tables.files[usize::from(file)];
+    record.size = record.size.max(end as u64);
+    record.change();
 }
 
 /// Puts zeros from the file's size to a place behind it.

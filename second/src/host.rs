@@ -24,7 +24,7 @@ fn within(value: u32, largest: u8) -> Outcome<u8> {
     small.ok_or(CallRefusal::OutOfRange)
 }
 
-/// A UID or TID, where some record could have it.
+/// A UID, TID or FID, where some record could have it.
 fn number(value: u32) -> Outcome<u16> {
     u16::try_from(value).map_err(|_| CallRefusal::NoSuch)
 }
@@ -81,7 +81,7 @@ pub fn add_open(
 }
 
 /// "A load sets the size and puts zeros after the loaded bytes, up to
-/// 4,096."
+/// 4,096." It raises the change number, "an empty one too".
 pub fn load_file(
     tables: &mut Tables,
     file: u32,
@@ -98,8 +98,20 @@ pub fn load_file(
     let (loaded, rest) = bytes.split_at_mut(contents.len());
     loaded.copy_from_slice(contents);
     rest.fill(0);
-    tables.files[usize::from(file)].size = contents.len() as u64;
+    let record = &mut tables.files[usize::from(file)];
+    record.size = contents.len() as u64;
+    record.change();
     Ok(())
+}
+
+/// "Has the list changed?" (document 02, request 8), for the open of that FID,
+/// whoever's it is: whether its file is unchanged since it read.
+pub fn unchanged(tables: &Tables, fid: u32) -> Outcome<bool> {
+    ensure(tables.sound(), CallRefusal::NotSound)?;
+    let fid = number(fid)?;
+    let open = tables.opens.in_use().iter().find(|o| o.fid == fid);
+    let open = open.ok_or(CallRefusal::NoSuch)?;
+    Ok(tables.unchanged(open))
 }
 
 /// Sets the catalogue whole. "Setting it looks at no open. Order 4, 7."

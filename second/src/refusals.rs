@@ -14,7 +14,7 @@ pub enum CallRefusal {
     NotSound = 4,
     /// "table full"
     Full = 5,
-    /// "no such session, or no such tree of that session"
+    /// "no such session, or no such tree of that session"; "an unknown FID"
     NoSuch = 6,
     /// "number out of range"; for a catalogue, a rule broken
     OutOfRange = 7,
@@ -24,7 +24,8 @@ pub enum CallRefusal {
     HasOpen = 9,
 }
 
-/// What a call gives: on 0 its value (the reply's length, the new number).
+/// What a call gives: on 0 its value (the reply's length, the new number, whether a
+/// file is unchanged).
 pub type Outcome<T> = Result<T, CallRefusal>;
 
 /// The number that a call returns.

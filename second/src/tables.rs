@@ -1,6 +1,7 @@
 //! The state, from "Tables and room" of document 01: the tables, soundness,
 //! finding and removing records. Opens have a sharing code, and beside the tables
-//! stands the catalogue (document 02, request 6).
+//! stands the catalogue (document 02, request 6). Files have a change number, and
+//! opens remember it (request 8).
 
 use crate::catalogue::Catalogue;
 
@@ -28,6 +29,8 @@ pub const DENY_READ: u8 = 3;
 pub const DENY_NONE: u8 = 4;
 /// "Files: 16, numbered from 0"
 pub const LARGEST_FILE: u8 = 15;
+/// "a 32-bit change number"
+pub const LARGEST_CHANGE: u64 = u32::MAX as u64;
 
 #[derive(Clone, Copy, Debug, Default, PartialEq, Eq)]
 pub struct Session {
@@ -51,6 +54,10 @@ pub struct Open {
     pub file: u8,
     pub access: u8,
     pub sharing: u8,
+    /// Whether a read was granted to it.
+    pub read: bool,
+    /// "the number at its last granted read"; 0 from the start.
+    pub seen: u64,
 }
 
 #[derive(Clone, Copy, Debug, Default, PartialEq, Eq)]
@@ -64,6 +71,15 @@ pub struct Lock {
 #[derive(Clone, Copy, Debug, Default, PartialEq, Eq)]
 pub struct File {
     pub size: u64,
+    /// The change number. "Numbers start at 0."
+    pub changes: u64,
+}
+
+impl File {
+    /// Raises the change number by one; "at its largest it stays".
+    pub fn change(&mut self) {
+        self.changes = LARGEST_CHANGE.min(self.changes + 1);
+    }
 }
 
 /// "A range is the bytes from offset to offset + length, the end left out,
@@ -156,6 +172,10 @@ impl<T: Copy + Default, const N: usize> Table<T, N> {
 
     pub fn in_use(&self) -> &[T] {
         &self.records[..self.count.min(N)]
+    }
+
+    pub fn in_use_mut(&mut self) -> &mut [T] {
+        &mut self.records[..self.count.min(N)]
     }
 
     pub fn is_full(&self) -> bool {
@@ -253,6 +273,23 @@ impl Tables {
         opens.find(|o| o.fid == fid && o.uid == uid && o.tid == tid)
     }
 
+    /// A read was granted to the open of that FID: it "remembers the number".
+    pub fn remember(&mut self, fid: u16) {
+        let Tables { opens, files, .. } = self;
+        let open = opens.in_use_mut().iter_mut().find(|o| o.fid == fid);
+        if let Some(open) = open {
+            open.read = true;
+            open.seen = files[usize::from(open.file)].changes;
+        }
+    }
+
+    /// "'unchanged' exactly if the open has read, the numbers are equal and below
+    /// the largest"
+    pub fn unchanged(&self, open: &Open) -> bool {
+        let changes = self.files[usize::from(open.file)].changes;
+        open.read && open.seen == changes && changes < LARGEST_CHANGE
+    }
+
     /// Whether an open may stand beside those of its file: "Sharing is tested
     /// against every open of the file, of whatever session, process, tree or name,
     /// the asker's own and the host's included".
@@ -284,7 +321,8 @@ impl Tables {
 }
 
 /// Soundness: "Tables are sound if ...". It "gains sharing codes and the
-/// catalogue's rules" (document 02, request 6).
+/// catalogue's rules" (document 02, request 6) and the rules of change numbers
+/// (request 8).
 impl Tables {
     pub fn sound(&self) -> bool {
         self.limits_sound()
@@ -295,13 +333,17 @@ impl Tables {
             && self.catalogue.sound()
     }
 
-    /// "counts and file sizes are within these limits"
+    /// "counts and file sizes are within these limits", and change numbers have 32
+    /// bits.
     fn limits_sound(&self) -> bool {
         self.sessions.count <= SESSIONS
             && self.trees.count <= TREES
             && self.opens.count <= OPENS
             && self.locks.count <= LOCKS
-            && self.files.iter().all(|f| f.size <= FILE_BYTES as u64)
+            && self
+                .files
+                .iter()
+                .all(|f| f.size <= FILE_BYTES as u64 && f.changes <= LARGEST_CHANGE)
     }
 
     fn sessions_sound(&self) -> bool {
@@ -324,9 +366,11 @@ impl Tables {
     }
 
     /// "(an open's tree has the open's UID)"; "no open exceeds its tree's
-    /// right". The session is there as the tree has one.
+    /// right". The session is there as the tree has one. "An open's remembered
+    /// number doesn't exceed its file's", whether it has read or not.
     fn open_sound(&self, open: &Open) -> bool {
-        usize::from(open.file) < FILES
+        let file = self.files.get(usize::from(open.file));
+        file.is_some_and(|file| open.seen <= file.changes)
             && open.access <= LARGEST_ACCESS
             && (DENY_BOTH..=DENY_NONE).contains(&open.sharing)
             && self

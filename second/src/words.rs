@@ -1,4 +1,4 @@
-//! The tables as the host hands them over: an array of 1461 words of 64
+//! The tables as the host hands them over: an array of 1605 words of 64
 //! bits, and every call over it. Any words are legal; a field outside its
 //! width, of a record in use, makes the tables not sound. Words of records
 //! that are not in use are nobody's and stay as they are. A refused call
@@ -54,6 +54,15 @@ fn narrow<T: TryFrom<u64>>(word: u64) -> Option<T> {
     T::try_from(word).ok()
 }
 
+/// 0 or 1.
+fn flag(word: u64) -> Option<bool> {
+    match word {
+        0 => Some(false),
+        1 => Some(true),
+        _ => None,
+    }
+}
+
 impl Record for Session {
     const FIELDS: usize = 2;
 
@@ -86,7 +95,7 @@ impl Record for Tree {
 }
 
 impl Record for Open {
-    const FIELDS: usize = 7;
+    const FIELDS: usize = 9;
 
     fn from_words(words: &[u64]) -> Option<Self> {
         Some(Open {
@@ -97,6 +106,8 @@ impl Record for Open {
             file: narrow(words[4])?,
             access: narrow(words[5])?,
             sharing: narrow(words[6])?,
+            read: flag(words[7])?,
+            seen: words[8],
         })
     }
 
@@ -109,6 +120,8 @@ impl Record for Open {
             self.file.into(),
             self.access.into(),
             self.sharing.into(),
+            self.read.into(),
+            self.seen,
         ]);
     }
 }
@@ -124,11 +137,7 @@ impl Record for Lock {
                 offset: words[2],
                 length: words[3],
             },
-            shared: match words[4] {
-                0 => false,
-                1 => true,
-                _ => return None,
-            },
+            shared: flag(words[4])?,
         })
     }
 
@@ -144,14 +153,17 @@ impl Record for Lock {
 }
 
 impl Record for File {
-    const FIELDS: usize = 1;
+    const FIELDS: usize = 2;
 
     fn from_words(words: &[u64]) -> Option<Self> {
-        Some(File { size: words[0] })
+        Some(File {
+            size: words[0],
+            changes: words[1],
+        })
     }
 
     fn to_words(self, words: &mut [u64]) {
-        words[0] = self.size;
+        words.copy_from_slice(&[self.size, self.changes]);
     }
 }
 
@@ -299,6 +311,12 @@ pub fn load_file(words: &mut Words, file: u32, contents: &[u8], memory: &mut [u8
 
 pub fn drop_connection(words: &mut Words, connection: u32) -> Outcome<()> {
     on_tables(words, |tables| host::drop_connection(tables, connection))
+}
+
+/// Whether the file of the open of that FID is unchanged. No word is written.
+pub fn unchanged(words: &Words, fid: u32) -> Outcome<bool> {
+    let tables = unpack(words).ok_or(CallRefusal::NotSound)?;
+    host::unchanged(&tables, fid)
 }
 
 /// On success the tables' part is exactly the words given, those past the names

@@ -143,7 +143,7 @@ fn with_part(part: &CatalogueWords) -> Words {
 
 #[test]
 fn words_are_those_given() {
-    assert_eq!(CATALOGUE, 1236);
+    assert_eq!(CATALOGUE, 1380);
     let old = pack_catalogue(&catalogue(&[(b"OLD", 3), (b"OLDER", 2)]));
     for (place, (given, good)) in judged().into_iter().enumerate() {
         let mut given = pack_catalogue(&given);

@@ -402,8 +402,8 @@ fn words_of_a_holder() {
     let room = (Err(CallRefusal::Room), anything);
     assert_eq!(given(&mut all, &refused, ROOM_BYTES - 1), room);
     // The second lock over the first, of one file now.
-    all[131 + 2 * 6 + 4] = 0;
-    all[516 + 5 + 2] = 0;
+    all[131 + 2 * 9 + 4] = 0;
+    all[708 + 5 + 2] = 0;
     let not_sound = (Err(CallRefusal::NotSound), anything);
     assert_eq!(given(&mut all, &refused, ROOM_BYTES), not_sound);
 }

@@ -241,24 +241,31 @@ fn overlapping_locks_of_one_file_are_shared() {
 
 #[test]
 fn words_are_the_tables() {
-    assert_eq!(WORDS, 1461);
+    assert_eq!(WORDS, 1605);
     let mut all = [0; WORDS];
     assert_eq!(words::add_session(&mut all, 0xFFFF_FFFF), Ok(1));
     assert_eq!(words::add_tree(&mut all, 1, 1), Ok(1));
     assert_eq!(words::add_open(&mut all, 1, 1, 70_000, 15, 2), Ok(1));
     assert_eq!(all[..3], [1, 1, 0xFFFF_FFFF]);
     assert_eq!(all[33..37], [1, 1, 1, 1]);
-    // A host's open denies nothing: its sharing code is 4.
-    assert_eq!(all[130..138], [1, 1, 1, 1, 70_000, 15, 2, 4]);
-    // The last lock, the files and the catalogue are at the end.
-    all[579] = 128;
-    all[1215..1220].copy_from_slice(&[0xFFFF, 0xFFFF_FFFF, u64::MAX, u64::MAX, 1]);
-    all[1235] = 4096;
-    all[1236] = 16;
-    all[1447..1461].copy_from_slice(&[3, 65, 46, 98, 4, 5, 6, 7, 8, 9, 10, 11, 12, 13]);
+    // A host's open denies nothing, so its sharing code is 4, and has not read.
+    assert_eq!(all[130..140], [1, 1, 1, 1, 70_000, 15, 2, 4, 0, 0]);
+    // The last open and lock, the files and the catalogue are at the end.
+    all[130] = 64;
+    all[698..707].copy_from_slice(&[64, 2, 3, 4, 5, 1, 3, 1, 0xFFFF_FFFF]);
+    all[707] = 128;
+    all[1343..1348].copy_from_slice(&[0xFFFF, 0xFFFF_FFFF, u64::MAX, u64::MAX, 1]);
+    all[1378..1380].copy_from_slice(&[4096, 0xFFFF_FFFE]);
+    all[1380] = 16;
+    all[1591..1605].copy_from_slice(&[3, 65, 46, 98, 4, 5, 6, 7, 8, 9, 10, 11, 12, 13]);
     let tables = unpack(&all).unwrap();
+    let last = tables.opens.records[63];
+    assert_eq!((last.fid, last.uid, last.tid, last.process), (64, 2, 3, 4));
+    assert_eq!((last.file, last.access, last.sharing), (5, 1, 3));
+    assert_eq!((last.read, last.seen), (true, 0xFFFF_FFFF));
     assert_eq!(tables.locks.records[127].range.offset, u64::MAX);
-    assert_eq!(tables.files[15].size, 4096);
+    let last = tables.files[15];
+    assert_eq!((last.size, last.changes), (4096, 0xFFFF_FFFE));
     let last = tables.catalogue.records[15];
     assert_eq!((last.length, last.bytes(), last.file), (3, &b"A.b"[..], 13));
     assert_eq!(last.text[3..], [4, 5, 6, 7, 8, 9, 10, 11, 12]);
@@ -280,13 +287,24 @@ fn words_are_the_tables() {
 /// sound", of any other it is nothing.
 #[test]
 fn words_have_widths() {
-    let opens = [0xFFFF, 0xFFFF, 0xFFFF, 0xFFFF_FFFF, 0xFF, 0xFF, 0xFF];
+    let (number, small) = (0xFFFF, 0xFF);
+    let opens = [
+        number,
+        number,
+        number,
+        0xFFFF_FFFF,
+        small,
+        small,
+        small,
+        1,
+        u64::MAX,
+    ];
     let tables: [(usize, &[u64]); 5] = [
         (0, &[0xFFFF, 0xFFFF_FFFF]),
         (33, &[0xFFFF, 0xFFFF, 0xFF]),
         (130, &opens),
-        (579, &[0xFFFF, 0xFFFF_FFFF, u64::MAX, u64::MAX, 1]),
-        (1236, &[0xFF; 14]),
+        (707, &[0xFFFF, 0xFFFF_FFFF, u64::MAX, u64::MAX, 1]),
+        (1380, &[0xFF; 14]),
     ];
     for (count, widths) in tables {
         for (field, &width) in widths.iter().enumerate() {

@@ -103,6 +103,8 @@ fn by_hand() {
         file: 0,
         access: 2,
         sharing: 4,
+        read: false,
+        seen: 0,
     };
     assert_eq!(world.tables.opens.in_use()[1..], [expected]);
     // Flags bit 0 set: the size, the access and OpenResults 1.

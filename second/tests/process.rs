@@ -304,7 +304,7 @@ fn words_of_a_process() {
     let (mut all, mut memory) = ([0; WORDS], vec![0; MEMORY_BYTES]);
     words::pack(&world.tables, &mut all);
     // The second open's and the first lock's.
-    assert_eq!((all[131 + 7 + 3], all[580 + 1]), (65_537, 0xFFFF_FFFF));
+    assert_eq!((all[131 + 9 + 3], all[708 + 1]), (65_537, 0xFFFF_FFFF));
     let (mut holder, mut room) = ([9; 6], vec![0; ROOM_BYTES]);
     let connection = world.connection;
     let (memory, room) = (&mut memory, &mut room);

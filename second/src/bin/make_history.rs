@@ -6,8 +6,9 @@
 //! an open (uid u16, tid u16, process u32, file u8, access u8); 4 load a file
 //! (file u8, length u16, the bytes); 5 drop a connection (connection u32); 6
 //! take a message (connection u32, length u16, the bytes); 7 set the catalogue
-//! (its 225 words, a byte each). It starts from empty tables, file memory of
-//! zeros and a reply room of 12,292 zeros that is carried from call to call.
+//! (its 225 words, a byte each); 8 ask whether the file of an open is unchanged
+//! (fid u16). It starts from empty tables, file memory of zeros and a reply room
+//! of 12,292 zeros that is carried from call to call.
 //!
 //! The lines are this package's own answers, `NUMBER VALUE REPLYHEX DIGEST`
 //! for each call, and the holder of a lock behind it; see [`calls::State::line`]. The program ends with a failure

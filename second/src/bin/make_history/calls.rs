@@ -58,6 +58,10 @@ pub fn encode(call: &Call, history: &mut Vec<u8>) {
                 history.push(u8::try_from(word).expect("a word of 8 bits"));
             }
         }
+        Call::Unchanged { fid } => {
+            history.push(8);
+            put_u16(history, *fid);
+        }
     }
 }
 
@@ -92,6 +96,9 @@ pub fn decode(history: &mut &[u8]) -> Option<Call> {
         },
         7 => Call::SetCatalogue {
             catalogue: Box::new(take_array::<CATALOGUE_WORDS>(history)?.map(u64::from)),
+        },
+        8 => Call::Unchanged {
+            fid: take_u16(history)?.into(),
         },
         _ => return None,
     })
@@ -152,7 +159,8 @@ const LENT: HolderWords = [u64::MAX; HOLDER_WORDS];
 pub struct Answer {
     /// The number returned.
     pub number: u8,
-    /// The number given out by an add, or the reply's length; else 0.
+    /// The number given out by an add, 1 for "unchanged", or the reply's length;
+    /// else 0.
     pub value: usize,
     pub reply: Vec<u8>,
     /// The words for the holder of a lock; none if nothing was written there.

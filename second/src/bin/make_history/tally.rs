@@ -133,6 +133,9 @@ impl Tally {
                 self.count(format!("drop {which} connection: {}", answer.number));
             }
             Call::SetCatalogue { catalogue } => self.note_catalogue(catalogue[0], answer.number),
+            Call::Unchanged { .. } => {
+                self.count(format!("asked: {}, {}", answer.number, answer.value))
+            }
             Call::TakeMessage { message, .. } => {
                 self.note_message(message, answer, before, after, unchanged)
             }
