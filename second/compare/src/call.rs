@@ -39,6 +39,7 @@ impl Trial {
             Some(Call::LoadFile { .. }) => "load_file",
             Some(Call::DropConnection { .. }) => "drop_connection",
             Some(Call::SetCatalogue { .. }) => "set_catalogue",
+            Some(Call::Unchanged { .. }) => "unchanged",
             Some(Call::TakeMessage { .. }) => "take_message",
         }
     }
@@ -71,11 +72,16 @@ impl Trial {
         }
     }
 
-    /// Bytes of the parameter for a number given: a UID, TID, FID, or the
-    /// reply's length.
+    /// Bytes of the parameter for a number given: a UID, TID, FID, whether a file
+    /// is unchanged, or the reply's length.
     pub fn out_bytes(&self) -> usize {
         match self.call() {
-            Some(Call::AddSession { .. } | Call::AddTree { .. } | Call::AddOpen { .. }) => 2,
+            Some(
+                Call::AddSession { .. }
+                | Call::AddTree { .. }
+                | Call::AddOpen { .. }
+                | Call::Unchanged { .. },
+            ) => 2,
             Some(Call::TakeMessage { .. }) => 8,
             _ => 0,
         }
@@ -159,6 +165,7 @@ pub fn theirs(trial: &Trial, tables: &mut [u8], holder: &mut [u8], places: Place
             Call::SetCatalogue { .. } => {
                 gateway::gateway_set_catalogue(tables, input.as_ptr().cast())
             }
+            Call::Unchanged { fid } => gateway::gateway_unchanged(tables, fid, out.cast()),
             Call::TakeMessage { connection, .. } => gateway::gateway_take_message(
                 tables,
                 connection,

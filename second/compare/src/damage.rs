@@ -1,6 +1,7 @@
 //! Damage to the tables: some of it makes them unsound, some doesn't.
 
 use crate::catalogues;
+use crate::places;
 use second::rng::Rng;
 use second::words::{Words, CATALOGUE};
 
@@ -16,33 +17,33 @@ const U8: u64 = 0xFF;
 const U16: u64 = 0xFFFF;
 const U32: u64 = 0xFFFF_FFFF;
 const U64: u64 = u64::MAX;
-const FILES: usize = 1220;
+/// Among the layouts.
 const OPENS: usize = 2;
 const LOCKS: usize = 3;
 
 const LAYOUTS: [Layout; 5] = [
     Layout {
-        count: 0,
+        count: places::SESSIONS,
         records: 16,
         widths: &[U16, U32],
     },
     Layout {
-        count: 33,
+        count: places::TREES,
         records: 32,
         widths: &[U16, U16, U8],
     },
     Layout {
-        count: 130,
+        count: places::OPENS,
         records: 64,
-        widths: &[U16, U16, U16, U32, U8, U8, U8],
+        widths: &[U16, U16, U16, U32, U8, U8, U8, 1, U64],
     },
     Layout {
-        count: 579,
+        count: places::LOCKS,
         records: 128,
         widths: &[U16, U32, U64, U64, 1],
     },
     Layout {
-        count: 1236,
+        count: places::NAMES,
         records: 16,
         widths: &[U8; 14],
     },
@@ -112,7 +113,10 @@ pub fn damage(words: &mut Words, rng: &mut Rng) {
         0 => words[rng.below(words.len())] = rng.pick(&VALUES),
         1 => words[layout.count] = rng.pick(&VALUES),
         2 => words[layout.count] = (words[layout.count] + 2).wrapping_sub(rng.below(4) as u64),
-        3 => words[FILES + rng.below(16)] = rng.pick(&[0, 5, 4095, 4096, 4097, U64]),
+        3 => {
+            let size = places::file_word(rng.below(16), places::SIZE);
+            words[size] = rng.pick(&[0, 5, 4095, 4096, 4097, U64]);
+        }
         4 => past_the_width(words, rng, layout),
         5 => litter(words, rng),
         6 | 7 if used > 0 => {

@@ -14,6 +14,7 @@ mod crash;
 mod damage;
 mod holders;
 mod opening;
+mod places;
 mod plan;
 mod processes;
 mod report;

@@ -6,6 +6,7 @@ mod asked;
 
 use crate::catalogues::{broken, RULES};
 use crate::counts::Counts;
+use crate::places;
 use crate::sides::Given;
 use second::call::Call;
 use second::tables::{Tables, DENY_NONE};
@@ -23,11 +24,6 @@ const SHARING: [&str; 3] = [
     "not sound: sharing code above 4 alone",
     "not sound: sharing code that does not fit alone",
 ];
-
-/// Where the opens stand in the words: their count, fields and most.
-const OPENS: usize = 130;
-const OPEN_FIELDS: usize = 7;
-const MOST_OPENS: u64 = 64;
 
 #[derive(Default)]
 pub struct Opening {
@@ -88,7 +84,7 @@ impl Opening {
                     _ => CATALOGUES[1],
                 };
                 self.counts.met(which);
-                self.counts.met_if(before[OPENS] > 0, CATALOGUES[3]);
+                self.counts.met_if(before[places::OPENS] > 0, CATALOGUES[3]);
             }
             7 => self.count_rule("catalogue refused", given),
             _ => {}
@@ -113,8 +109,8 @@ impl Opening {
             self.count_rule("not sound", &before[CATALOGUE..]);
         }
         let mut other = *before;
-        let used = before[OPENS].min(MOST_OPENS) as usize;
-        let codes = (0..used).map(|open| OPENS + OPEN_FIELDS * (open + 1));
+        let opens = places::opens_in_use(before);
+        let codes = opens.map(|open| places::open_word(open, places::SHARING));
         for word in codes.clone() {
             other[word] = DENY_NONE.into();
         }

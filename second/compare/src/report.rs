@@ -1,6 +1,7 @@
 //! What is said of a difference.
 
 use crate::call::Trial;
+use crate::places;
 use linked::guarded::Side;
 use second::call::Call;
 use second::header::header_numbers;
@@ -12,6 +13,9 @@ use second::words::{HolderWords, Words, WORDS};
 /// Most differences of one kind that are printed.
 const MOST: usize = 12;
 
+const OPEN_FIELDS: [&str; 9] = [
+    "fid", "uid", "tid", "process", "file", "access", "sharing", "read", "seen",
+];
 const NAME_FIELDS: [&str; 14] = [
     "length", "text 0", "text 1", "text 2", "text 3", "text 4", "text 5", "text 6", "text 7",
     "text 8", "text 9", "text 10", "text 11", "file",
@@ -20,21 +24,16 @@ const NAME_FIELDS: [&str; 14] = [
 /// The name of a word: table, place and field.
 pub fn word_name(word: usize) -> String {
     let tables: [(&str, usize, usize, &[&str]); 5] = [
-        ("sessions", 0, 16, &["uid", "connection"]),
-        ("trees", 33, 32, &["tid", "uid", "right"]),
-        (
-            "opens",
-            130,
-            64,
-            &["fid", "uid", "tid", "process", "file", "access", "sharing"],
-        ),
+        ("sessions", places::SESSIONS, 16, &["uid", "connection"]),
+        ("trees", places::TREES, 32, &["tid", "uid", "right"]),
+        ("opens", places::OPENS, 64, &OPEN_FIELDS),
         (
             "locks",
-            579,
+            places::LOCKS,
             128,
             &["fid", "process", "offset", "length", "shared"],
         ),
-        ("names", 1236, 16, &NAME_FIELDS),
+        ("names", places::NAMES, 16, &NAME_FIELDS),
     ];
     for (table, start, records, fields) in tables {
         let end = start + 1 + records * fields.len();
@@ -47,7 +46,9 @@ pub fn word_name(word: usize) -> String {
             return format!("{table}[{}].{field}", place / fields.len());
         }
     }
-    format!("files[{}].size", word - 1220)
+    let place = word - places::FILES;
+    let fields = ["size", "changes"];
+    format!("files[{}].{}", place / 2, fields[place % 2])
 }
 
 /// The words that differ.

@@ -5,6 +5,7 @@ use crate::core_commands::CoreCommands;
 use crate::counts::{enough, LEAST};
 use crate::holders::Holders;
 use crate::opening::Opening;
+use crate::places;
 use crate::processes::Processes;
 use crate::sides::Given;
 use crate::statuses::{possible, refusal, Statuses};
@@ -162,7 +163,14 @@ impl Tally {
     }
 
     pub fn count_tables(&mut self, words: &[u64]) {
-        for (most, place) in self.most.iter_mut().zip([0, 33, 130, 579, 1236]) {
+        let counts = [
+            places::SESSIONS,
+            places::TREES,
+            places::OPENS,
+            places::LOCKS,
+            places::NAMES,
+        ];
+        for (most, place) in self.most.iter_mut().zip(counts) {
             *most = words[place].max(*most);
         }
     }
