@@ -298,10 +298,15 @@ impl Tables {
         !others.any(|other| other.file == open.file && open.bars(other))
     }
 
-    /// Puts an open, whose FID is not looked at, behind those in use with the
-    /// smallest FID not in use, and gives that. The table is not full.
+    /// The smallest FID not in use.
+    pub fn next_fid(&self) -> u16 {
+        smallest_free(self.opens.in_use().iter().map(|o| o.fid))
+    }
+
+    /// Puts an open, whose FID is not looked at, behind those in use with the next
+    /// FID, and gives that. The table is not full.
     pub fn add_open(&mut self, open: Open) -> u16 {
-        let fid = smallest_free(self.opens.in_use().iter().map(|o| o.fid));
+        let fid = self.next_fid();
         self.opens.push(Open { fid, ..open });
         fid
     }

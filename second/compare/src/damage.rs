@@ -3,6 +3,7 @@
 use crate::catalogues;
 use crate::places;
 use second::rng::Rng;
+use second::tables::LARGEST_CHANGE;
 use second::words::{Words, CATALOGUE};
 
 /// A table in the words: its count's place, its records and their fields'
@@ -109,7 +110,7 @@ pub fn damage(words: &mut Words, rng: &mut Rng) {
     let layout = &LAYOUTS[rng.below(LAYOUTS.len())];
     let used = layout.used(words);
     let field = rng.below(layout.widths.len());
-    match rng.below(17) {
+    match rng.below(21) {
         0 => words[rng.below(words.len())] = rng.pick(&VALUES),
         1 => words[layout.count] = rng.pick(&VALUES),
         2 => words[layout.count] = (words[layout.count] + 2).wrapping_sub(rng.below(4) as u64),
@@ -134,6 +135,7 @@ pub fn damage(words: &mut Words, rng: &mut Rng) {
         11 => rename(words, rng),
         12 | 13 => past_the_list(words, rng),
         14 => catalogues::spoil(&mut words[CATALOGUE..], rng),
+        15..=18 => damage_numbers(words, rng),
         _ => damage_locks(words, rng),
     }
 }
@@ -201,6 +203,77 @@ fn past_the_width(words: &mut Words, rng: &mut Rng, layout: &Layout) {
 fn swap(words: &mut Words, layout: &Layout, one: usize, other: usize) {
     for field in 0..layout.widths.len() {
         words.swap(layout.word(one, field), layout.word(other, field));
+    }
+}
+
+/// Change numbers to set: a few small ones, and the largest and those before it.
+const NUMBERS: [u64; 8] = [
+    0,
+    1,
+    255,
+    65_535,
+    LARGEST_CHANGE - 2,
+    LARGEST_CHANGE - 1,
+    LARGEST_CHANGE - 1,
+    LARGEST_CHANGE,
+];
+
+/// Gives every file another change number.
+pub fn renumber_all(words: &mut Words, rng: &mut Rng) {
+    for file in 0..16 {
+        renumber(words, file, rng);
+    }
+}
+
+/// Gives a file another change number, and its opens others to remember: equal,
+/// one below or far below.
+fn renumber(words: &mut Words, file: usize, rng: &mut Rng) {
+    let number = rng.pick(&NUMBERS);
+    words[places::file_word(file, places::CHANGES)] = number;
+    for open in places::opens_in_use(words) {
+        if words[places::open_word(open, places::FILE)] == file as u64 {
+            words[places::open_word(open, places::READ)] = rng.pick(&[0, 1, 1, 1]);
+            words[places::open_word(open, places::SEEN)] =
+                rng.pick(&[number, number, number.saturating_sub(1), number / 2, 0]);
+        }
+    }
+}
+
+/// Changes change numbers and what opens remember: half of the time soundly. Else a
+/// change number is above 32 bits, a number that is remembered above its file's,
+/// or a word for whether an open has read no such word; or they are the words of an
+/// open that is not in use.
+fn damage_numbers(words: &mut Words, rng: &mut Rng) {
+    let opens = places::opens_in_use(words);
+    let any = rng.below(16);
+    let (open, file) = match opens.is_empty() {
+        true => (None, any),
+        false => {
+            let open = rng.below(opens.end);
+            let file = words[places::open_word(open, places::FILE)].min(15) as usize;
+            (Some(open), rng.pick(&[file, file, any]))
+        }
+    };
+    let change = places::file_word(file, places::CHANGES);
+    let number = words[change];
+    let no_flag = rng.pick(&[2, 3, 255, 256, U32 + 1, U32 + 2, U64]);
+    let above = rng.pick(&[U32 + 1, U32 + 2, number.wrapping_add(U32 + 1), U64]);
+    match (rng.below(10), open) {
+        (5 | 6, _) => words[change] = above,
+        (7, Some(open)) => {
+            let file = words[places::open_word(open, places::FILE)].min(15) as usize;
+            let number = words[places::file_word(file, places::CHANGES)];
+            words[places::open_word(open, places::READ)] = rng.below(2) as u64;
+            words[places::open_word(open, places::SEEN)] =
+                rng.pick(&[number.wrapping_add(1), number.wrapping_add(2), above, U64]);
+        }
+        (8, Some(open)) => words[places::open_word(open, places::READ)] = no_flag,
+        (9, _) if opens.end < 64 => {
+            let behind = opens.end + rng.below(64 - opens.end);
+            words[places::open_word(behind, places::READ)] = no_flag;
+            words[places::open_word(behind, places::SEEN)] = above;
+        }
+        _ => renumber(words, file, rng),
     }
 }
 

@@ -8,6 +8,7 @@
 
 mod call;
 mod catalogues;
+mod changes;
 mod core_commands;
 mod counts;
 mod crash;
@@ -62,7 +63,8 @@ impl Run {
         Ok(given)
     }
 
-    /// Empties the tables, from whatever they hold.
+    /// Empties the tables, from whatever they hold. Once in three the files then
+    /// have been changed before.
     fn begin_history(&mut self) -> Result<(), String> {
         self.tally.begin_history();
         let words = &mut self.sides.words;
@@ -70,6 +72,9 @@ impl Run {
         self.make(&Trial::Empty)?;
         if self.planner.rng.below(2) == 0 {
             damage::litter(&mut self.sides.words, &mut self.planner.rng);
+        }
+        if self.planner.rng.below(3) == 0 {
+            damage::renumber_all(&mut self.sides.words, &mut self.planner.rng);
         }
         Ok(())
     }

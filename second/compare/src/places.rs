@@ -8,14 +8,18 @@ pub const LOCKS: usize = 707;
 pub const FILES: usize = 1348;
 pub const NAMES: usize = 1380;
 
-const MOST_OPENS: u64 = 64;
+pub const MOST_OPENS: u64 = 64;
 const OPEN_FIELDS: usize = 9;
-/// A field of an open.
+/// Fields of an open.
+pub const FILE: usize = 4;
 pub const SHARING: usize = 6;
+pub const READ: usize = 7;
+pub const SEEN: usize = 8;
 
 const FILE_FIELDS: usize = 2;
-/// A field of a file.
+/// Fields of a file.
 pub const SIZE: usize = 0;
+pub const CHANGES: usize = 1;
 
 pub fn open_word(open: usize, field: usize) -> usize {
     OPENS + 1 + OPEN_FIELDS * open + field

@@ -1,6 +1,7 @@
 //! Plans the calls: mostly plausible ones for the tables as they are, so
 //! that every answer is met often, with errors and damage mixed in.
 
+mod change_asks;
 mod core_asks;
 mod open_asks;
 
@@ -44,8 +45,9 @@ const EDGES: [u64; 14] = [
 ];
 
 /// The kinds of call, in the order of [`Mood::calls`].
-const CALLS: usize = 7;
+const CALLS: usize = 8;
 const SET_CATALOGUE: usize = 5;
+const QUESTION: usize = 6;
 /// The kinds of command, in the order of [`Mood::asks`].
 const KINDS: usize = 12;
 const FIRST_CORE: usize = 7;
@@ -63,14 +65,15 @@ enum Mood {
 }
 
 impl Mood {
-    /// Weights: add session, tree, open; load; drop; set the catalogue; message.
+    /// Weights: add session, tree, open; load; drop; set the catalogue; ask whether
+    /// a file is unchanged; message.
     fn calls(self) -> [usize; CALLS] {
         match self {
-            Mood::Grow => [8, 12, 40, 4, 0, 2, 40],
-            Mood::Fill => [20, 40, 80, 8, 0, 4, 12],
-            Mood::Work => [2, 3, 8, 6, 1, 4, 160],
-            Mood::Locks => [1, 1, 2, 2, 0, 1, 100],
-            Mood::Shrink => [2, 2, 5, 10, 6, 3, 100],
+            Mood::Grow => [8, 12, 40, 4, 0, 2, 16, 50],
+            Mood::Fill => [12, 26, 56, 6, 0, 4, 12, 30],
+            Mood::Work => [2, 3, 8, 6, 1, 4, 32, 180],
+            Mood::Locks => [1, 1, 2, 2, 0, 1, 8, 100],
+            Mood::Shrink => [2, 2, 5, 10, 6, 3, 16, 100],
         }
     }
 
@@ -79,7 +82,7 @@ impl Mood {
     fn asks(self) -> [usize; KINDS] {
         match self {
             Mood::Grow | Mood::Fill => [300, 200, 200, 4, 1, 1, 2, 50, 80, 60, 40, 200],
-            Mood::Work => [320, 270, 300, 20, 3, 4, 12, 70, 160, 60, 60, 120],
+            Mood::Work => [320, 270, 300, 20, 3, 4, 12, 70, 160, 60, 60, 140],
             Mood::Locks => [700, 60, 90, 5, 1, 1, 5, 30, 60, 100, 40, 20],
             Mood::Shrink => [100, 80, 80, 60, 12, 16, 20, 20, 40, 20, 20, 60],
         }
@@ -100,6 +103,10 @@ pub struct Planner {
     left: usize,
     /// An offset at which no lock was asked for yet.
     fresh: u64,
+    /// The FIDs that the last message named, or that the last open was to get.
+    named: Vec<u16>,
+    /// The file of the open that the last message was to close.
+    closed: Option<u8>,
     /// The messages made for the lister.
     listed: Vec<Made>,
 }
@@ -113,6 +120,8 @@ impl Planner {
             mood: Mood::Grow,
             left: 100,
             fresh: 100_000,
+            named: Vec::new(),
+            closed: None,
             listed,
         }
     }
@@ -169,12 +178,17 @@ impl Planner {
                 connection: self.connection(),
             }),
             SET_CATALOGUE => self.set_catalogue(tables),
+            QUESTION => self.question(tables),
             _ => self.take_message(tables),
         }
     }
 
-    /// By weight, but few records are mostly made more.
+    /// By weight, but few records are mostly made more, and a file that was closed
+    /// is opened again now and then.
     fn call_kind(&mut self, tables: &Tables) -> usize {
+        if self.closed.is_some() && self.once_in(3) {
+            return 2;
+        }
         if self.mood != Mood::Shrink && !self.once_in(4) {
             if tables.sessions.count < 2 {
                 return 0;
@@ -226,8 +240,10 @@ impl Planner {
         let file = self.rng.pick(&[0, 0, 0, 1, 1, 2, 3, 15]);
         let any_file = self.rng.below(16) as u32;
         let file = self.seldom(file, &[16, 17, 128, 255, any_file, any_file]);
+        let file = self.closed.take().map_or(file, u32::from);
         let access = self.rng.pick(&[0, 1, 2, 2, 2]);
         let access = self.seldom(access, &[3, 4, 255]);
+        self.note_open(tables);
         Trial::plain(Call::AddOpen {
             uid: self.seldom_wide(uid.into()),
             tid: self.seldom_wide(tid.into()),
@@ -356,6 +372,15 @@ impl Planner {
             if let Some(lock) = self.held_to_ask_for(tables) {
                 let scene = self.owners_scene(tables, lock);
                 let asks = self.core_at_lock(tables, &scene, lock);
+                self.note_named(&asks, tables);
+                let message = self.written(scene.header, &asks);
+                return (scene, message);
+            }
+        }
+        if self.once_in(80) {
+            if let Some((scene, ask)) = self.idle_write(tables) {
+                let asks = [ask];
+                self.note_named(&asks, tables);
                 let message = self.written(scene.header, &asks);
                 return (scene, message);
             }
@@ -365,6 +390,7 @@ impl Planner {
             self.listed_message(&scene)
         } else {
             let asks = self.asks(tables, &scene);
+            self.note_named(&asks, tables);
             self.written(scene.header, &asks)
         };
         (scene, message)
@@ -484,6 +510,7 @@ impl Planner {
             if first == OPEN {
                 self.set_behind_open(&mut ask, tables);
             }
+            self.seldom_again(&mut ask, &asks[asks.len() - 1]);
             asks.push(ask);
         }
         if first != OPEN {
@@ -622,7 +649,7 @@ impl Planner {
             let first = locks.iter().find(alike);
             first.is_some_and(|first| twins(first.process, lock.process))
         };
-        match self.once_in(4) {
+        match self.once_in(3) {
             true => self.held_that(tables, behind_twin),
             false => self.held(tables),
         }

@@ -1,6 +1,7 @@
 //! Counts what was met, and says what was not met often enough.
 
 use crate::call::Trial;
+use crate::changes::Changes;
 use crate::core_commands::CoreCommands;
 use crate::counts::{enough, LEAST};
 use crate::holders::Holders;
@@ -42,16 +43,18 @@ pub struct Tally {
     processes: Processes,
     core: CoreCommands,
     opening: Opening,
+    changes: Changes,
 }
 
 /// Every call's numbers, from "What a call returns".
-const NUMBERS: [(&str, &[u8]); 7] = [
+const NUMBERS: [(&str, &[u8]); 8] = [
     ("add_session", &[0, 4, 5]),
     ("add_tree", &[0, 4, 5, 6, 7]),
     ("add_open", &[0, 4, 5, 6, 7, 8]),
     ("load_file", &[0, 2, 4, 7, 9]),
     ("drop_connection", &[0, 4]),
     ("set_catalogue", &[0, 4, 7]),
+    ("unchanged", &[0, 4, 6]),
     ("take_message", &[0, 1, 2, 4]),
 ];
 
@@ -78,12 +81,13 @@ fn arguments(call: &Call) -> Vec<(&'static str, u32, u32, u8)> {
             ("an open's access", access, SMALL, 7),
         ],
         Call::LoadFile { file, .. } => vec![("a load's file", file, SMALL, 7)],
+        Call::Unchanged { fid } => vec![("a question's FID", fid, NUMBER, 6)],
         _ => Vec::new(),
     }
 }
 
 /// Each that [`arguments`] names.
-const WIDE: [&str; 7] = [
+const WIDE: [&str; 8] = [
     "a tree's UID",
     "a tree's right",
     "an open's UID",
@@ -91,6 +95,7 @@ const WIDE: [&str; 7] = [
     "an open's file",
     "an open's access",
     "a load's file",
+    "a question's FID",
 ];
 
 fn length_class(blocks: usize) -> &'static str {
@@ -123,6 +128,7 @@ impl Tally {
         self.histories += 1;
         self.core.begin_history();
         self.opening.begin_history();
+        self.changes.begin_history();
     }
 
     /// Counts a call, these being the reply room after it, and the words before
@@ -153,6 +159,7 @@ impl Tally {
             self.processes.count(call, given, reply, before, after);
             self.core.count(call, given, reply, before);
             self.opening.count(call, given, reply, before, after);
+            self.changes.count(call, given, reply, before, after);
         }
         if let Some(Call::TakeMessage { message, .. }) = trial.call() {
             self.holders.count(message, given, reply, after);
@@ -232,6 +239,7 @@ impl Tally {
             self.processes.print(),
             self.core.print(),
             self.opening.print(),
+            self.changes.print(),
         ];
         parts.into_iter().all(|good| good)
     }

@@ -95,16 +95,16 @@ impl Planner {
         let size = size_of(tables, file);
         let most = FILE_BYTES as u32;
         let some = self.rng.below(120) as u32;
-        match self.rng.below(20) {
-            0 | 1 => size,
-            2..=4 => self.rng.below(size as usize + 1) as u32,
-            5..=7 => size + some,
-            8 => some / 4,
-            9 => self.rng.below(FILE_BYTES + 1) as u32,
-            10 | 11 => most - self.rng.pick(&[0, 0, 1, 2]),
-            12 | 13 => most + self.rng.pick(&[1, 2, some, 1000]),
-            14 | 15 => beside_a_lock(tables, file, size).unwrap_or(some),
-            16..=18 => self.over_a_lock(tables, scene, fid, size).unwrap_or(some),
+        match self.rng.below(21) {
+            0..=2 => size,
+            3..=5 => self.rng.below(size as usize + 1) as u32,
+            6..=8 => size + some,
+            9 => some / 4,
+            10 => self.rng.below(FILE_BYTES + 1) as u32,
+            11 | 12 => most - self.rng.pick(&[0, 0, 1, 2]),
+            13 | 14 => most + self.rng.pick(&[1, 2, some, 1000]),
+            15 | 16 => beside_a_lock(tables, file, size).unwrap_or(some),
+            17..=19 => self.over_a_lock(tables, scene, fid, size).unwrap_or(some),
             _ => self.rng.pick(&EDGES) as u32,
         }
     }

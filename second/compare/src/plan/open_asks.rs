@@ -7,7 +7,7 @@ use second::builder::Ask;
 use second::catalogue::Name;
 use second::grammar::{blocks, OPEN_ANDX};
 use second::request::JUST_OPENED;
-use second::tables::{smallest_free, Tables, DENY_NONE, LARGEST_ACCESS};
+use second::tables::{Tables, DENY_NONE, LARGEST_ACCESS};
 
 /// Where ByteCount and the name stand in a block.
 const BYTE_COUNT: usize = 31;
@@ -76,8 +76,7 @@ impl Planner {
     /// Puts the FID into what is behind an OPEN_ANDX: mostly 0xFFFF or the one that
     /// the open will have.
     pub(super) fn set_behind_open(&mut self, ask: &mut Ask, tables: &Tables) {
-        let fids = tables.opens.in_use().iter().map(|open| open.fid);
-        let given = smallest_free(fids);
+        let given = tables.next_fid();
         let (just, any) = (JUST_OPENED, self.any_number());
         match ask {
             Ask::Read { .. } if self.once_in(5) => {}
