@@ -9,7 +9,7 @@ mod soundness;
 use crate::counts::Counts;
 use crate::places;
 use crate::sides::Given;
-use crate::tally::commands;
+use crate::tally::{commands, Around};
 use second::call::Call;
 use second::grammar::{blocks, is_andx};
 use second::header::header_numbers;
@@ -17,7 +17,7 @@ use second::listing::dropped;
 use second::request::Request;
 use second::status::class_and_code;
 use second::tables::{Open, Tables, LARGEST_CHANGE};
-use second::words::{unpack, Words};
+use second::words::Words;
 use std::collections::{BTreeMap, BTreeSet};
 
 /// A READ that remembers has not read before, or remembered another number.
@@ -111,14 +111,15 @@ impl Changes {
         self.last = None;
     }
 
-    /// Counts a call, these being the words before and after it.
+    /// Counts a call, these being the words before and after it and, if it was
+    /// done, the tables around it.
     pub fn count(
         &mut self,
         call: &Call,
         given: Given,
         reply: &[u8],
-        before: &Words,
-        after: &Words,
+        (before, after): (&Words, &Words),
+        around: Option<&Around>,
     ) {
         match given.number {
             // The tables were not looked at.
@@ -128,32 +129,29 @@ impl Changes {
         }
         self.forget_unless_left(before);
         self.keep_left(after);
-        let Some((old, new)) = unpack(before).zip(unpack(after)) else {
-            return;
-        };
         if let Call::Unchanged { fid } = *call {
-            match given.number {
-                0 => self.count_answer(fid as u16, given.value == 1, &old),
-                _ => self.count_unknown(fid, &old),
+            match around {
+                Some(around) => self.count_answer(fid as u16, given.value == 1, &around.before),
+                None => self.count_unknown(fid, before),
             }
             return self.count_behind();
         }
         self.count_not_in_use(before);
         self.last = None;
-        if given.number != 0 {
+        let Some(Around { before, after }) = around else {
             return;
-        }
+        };
         match call {
             Call::AddOpen { .. } => self.last = Some("open added"),
             Call::DropConnection { .. } => self.last = Some("drop"),
             Call::LoadFile { file, contents } => {
                 self.last = Some("load");
-                self.count_load(*file as usize, contents.is_empty(), &old);
+                self.count_load(*file as usize, contents.is_empty(), before);
             }
-            Call::TakeMessage { message, .. } => self.count_message(message, reply, &old, &new),
+            Call::TakeMessage { message, .. } => self.count_message(message, reply, before, after),
             _ => {}
         }
-        self.follow_opens(&old, &new);
+        self.follow_opens(before, after);
     }
 
     /// Nothing is known of opens and files that are not as they were left.

@@ -3,7 +3,6 @@
 //! and the successions that are not in the grammar.
 
 use crate::counts::Counts;
-use crate::sides::Given;
 use crate::tally::commands;
 use second::call::Call;
 use second::grammar::{
@@ -16,7 +15,6 @@ use second::refusals::WireRefusal::{self, *};
 use second::request::Request;
 use second::status::class_and_code;
 use second::tables::{Lock, Range, Tables, FILES, FILE_BYTES};
-use second::words::{unpack, Words};
 use std::cmp::Ordering;
 
 const AMONG: [&str; 2] = ["alone", "behind LOCKING"];
@@ -109,17 +107,14 @@ impl CoreCommands {
         self.made_zero = [None; FILES];
     }
 
-    /// Counts a call, these being the words before it.
-    pub fn count(&mut self, call: &Call, given: Given, reply: &[u8], before: &Words) {
-        let Some(before) = unpack(before).filter(|_| given.number == 0) else {
-            return;
-        };
+    /// Counts a call that was done, these being the tables before it.
+    pub fn count(&mut self, call: &Call, reply: &[u8], before: &Tables) {
         match call {
             Call::LoadFile { file, .. } => {
                 self.left[*file as usize] = 0;
                 self.made_zero[*file as usize] = None;
             }
-            Call::TakeMessage { message, .. } => self.count_message(message, reply, &before),
+            Call::TakeMessage { message, .. } => self.count_message(message, reply, before),
             _ => {}
         }
     }

@@ -8,6 +8,7 @@ use crate::catalogues::{broken, RULES};
 use crate::counts::Counts;
 use crate::places;
 use crate::sides::Given;
+use crate::tally::Around;
 use second::call::Call;
 use second::tables::{Tables, DENY_NONE};
 use second::words::{unpack, Words, CATALOGUE};
@@ -37,31 +38,31 @@ impl Opening {
         self.hosts.clear();
     }
 
-    /// Counts a call, these being the words before and after it.
+    /// Counts a call, these being the words before it and, if it was done, the
+    /// tables around it.
     pub fn count(
         &mut self,
         call: &Call,
         given: Given,
         reply: &[u8],
-        before: &Words,
-        after: &Words,
+        words: &Words,
+        around: Option<&Around>,
     ) {
         if given.number == 4 {
-            self.count_unsound(before);
+            self.count_unsound(words);
         }
-        let tables = unpack(before).zip(unpack(after));
-        match (call, tables.filter(|_| given.number == 0)) {
+        match (call, around) {
             (Call::SetCatalogue { catalogue }, _) => {
-                self.count_set(&catalogue[..], given.number, before);
+                self.count_set(&catalogue[..], given.number, words);
             }
             (Call::AddOpen { .. }, Some(_)) => {
                 self.hosts.insert(given.value as u16);
             }
-            (Call::DropConnection { .. }, Some((before, after))) => {
-                self.count_gone("drop", &before, &after);
+            (Call::DropConnection { .. }, Some(Around { before, after })) => {
+                self.count_gone("drop", before, after);
             }
-            (Call::TakeMessage { message, .. }, Some((before, after))) => {
-                self.count_message(message, reply, &before, &after);
+            (Call::TakeMessage { message, .. }, Some(Around { before, after })) => {
+                self.count_message(message, reply, before, after);
             }
             _ => {}
         }

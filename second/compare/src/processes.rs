@@ -4,8 +4,7 @@
 
 use crate::core_commands::between;
 use crate::counts::Counts;
-use crate::sides::Given;
-use crate::tally::commands;
+use crate::tally::{commands, Around};
 use second::call::Call;
 use second::grammar::{blocks, READ, WRITE};
 use second::header::header_numbers;
@@ -13,7 +12,6 @@ use second::processes::{above_65_535, twins};
 use second::request::{OwnedRange, Request, TYPE_LARGE};
 use second::status::class_and_code;
 use second::tables::{Lock, Open, Range, Tables};
-use second::words::{unpack, Words};
 
 /// What is to be met.
 const MET: [&str; 12] = [
@@ -46,19 +44,9 @@ pub struct Processes {
 }
 
 impl Processes {
-    /// Counts a call, these being the words before and after it.
-    pub fn count(
-        &mut self,
-        call: &Call,
-        given: Given,
-        reply: &[u8],
-        before: &Words,
-        after: &Words,
-    ) {
-        let tables = unpack(before).zip(unpack(after));
-        let Some((before, after)) = tables.filter(|_| given.number == 0) else {
-            return;
-        };
+    /// Counts a call that was done.
+    pub fn count(&mut self, call: &Call, reply: &[u8], around: &Around) {
+        let Around { before, after } = around;
         match *call {
             Call::AddOpen { uid, process, .. } => {
                 let mut opens = before.opens.in_use().iter();
@@ -69,7 +57,7 @@ impl Processes {
                 self.counts.met_if(beside, what);
             }
             Call::TakeMessage { ref message, .. } if blocks(message).all(|block| block.is_ok()) => {
-                self.count_first(message, reply, &before, &after)
+                self.count_first(message, reply, before, after)
             }
             _ => {}
         }

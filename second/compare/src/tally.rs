@@ -14,7 +14,8 @@ use second::call::Call;
 use second::grammar::{is_andx, SERVED};
 use second::refusals::WireRefusal;
 use second::status::{Status, StatusForm};
-use second::words::Words;
+use second::tables::Tables;
+use second::words::{unpack, Words};
 use std::collections::BTreeMap;
 
 /// Fewest times for a refusal of a given command.
@@ -44,6 +45,21 @@ pub struct Tally {
     core: CoreCommands,
     opening: Opening,
     changes: Changes,
+}
+
+/// The tables before and after a call that was done.
+pub struct Around {
+    pub before: Tables,
+    pub after: Tables,
+}
+
+impl Around {
+    fn new(before: &Words, after: &Words) -> Option<Around> {
+        Some(Around {
+            before: unpack(before)?,
+            after: unpack(after)?,
+        })
+    }
 }
 
 /// Every call's numbers, from "What a call returns".
@@ -156,10 +172,18 @@ impl Tally {
             _ => &[],
         };
         if let Some(call) = trial.call() {
-            self.processes.count(call, given, reply, before, after);
-            self.core.count(call, given, reply, before);
-            self.opening.count(call, given, reply, before, after);
-            self.changes.count(call, given, reply, before, after);
+            let around = match given.number {
+                0 => Around::new(before, after),
+                _ => None,
+            };
+            if let Some(around) = &around {
+                self.processes.count(call, reply, around);
+                self.core.count(call, reply, &around.before);
+            }
+            let around = around.as_ref();
+            self.opening.count(call, given, reply, before, around);
+            self.changes
+                .count(call, given, reply, (before, after), around);
         }
         if let Some(Call::TakeMessage { message, .. }) = trial.call() {
             self.holders.count(message, given, reply, after);

@@ -3,7 +3,7 @@
 use super::{open_of, Changes, Event};
 use crate::places::{open_word, opens_in_use};
 use second::tables::{Tables, LARGEST_CHANGE};
-use second::words::Words;
+use second::words::{unchanged, Words};
 use std::collections::BTreeSet;
 
 const REFUSED: [&str; 8] = [
@@ -113,15 +113,14 @@ impl Changes {
     }
 
     /// A FID that no open has.
-    pub(super) fn count_unknown(&mut self, fid: u32, tables: &Tables) {
+    pub(super) fn count_unknown(&mut self, fid: u32, words: &Words) {
         self.counts.met(match fid {
             0 => REFUSED[4],
             1..=64 => REFUSED[3],
             65..=0xFFFF => REFUSED[5],
             _ => REFUSED[6],
         });
-        let lower = open_of(tables, fid as u16).filter(|_| fid > 0xFFFF);
-        let cut = lower.is_some_and(|open| tables.unchanged(&open));
+        let cut = fid > 0xFFFF && unchanged(words, fid & 0xFFFF) == Ok(true);
         self.counts.met_if(cut, REFUSED[7]);
     }
 
