@@ -18,6 +18,8 @@
 
 #[path = "make_history/calls.rs"]
 mod calls;
+#[path = "make_history/changes.rs"]
+mod changes;
 #[path = "make_history/core_commands.rs"]
 mod core_commands;
 #[path = "make_history/day.rs"]
@@ -41,7 +43,7 @@ use std::process::ExitCode;
 
 /// Fewest calls, and most bytes of the two files.
 const LEAST_CALLS: usize = 600;
-const MOST_HISTORY: usize = 200_000;
+const MOST_HISTORY: usize = 262_144;
 const MOST_LINES: usize = 600_000;
 
 fn main() -> ExitCode {
@@ -84,6 +86,7 @@ fn made() -> Maker {
     processes::processes(&mut maker);
     core_commands::core_commands(&mut maker);
     opening::opening(&mut maker);
+    changes::changes(&mut maker);
     maker
 }
 

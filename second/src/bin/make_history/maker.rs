@@ -92,6 +92,9 @@ impl Maker {
         if (answer.number != 0 || refused) && !unchanged {
             self.complain("a refusal changed something", &call, &answer);
         }
+        if matches!(call, Call::Unchanged { .. }) && !unchanged {
+            self.complain("a question changed something", &call, &answer);
+        }
         self.tally
             .note(&call, &answer, &before.0, &after, unchanged);
         answer
@@ -153,6 +156,20 @@ impl Maker {
     pub fn set_catalogue(&mut self, words: &CatalogueWords, number: u8) {
         let catalogue = Box::new(*words);
         self.host(Call::SetCatalogue { catalogue }, number);
+    }
+
+    /// Asks whether the file of an open is unchanged, which must be answered so.
+    pub fn asked(&mut self, fid: u16, unchanged: bool) {
+        let call = Call::Unchanged { fid: fid.into() };
+        let answer = self.call(call.clone());
+        if (answer.number, answer.value) != (0, unchanged.into()) {
+            self.complain("another answer", &call, &answer);
+        }
+    }
+
+    /// Asks it of a FID that no open has.
+    pub fn unknown(&mut self, fid: u16) {
+        self.host(Call::Unchanged { fid: fid.into() }, 6);
     }
 
     /// Takes a message whose answer is not foretold.

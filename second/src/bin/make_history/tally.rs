@@ -1,5 +1,6 @@
 //! Counts what a history reaches, and tells what it must reach.
 
+mod change_tally;
 mod core_tally;
 mod open_tally;
 pub mod status_tally;
@@ -125,7 +126,7 @@ impl Tally {
                 let above = answer.number == 0 && above_65_535(*process);
                 self.count_if(above, "open of a process above 65,535");
             }
-            Call::LoadFile { .. } => self.count(format!("load a file: {}", answer.number)),
+            Call::LoadFile { contents, .. } => self.note_load(contents.is_empty(), answer),
             Call::DropConnection { connection } => {
                 let mut sessions = before.sessions.in_use().iter();
                 let known = sessions.any(|session| session.connection == *connection);
@@ -133,9 +134,7 @@ impl Tally {
                 self.count(format!("drop {which} connection: {}", answer.number));
             }
             Call::SetCatalogue { catalogue } => self.note_catalogue(catalogue[0], answer.number),
-            Call::Unchanged { .. } => {
-                self.count(format!("asked: {}, {}", answer.number, answer.value))
-            }
+            Call::Unchanged { fid } => self.note_question(*fid, answer, before),
             Call::TakeMessage { message, .. } => {
                 self.note_message(message, answer, before, after, unchanged)
             }
@@ -179,6 +178,7 @@ impl Tally {
                 self.note_process(message, &blocks[0], answer, before, after);
                 self.note_core(message, &blocks, &answer.reply, before);
                 self.note_opening(message, &blocks, &answer.reply, before);
+                self.note_changes(message, &blocks, &answer.reply, (before, after));
             }
         }
     }
@@ -472,6 +472,7 @@ pub fn required() -> Vec<(String, usize)> {
     all.extend(processes());
     all.extend(core_tally::required());
     all.extend(open_tally::required());
+    all.extend(change_tally::required());
     all.extend(status_tally::required());
     all
 }
