@@ -9,6 +9,9 @@
  * request alone decides it and nothing is to be set. Refusals are named here by class and code, whatever the form: 1/33 is
  * C0000055 of a lock and C0000054 of a read or write. docs/HOST.md has the list, and what a host must say in NEGOTIATE.
  *
+ * Each file has a change number, and each open remembers its file's at its last granted READ_ANDX or core READ, which so writes
+ * two words of the tables. By them gateway_unchanged says whether the file is to be read again.
+ *
  * The host owns all memory. The tables are one struct of 64-bit words that the host keeps between calls, as it does the
  * file memory; the library keeps nothing. Start with gateway_empty. Calls on the same tables or the same file memory must
  * not run at the same time.
@@ -37,7 +40,7 @@ extern "C" {
 #define GATEWAY_WRONG_ROOM 2    /* reply room under GATEWAY_ROOM bytes, or file memory not GATEWAY_MEMORY bytes */
 #define GATEWAY_NOT_SOUND 4     /* tables not sound, or a word that does not fit its field */
 #define GATEWAY_FULL 5          /* table full */
-#define GATEWAY_NO_SUCH 6       /* no such session, or no such tree of that session */
+#define GATEWAY_NO_SUCH 6       /* no such session, or no such tree of that session, or no such open */
 #define GATEWAY_OUT_OF_RANGE 7  /* file above 15, access above 2, right above 1, load over 4,096 bytes, or a catalogue of
                                    over 16 names, or with a name of another length than 1 to 12, with a zero byte, or twice */
 #define GATEWAY_EXCEEDS_RIGHT 8 /* the open would exceed its tree's right */
@@ -55,9 +58,10 @@ extern "C" {
 #define GATEWAY_MEMORY 65536    /* bytes of file memory: file n stands at n * GATEWAY_FILE_SIZE */
 #define GATEWAY_ROOM 12292      /* bytes of reply room that a message needs at least */
 #define GATEWAY_NAME_BYTES 12   /* bytes that a name of the catalogue has at most */
-#define GATEWAY_WORDS 1461      /* 64-bit words in the tables */
+#define GATEWAY_WORDS 1605      /* 64-bit words in the tables */
 #define GATEWAY_CATALOGUE_WORDS 225 /* 64-bit words in a catalogue */
 #define GATEWAY_HOLDER_WORDS 6  /* 64-bit words in a holder */
+#define GATEWAY_LAST_CHANGE 4294967295u /* the largest change number, which is raised no more */
 
 /* The sharing codes of an open: what it denies to other opens of its file. */
 #define GATEWAY_DENY_BOTH 1
@@ -89,6 +93,8 @@ struct gateway_open {
     uint64_t access;  /* 0 read, 1 write, 2 both; fits up to 255 */
     uint64_t sharing; /* what an OPEN_ANDX asked for, one of the four codes above; GATEWAY_DENY_NONE of an open that the host
                          added; fits up to 255 */
+    uint64_t read;    /* 1 once a READ_ANDX or core READ through it was granted, 0 before; nothing else fits */
+    uint64_t seen;    /* its file's change number at the last one granted, never above the file's now; 0 before */
 };
 
 struct gateway_lock {
@@ -101,7 +107,9 @@ struct gateway_lock {
 };
 
 struct gateway_file {
-    uint64_t size; /* how many of the file's bytes in the file memory count, up to 4,096; those behind are never sent */
+    uint64_t size;    /* how many of the file's bytes in the file memory count, up to 4,096; those behind are never sent */
+    uint64_t changes; /* the change number: raised by each write of a byte or more, each core WRITE of count 0 that alters the
+                         size and each load; up to GATEWAY_LAST_CHANGE, where it stays */
 };
 
 /* A name by which OPEN_ANDX opens a file. Letters of ASCII are the same in both cases. */
@@ -148,24 +156,24 @@ struct gateway_holder {
 };
 
 #ifdef __cplusplus
-static_assert(sizeof(struct gateway_tables) == GATEWAY_WORDS * sizeof(uint64_t), "the tables are 1461 words");
+static_assert(sizeof(struct gateway_tables) == GATEWAY_WORDS * sizeof(uint64_t), "the tables are 1605 words");
 static_assert(sizeof(struct gateway_catalogue) == GATEWAY_CATALOGUE_WORDS * sizeof(uint64_t), "a catalogue is 225 words");
 static_assert(sizeof(struct gateway_holder) == GATEWAY_HOLDER_WORDS * sizeof(uint64_t), "the holder is 6 words");
 #else
-_Static_assert(sizeof(struct gateway_tables) == GATEWAY_WORDS * sizeof(uint64_t), "the tables are 1461 words");
+_Static_assert(sizeof(struct gateway_tables) == GATEWAY_WORDS * sizeof(uint64_t), "the tables are 1605 words");
 _Static_assert(sizeof(struct gateway_catalogue) == GATEWAY_CATALOGUE_WORDS * sizeof(uint64_t), "a catalogue is 225 words");
 _Static_assert(sizeof(struct gateway_holder) == GATEWAY_HOLDER_WORDS * sizeof(uint64_t), "the holder is 6 words");
 #endif
 
-/* Writes tables with no record in use, every file empty and no name in the catalogue. */
+/* Writes tables with no record in use, every file empty and at change number 0, and no name in the catalogue. */
 void gateway_empty(struct gateway_tables *tables);
 
 /* Adds a session on a connection. On GATEWAY_DONE its UID, the smallest from 1 not in use, is in *uid. */
 uint8_t gateway_add_session(struct gateway_tables *tables, uint32_t connection, uint16_t *uid);
 
 /*
- * The numbers that name a session, a tree or a file, rights and accesses are handed over in 32 bits and are never cut: a
- * right of 256 is GATEWAY_OUT_OF_RANGE and not 0, a UID of 65,537 is GATEWAY_NO_SUCH and not 1.
+ * The numbers that name a session, a tree, an open or a file, rights and accesses are handed over in 32 bits and are never cut: a
+ * right of 256 is GATEWAY_OUT_OF_RANGE and not 0, a UID or FID of 65,537 is GATEWAY_NO_SUCH and not 1.
  */
 
 /* Adds a tree to the session of that UID. On GATEWAY_DONE its TID is in *tid. */
@@ -181,7 +189,8 @@ uint8_t gateway_add_open(struct gateway_tables *tables, uint32_t uid, uint32_t t
 
 /*
  * Sets a file that has no open to these contents: its size to contents_length, at most 4,096, and its bytes in the file
- * memory to the contents and zeros behind them. memory_length must be GATEWAY_MEMORY.
+ * memory to the contents and zeros behind them. Its change number is raised, also where nothing differs. memory_length must be
+ * GATEWAY_MEMORY.
  */
 uint8_t gateway_load_file(struct gateway_tables *tables, uint32_t file, const uint8_t *contents,
                           size_t contents_length, uint8_t *memory, size_t memory_length);
@@ -199,6 +208,19 @@ uint8_t gateway_drop_connection(struct gateway_tables *tables, uint32_t connecti
  * that stand are not looked at.
  */
 uint8_t gateway_set_catalogue(struct gateway_tables *tables, const struct gateway_catalogue *catalogue);
+
+/*
+ * Whether the file of the open of that FID is as it was at the open's last granted read. On GATEWAY_DONE *unchanged is 1 for
+ * "unchanged" and 0 for "changed". GATEWAY_NOT_SOUND and then GATEWAY_NO_SUCH, no open of that FID, leave it as it was: set it to 0
+ * before. The tables are only read.
+ *
+ * "Unchanged": size and bytes are what they were at that read, if one file memory was lent to every call since and the host wrote
+ * neither to it nor to the tables. "Changed": the open has not read, or the file was written, resized or loaded after its last
+ * read (by the same open, or with the same bytes, too), or its change number is at GATEWAY_LAST_CHANGE, and then for good.
+ *
+ * Any open is answered for, whosever it is: a host that is asked by a terminal looks whether the open is that terminal's.
+ */
+uint8_t gateway_unchanged(const struct gateway_tables *tables, uint32_t fid, uint16_t *unchanged);
 
 /*
  * Carries out one request message of a connection. On GATEWAY_DONE the reply is the first *reply_length bytes of the
