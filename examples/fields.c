@@ -1,7 +1,8 @@
 /*
  * Reads every field of the tables, of a holder, of a reader's state and of its step by its name in gateway.h. The calls below
  * give a field of some record a value that no other field of the record has, and each count another, so a field that the
- * header has in another place than the library is read with a wrong value.
+ * header has in another place than the library is read with a wrong value. Then it asks whether files have changed, by change
+ * numbers that it writes itself.
  *
  * Exit status: 0 if every field is as given and stands at its word; 1 if not, with each that is not; 2 if a call was
  * refused.
@@ -14,6 +15,8 @@
 
 #define MESSAGE 71 /* bytes of a LOCKING message with one range of 20 bytes */
 #define OPENING 69 /* bytes of an OPEN_ANDX message with a name of 3 bytes */
+#define READING 55 /* bytes of a READ_ANDX message */
+#define LOADS 31   /* how often file 5 is loaded: its change number */
 
 static struct gateway_tables tables;
 static uint8_t memory[GATEWAY_MEMORY];
@@ -36,12 +39,20 @@ static const struct gateway_tables expected = {
               {.tid = 4, .uid = 3, .right = 1}},
     .open_count = 3,
     .opens = {{.fid = 1, .uid = 3, .tid = 4, .process = 65541, .file = 9, .access = 2, .sharing = GATEWAY_DENY_NONE},
-              {.fid = 2, .uid = 3, .tid = 4, .process = 7, .file = 5, .access = 1, .sharing = GATEWAY_DENY_NONE},
+              {.fid = 2,
+               .uid = 3,
+               .tid = 4,
+               .process = 7,
+               .file = 5,
+               .access = 0,
+               .sharing = GATEWAY_DENY_NONE,
+               .read = 1,
+               .seen = LOADS},
               {.fid = 3, .uid = 3, .tid = 4, .process = 8, .file = 6, .access = 0, .sharing = GATEWAY_DENY_BOTH}},
     .lock_count = 2,
     .locks = {{.fid = 1, .process = 200929, .offset = 10, .length = 20, .shared = 0},
               {.fid = 2, .process = 1234, .offset = 4294967301, .length = 8589934598, .shared = 1}},
-    .files = {[3] = {.size = 300}, [9] = {.size = 77}},
+    .files = {[3] = {.size = 300, .changes = 1}, [5] = {.size = 55, .changes = LOADS}, [9] = {.size = 77, .changes = 1}},
     .catalogue = {.count = 6,
                   .names = {{.length = 12, .text = {65, 66, 67, 68, 69, 70, 71, 72, 73, 74, 75, 76}, .file = 13},
                             {.length = 3, .text = {120, 46, 121}, .file = 6},
@@ -161,10 +172,27 @@ static void open_by_name(uint16_t process, uint64_t number)
     require_number((uint16_t)(room[37] | room[38] << 8), number, "OPEN_ANDX");
 }
 
+/* Reads 10 bytes with READ_ANDX, for UID 3 and TID 4 on connection 70003. */
+static void read_file(uint16_t fid)
+{
+    uint8_t message[READING] = {0xFF, 0x53, 0x4D, 0x42, 0x2E, [32] = 10, 0xFF};
+    size_t reply_length = 0;
+    put(message, 24, 2, 4); /* TID */
+    put(message, 28, 2, 3); /* UID */
+    put(message, 37, 2, fid);
+    put(message, 43, 2, 10); /* max */
+    require_done(gateway_take_message(&tables, 70003, message, sizeof message, memory, sizeof memory, room, sizeof room,
+                                      &reply_length, &holder),
+                 "gateway_take_message");
+    require_status(0, 0);
+}
+
 static void fill(void)
 {
     gateway_empty(&tables);
     load(3, 300);
+    for (size_t place = 0; place < LOADS; place++)
+        load(5, 55);
     load(9, 77);
     require_done(gateway_set_catalogue(&tables, &expected.catalogue), "gateway_set_catalogue");
     add_session(70001, 1);
@@ -177,8 +205,9 @@ static void fill(void)
     add_tree(2, 1, 3);
     add_tree(3, 1, 4);
     add_open(65541, 9, 2, 1);
-    add_open(7, 5, 1, 2);
+    add_open(7, 5, 0, 2);
     open_by_name(8, 3);
+    read_file(2);
     lock(1, 0x00, 200929, 10, 20);
     lock(2, 0x01, 1234, 4294967301, 8589934598);
 }
@@ -219,6 +248,8 @@ static void read_records(void)
         FIELD(opens, place, file);
         FIELD(opens, place, access);
         FIELD(opens, place, sharing);
+        FIELD(opens, place, read);
+        FIELD(opens, place, seen);
     }
     for (size_t place = 0; place < GATEWAY_LOCKS; place++) {
         FIELD(locks, place, fid);
@@ -227,8 +258,10 @@ static void read_records(void)
         FIELD(locks, place, length);
         FIELD(locks, place, shared);
     }
-    for (size_t place = 0; place < GATEWAY_FILES; place++)
+    for (size_t place = 0; place < GATEWAY_FILES; place++) {
         FIELD(files, place, size);
+        FIELD(files, place, changes);
+    }
     COUNT(catalogue.count);
     for (size_t place = 0; place < GATEWAY_NAMES; place++) {
         FIELD(catalogue.names, place, length);
@@ -262,25 +295,80 @@ static void read_words(void)
     WORD(opens[0].file, 135);
     WORD(opens[0].access, 136);
     WORD(opens[0].sharing, 137);
-    WORD(opens[1].fid, 138);
-    WORD(opens[63].sharing, 578);
-    WORD(lock_count, 579);
-    WORD(locks[0].fid, 580);
-    WORD(locks[0].process, 581);
-    WORD(locks[0].offset, 582);
-    WORD(locks[0].length, 583);
-    WORD(locks[0].shared, 584);
-    WORD(locks[1].fid, 585);
-    WORD(locks[127].shared, 1219);
-    WORD(files[0].size, 1220);
-    WORD(files[15].size, 1235);
-    WORD(catalogue.count, 1236);
-    WORD(catalogue.names[0].length, 1237);
-    WORD(catalogue.names[0].text[0], 1238);
-    WORD(catalogue.names[0].text[11], 1249);
-    WORD(catalogue.names[0].file, 1250);
-    WORD(catalogue.names[1].length, 1251);
-    WORD(catalogue.names[15].file, 1460);
+    WORD(opens[0].read, 138);
+    WORD(opens[0].seen, 139);
+    WORD(opens[1].fid, 140);
+    WORD(opens[63].seen, 706);
+    WORD(lock_count, 707);
+    WORD(locks[0].fid, 708);
+    WORD(locks[0].process, 709);
+    WORD(locks[0].offset, 710);
+    WORD(locks[0].length, 711);
+    WORD(locks[0].shared, 712);
+    WORD(locks[1].fid, 713);
+    WORD(locks[127].shared, 1347);
+    WORD(files[0].size, 1348);
+    WORD(files[0].changes, 1349);
+    WORD(files[1].size, 1350);
+    WORD(files[15].changes, 1379);
+    WORD(catalogue.count, 1380);
+    WORD(catalogue.names[0].length, 1381);
+    WORD(catalogue.names[0].text[0], 1382);
+    WORD(catalogue.names[0].text[11], 1393);
+    WORD(catalogue.names[0].file, 1394);
+    WORD(catalogue.names[1].length, 1395);
+    WORD(catalogue.names[15].file, 1604);
+}
+
+/*
+ * Asks whether the file of an open has changed. A refusal leaves the answer as it was before, 7; no question changes the tables.
+ */
+static void ask(size_t place, uint32_t fid, uint8_t number, uint16_t answer)
+{
+    struct gateway_tables before = tables;
+    uint16_t unchanged = 7;
+    same("number", place, gateway_unchanged(&tables, fid, &unchanged), number);
+    same("unchanged", place, unchanged, answer);
+    same("the tables", place, memcmp(&tables, &before, sizeof tables) != 0, 0);
+}
+
+/* The same with change numbers of FID 2, which has read, and of its file. */
+static void ask_at(size_t place, uint64_t read, uint64_t seen, uint64_t changes, uint8_t number, uint16_t answer)
+{
+    struct gateway_tables before = tables;
+    tables.opens[1].read = read;
+    tables.opens[1].seen = seen;
+    tables.files[5].changes = changes;
+    ask(place, 2, number, answer);
+    tables = before;
+}
+
+static void read_unchanged(void)
+{
+    const uint64_t last = GATEWAY_LAST_CHANGE;
+    ask(0, 2, GATEWAY_DONE, 1);
+    ask(1, 1, GATEWAY_DONE, 0); /* has not read */
+    ask(2, 4, GATEWAY_NO_SUCH, 7);
+    ask(3, 65536 + 2, GATEWAY_NO_SUCH, 7);
+    ask_at(4, 1, LOADS, LOADS + 1, GATEWAY_DONE, 0);
+    ask_at(5, 0, LOADS, LOADS, GATEWAY_DONE, 0);
+    ask_at(6, 1, last - 1, last - 1, GATEWAY_DONE, 1);
+    ask_at(7, 1, last - 1, last, GATEWAY_DONE, 0);
+    ask_at(8, 1, last, last, GATEWAY_DONE, 0);
+    ask_at(9, 1, LOADS + 1, LOADS, GATEWAY_NOT_SOUND, 7);
+    ask_at(10, 1, last, last + 1, GATEWAY_NOT_SOUND, 7);
+    ask_at(11, 2, LOADS, LOADS, GATEWAY_NOT_SOUND, 7);
+}
+
+/* A change number below the largest is raised to it, and one that is there stays: the load is done all the same. */
+static void read_last_change(void)
+{
+    tables.files[3].changes = GATEWAY_LAST_CHANGE - 1;
+    for (size_t place = 0; place < 2; place++) {
+        load(3, 200 + place);
+        same("size at the last change", place, tables.files[3].size, 200 + place);
+        same("the last change", place, tables.files[3].changes, 4294967295);
+    }
 }
 
 /* Catalogues that break a rule are refused, and the old one stands. */
@@ -457,6 +545,8 @@ int main(void)
     fill();
     read_records();
     read_words();
+    read_unchanged();
+    read_last_change();
     read_catalogue_refused();
     read_holder();
     read_holder_refused();

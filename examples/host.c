@@ -2,7 +2,7 @@
  * An example host: it serves two files, the revocation list and the office's certificate, to two terminals and a test bench. All
  * three have the list open; the catalogue has names for both files, by which they open them with OPEN_ANDX.
  *
- *     host [--show] [--pieces SIZE] [--list LIST] [CONNECTION=STREAM ..] > replies
+ *     host [--show] [--pieces SIZE] [--list LIST] [CONNECTION[:FID]=STREAM ..] > replies
  *
  * A stream is the bytes of a terminal's TCP connection: messages, each behind the four-byte session header of RFC 1002.
  * Terminal 1 is connection 5, terminal 2 is connection 6 and the bench is connection 7. The files are read one after the
@@ -10,6 +10,10 @@
  * connection 5's stream. Replies go to standard output in the same framing, in the order of their messages. A message that is
  * dropped has no reply. With --show a person can read what came of each message, whose lock is in the way of one that is
  * refused for a lock, and with an OPEN_ANDX which opens and which names there are.
+ *
+ * With CONNECTION:FID=STREAM the terminal first asks whether the file of its open has changed since it read it, and sends the
+ * stream only if it has: a READ that it can do without is left out. With --show the answer is printed. How a question comes to a
+ * host, and its answer back, is the host's matter and left out here.
  *
  * SIZE is how many bytes are read at a time at most, 1 to 4,096. LIST is a file of at most 4,096 bytes to serve; without it a
  * built-in list is served.
@@ -225,6 +229,23 @@ static void take_message(struct host *host, uint32_t connection, const uint8_t *
         write_reply(host, reply_length);
 }
 
+/*
+ * A terminal asks whether to read the file of an open again: true if it has changed. The library answers for any open; this host
+ * answers a terminal for its own only, as if there were no others.
+ */
+static bool ask_changed(struct host *host, uint32_t connection, uint32_t fid)
+{
+    uint16_t unchanged = 0;
+    uint8_t number = gateway_unchanged(&host->tables, fid, &unchanged);
+    if (number == GATEWAY_DONE && connection_of(&host->tables, fid) != connection)
+        number = GATEWAY_NO_SUCH;
+    if (number != GATEWAY_NO_SUCH)
+        require_done(number, "gateway_unchanged");
+    if (host->show)
+        show_asked(connection, fid, number, unchanged, &host->tables);
+    return number == GATEWAY_DONE && unchanged == 0;
+}
+
 /* A header that the reader does not take: nothing behind it can be told apart, so a host hangs up. */
 static void stopped(struct host *host, const struct line *line, uint8_t number)
 {
@@ -273,13 +294,17 @@ static void serve(struct host *host, struct line *line, int stream)
     } while (length > 0 && feed(host, line, host->piece, (size_t)length));
 }
 
-/* CONNECTION=STREAM */
+/* CONNECTION=STREAM, or CONNECTION:FID=STREAM for what is sent only if the file of that open has changed. */
 static void serve_file(struct host *host, const char *word)
 {
     const char *path = strchr(word, '=');
+    char *end;
+    unsigned long connection = strtoul(word, &end, 10);
     for (size_t place = 0; path != NULL && place < TERMINALS; place++) {
-        if (strtoul(word, NULL, 10) != terminals[place].connection)
+        if (connection != terminals[place].connection)
             continue;
+        if (*end == ':' && !ask_changed(host, terminals[place].connection, (uint32_t)strtoul(end + 1, NULL, 10)))
+            return;
         int stream = open(path + 1, O_RDONLY);
         if (stream < 0)
             stop("a stream cannot be opened");
@@ -309,7 +334,7 @@ static void end_lines(struct host *host)
 static const char *value(int count, char **words, int place)
 {
     if (place + 1 >= count)
-        stop("usage: host [--show] [--pieces SIZE] [--list LIST] [CONNECTION=STREAM ..]");
+        stop("usage: host [--show] [--pieces SIZE] [--list LIST] [CONNECTION[:FID]=STREAM ..]");
     return words[place + 1];
 }
 

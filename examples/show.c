@@ -89,7 +89,7 @@ const char *number_in_words(uint8_t number)
     case GATEWAY_FULL:
         return "table full";
     case GATEWAY_NO_SUCH:
-        return "no such session or tree";
+        return "no such session, tree or open";
     case GATEWAY_OUT_OF_RANGE:
         return "number out of range";
     case GATEWAY_EXCEEDS_RIGHT:
@@ -274,8 +274,8 @@ static void show_blocks(const uint8_t *reply, size_t length)
     }
 }
 
-/* The connection of the open of that FID. A holder's open stands in the tables that its call left, and so does its session. */
-static uint64_t connection_of(const struct gateway_tables *tables, uint64_t fid)
+/* A holder's open stands in the tables that its call left, and so does its session. */
+uint64_t connection_of(const struct gateway_tables *tables, uint64_t fid)
 {
     uint64_t uid = 0, connection = 0;
     for (size_t place = 0; place < tables->open_count; place++)
@@ -353,6 +353,31 @@ static void show_catalogue(const struct gateway_catalogue *catalogue)
 void show_message(unsigned long place, uint32_t connection, size_t length)
 {
     printf("message %lu on connection %" PRIu32 ": %zu bytes\n", place, connection, length);
+}
+
+/* What an open has read, and where its file is now. */
+static void show_changes(const struct gateway_tables *tables, uint32_t fid)
+{
+    for (size_t place = 0; place < tables->open_count; place++) {
+        const struct gateway_open *open = &tables->opens[place];
+        if (open->fid != fid)
+            continue;
+        printf("file %" PRIu64 " is at change number %" PRIu64 ", ", open->file, tables->files[open->file].changes);
+        if (open->read == 0)
+            printf("which FID %" PRIu64 " has not read\n", open->fid);
+        else
+            printf("FID %" PRIu64 " read it at %" PRIu64 "\n", open->fid, open->seen);
+    }
+}
+
+void show_asked(uint32_t connection, uint32_t fid, uint8_t number, uint16_t unchanged, const struct gateway_tables *tables)
+{
+    printf("question on connection %" PRIu32 ": has the file of FID %" PRIu32 " changed?\n", connection, fid);
+    printf("  returned %u: %s\n", (unsigned)number, number_in_words(number));
+    if (number != GATEWAY_DONE)
+        return;
+    printf("  %s: ", unchanged == 1 ? "unchanged" : "changed");
+    show_changes(tables, fid);
 }
 
 void show_taken(uint8_t number, const uint8_t *reply, size_t length, const struct gateway_holder *holder,
