@@ -1,6 +1,7 @@
 //! Measures the gateway library beside the second program, in one run: what a
-//! message costs, in both forms of its Status, how the cost grows with a chain,
-//! what the stream adds, and how much stack a call uses. Prints tables in Markdown.
+//! message costs, in both forms of its Status, what the question costs whether a
+//! file has changed, how the cost grows with a chain, what the stream adds, and how
+//! much stack a call uses. Prints tables in Markdown.
 
 mod clock;
 mod measure;
@@ -9,7 +10,7 @@ mod scene;
 mod stack;
 mod stream;
 
-use measure::{by_library, cost, costs};
+use measure::{by_library, cost, costs, question_cost};
 use requests::Request;
 use scene::Scene;
 use second::catalogue::NAMES;
@@ -37,6 +38,7 @@ fn main() {
     let scenes = scene::all();
     message_table(&scenes, rounds);
     status_table(&scenes, rounds);
+    question_table(&scenes, rounds);
     chain_table(&scenes, rounds);
     stream::table(&scenes[0], rounds);
     stack_table(&scenes);
@@ -102,6 +104,30 @@ fn status_table(scenes: &[Scene], rounds: usize) {
                 nt.1 / plain.1
             );
         }
+    }
+    println!();
+}
+
+/// What the question costs whether a file has changed, beside the READ that it
+/// saves, in the same rounds.
+fn question_table(scenes: &[Scene], rounds: usize) {
+    println!("Nanoseconds for gateway_unchanged, of an open that has read: (a), (b) and (c) as above, and a READ of 64 bytes by the library.");
+    println!();
+    println!("| tables | a | b | c | a/b | a/c | READ | a / READ |");
+    println!("|---|--:|--:|--:|--:|--:|--:|--:|");
+    for scene in scenes {
+        let cost = question_cost(scene, &requests::short_read(scene), rounds);
+        println!(
+            "| {} | {:.0} | {:.0} | {:.0} | {:.2} | {:.2} | {:.0} | {:.2} |",
+            scene.name,
+            cost.library,
+            cost.words,
+            cost.own,
+            cost.library / cost.words,
+            cost.library / cost.own,
+            cost.read,
+            cost.library / cost.read
+        );
     }
     println!();
 }
@@ -200,6 +226,7 @@ fn host_calls(scenes: &[Scene], stack: &mut Stack) -> Vec<(&'static str, usize)>
         ("gateway_add_open", 0),
         ("gateway_load_file", 0),
         ("gateway_set_catalogue", 0),
+        ("gateway_unchanged", 0),
         ("gateway_drop_connection", 0),
     ];
     for scene in scenes {
@@ -240,6 +267,7 @@ fn host_call_stack(scene: &Scene, which: usize, stack: &mut Stack) -> usize {
                     memory.len(),
                 ),
                 5 => linked::gateway_set_catalogue(tables, catalogue.as_ptr()),
+                6 => linked::gateway_unchanged(tables, asker.fid.into(), out),
                 _ => linked::gateway_drop_connection(tables, connection),
             }
         };

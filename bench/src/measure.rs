@@ -15,9 +15,10 @@ use crate::clock::thread_time;
 use crate::requests::Request;
 use crate::scene::Scene;
 use linked as gateway;
+use second::host;
 use second::message::{take_message, ROOM_BYTES};
 use second::status::{class_and_code, StatusForm};
-use second::words::{self, HolderWords, Words, HOLDER_WORDS};
+use second::words::{self, unpack, HolderWords, Words, HOLDER_WORDS};
 use std::hint::black_box;
 
 /// Least time of a batch, in nanoseconds.
@@ -31,6 +32,19 @@ pub struct Cost {
     pub words: f64,
     /// The second program over its own tables.
     pub own: f64,
+}
+
+/// Nanoseconds for a question whether a file has changed, which leaves the tables
+/// as they are.
+pub struct QuestionCost {
+    /// The library.
+    pub library: f64,
+    /// The second program over the same words.
+    pub words: f64,
+    /// The second program over its own tables.
+    pub own: f64,
+    /// The READ that it saves, by the library.
+    pub read: f64,
 }
 
 /// Something that is done so many times.
@@ -150,6 +164,27 @@ fn own_restored(scene: &Scene) -> impl FnMut(usize) {
     }
 }
 
+/// The library's number, and its answer whether the file of an open is unchanged.
+fn asked_of_library(words: &Words, fid: u32) -> (u8, bool) {
+    let mut unchanged = 0;
+    // SAFETY: the tables are only read, and the place of the answer is apart.
+    let number = unsafe { gateway::gateway_unchanged(words.as_ptr(), fid, &mut unchanged) };
+    (number, unchanged == 1)
+}
+
+/// So many questions to a program over its tables.
+fn questions<'a, T, A: 'a>(
+    tables: &'a T,
+    fid: u32,
+    ask: fn(&T, u32) -> A,
+) -> impl FnMut(usize) + 'a {
+    move |calls| {
+        for _ in 0..calls {
+            black_box(ask(black_box(tables), black_box(fid)));
+        }
+    }
+}
+
 fn time(batch: &mut dyn FnMut(usize), calls: usize) -> u64 {
     let start = thread_time();
     batch(calls);
@@ -227,6 +262,38 @@ pub fn cost(scene: &Scene, request: &Request, rounds: usize) -> Cost {
         library: times[0] - times[3],
         words: times[1] - times[3],
         own: times[2] - times[4],
+    }
+}
+
+/// The question of an open that has just read, so that its number is looked at and
+/// the answer is "unchanged".
+pub fn question_cost(scene: &Scene, read: &Request, rounds: usize) -> QuestionCost {
+    check(scene, read);
+    let (connection, fid) = (scene.asker.connection, scene.asker.fid.into());
+    let (mut words, mut lent) = (scene.words, Lent::new(scene));
+    let Lent {
+        memory,
+        room,
+        holder,
+    } = &mut lent;
+    by_library(&mut words, connection, &read.bytes, memory, room, holder);
+    let tables = unpack(&words).unwrap();
+    assert_eq!(asked_of_library(&words, fid), (0, true));
+    assert_eq!(words::unchanged(&words, fid), Ok(true));
+    assert_eq!(host::unchanged(&tables, fid), Ok(true));
+    let batches: Vec<Batch> = vec![
+        Box::new(questions(&words, fid, asked_of_library)),
+        Box::new(questions(&words, fid, words::unchanged)),
+        Box::new(questions(&tables, fid, host::unchanged)),
+        Box::new(words_calls(scene, &read.bytes, by_library)),
+        Box::new(words_restored(scene)),
+    ];
+    let times = in_turns(rounds, batches);
+    QuestionCost {
+        library: times[0],
+        words: times[1],
+        own: times[2],
+        read: times[3] - times[4],
     }
 }
 

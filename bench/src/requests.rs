@@ -180,17 +180,21 @@ fn barred_read(scene: &Scene) -> Option<Request> {
     })
 }
 
+/// A READ of 64 bytes alone.
+pub fn short_read(scene: &Scene) -> Request {
+    Request::new("READ, 64 bytes", scene, &[read(scene)])
+}
+
 /// What is measured in both forms of Status (document 02, request 7): a READ
 /// and, where it is one, a refused lock. Each without the bit of Flags2, then with
 /// it.
 pub fn in_both_forms(scene: &Scene) -> Vec<[Request; 2]> {
-    let read = Request::new("READ, 64 bytes", scene, &[read(scene)]);
     let both = |request: Request| {
         let mut asked = request.clone();
         set_status_form(&mut asked.bytes, StatusForm::Nt);
         [request, asked]
     };
-    let requests = [Some(read), barred_lock(scene)];
+    let requests = [Some(short_read(scene)), barred_lock(scene)];
     requests.into_iter().flatten().map(both).collect()
 }
 
@@ -244,13 +248,13 @@ fn core_unlock(scene: &Scene) -> Option<Request> {
 }
 
 pub fn all(scene: &Scene) -> Vec<Request> {
-    let (lock, read, write) = (lock(scene), read(scene), write(scene, 64));
+    let (lock, write) = (lock(scene), write(scene, 64));
     let (core_read, core_write) = core(scene);
     let made = |name: &str, asks: &[Ask]| Request::new(name, scene, asks);
     let [open, open_and_read] = opens(scene);
     vec![
         made("LOCKING", std::slice::from_ref(&lock)),
-        made("READ, 64 bytes", std::slice::from_ref(&read)),
+        short_read(scene),
         made("core READ, 64 bytes", std::slice::from_ref(&core_read)),
         made("WRITE, 64 bytes", &[write]),
         made("core WRITE, 64 bytes", &[core_write]),
@@ -258,7 +262,7 @@ pub fn all(scene: &Scene) -> Vec<Request> {
         made("LOGOFF", &[Ask::Logoff]),
         made("TREE_DISCONNECT", &[Ask::TreeDisconnect]),
         made("PROCESS_EXIT", &[Ask::ProcessExit]),
-        made("LOCKING + READ", &[lock.clone(), read]),
+        made("LOCKING + READ", &[lock.clone(), read(scene)]),
         made("LOCKING + core READ", &[lock, core_read]),
         open,
         open_and_read,
