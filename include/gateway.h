@@ -94,7 +94,7 @@ struct gateway_open {
     uint64_t sharing; /* what an OPEN_ANDX asked for, one of the four codes above; GATEWAY_DENY_NONE of an open that the host
                          added; fits up to 255 */
     uint64_t read;    /* 1 once a READ_ANDX or core READ through it was granted, 0 before; nothing else fits */
-    uint64_t seen;    /* its file's change number at the last one granted, never above the file's now; 0 before */
+    uint64_t seen;    /* its file's change number at the last one granted, never above the file's now; 0 in a new open */
 };
 
 struct gateway_lock {
@@ -210,9 +210,9 @@ uint8_t gateway_drop_connection(struct gateway_tables *tables, uint32_t connecti
 uint8_t gateway_set_catalogue(struct gateway_tables *tables, const struct gateway_catalogue *catalogue);
 
 /*
- * Whether the file of the open of that FID is as it was at the open's last granted read. On GATEWAY_DONE *unchanged is 1 for
- * "unchanged" and 0 for "changed". GATEWAY_NOT_SOUND and then GATEWAY_NO_SUCH, no open of that FID, leave it as it was: set it to 0
- * before. The tables are only read.
+ * Whether the open of that FID has read and its file was not changed since, as far as the change numbers tell. On GATEWAY_DONE
+ * *unchanged is 1 for "unchanged" and 0 for "changed". GATEWAY_NOT_SOUND and then GATEWAY_NO_SUCH, no open of that FID, leave it as
+ * it was: set it to 0 before. The tables are only read.
  *
  * "Unchanged": size and bytes are what they were at that read, if one file memory was lent to every call since and the host wrote
  * neither to it nor to the tables. "Changed": the open has not read, or the file was written, resized or loaded after its last

@@ -50,6 +50,10 @@ pub struct QuestionCost {
 /// Something that is done so many times.
 pub type Batch<'a> = Box<dyn FnMut(usize) + 'a>;
 
+/// Words at the start of a page, so that every copy of them costs the same.
+#[repr(align(4096))]
+struct Paged(Words);
+
 /// What a call is lent besides the tables.
 struct Lent {
     memory: Vec<u8>,
@@ -113,17 +117,19 @@ type Call = fn(&mut Words, u32, &[u8], &mut [u8], &mut [u8], &mut HolderWords) -
 
 /// So many calls over the words, which are restored before each.
 fn words_calls<'a>(scene: &'a Scene, message: &'a [u8], call: Call) -> impl FnMut(usize) + 'a {
-    let (mut words, mut lent) = (scene.words, Lent::new(scene));
+    let (start, mut words) = (Paged(scene.words), Paged(scene.words));
+    let mut lent = Lent::new(scene);
     move |calls| {
         for _ in 0..calls {
-            words.copy_from_slice(black_box(&scene.words));
+            words.0.copy_from_slice(black_box(&start.0));
             let (connection, message) = (scene.asker.connection, black_box(message));
             let Lent {
                 memory,
                 room,
                 holder,
             } = &mut lent;
-            black_box(call(&mut words, connection, message, memory, room, holder));
+            let words = &mut words.0;
+            black_box(call(words, connection, message, memory, room, holder));
         }
     }
 }
@@ -143,12 +149,12 @@ fn own_calls<'a>(scene: &'a Scene, message: &'a [u8]) -> impl FnMut(usize) + 'a 
 }
 
 /// So many times the words restored, and nothing else.
-fn words_restored(scene: &Scene) -> impl FnMut(usize) + '_ {
-    let mut words = scene.words;
+fn words_restored(scene: &Scene) -> impl FnMut(usize) {
+    let (start, mut words) = (Paged(scene.words), Paged(scene.words));
     move |calls| {
         for _ in 0..calls {
-            words.copy_from_slice(black_box(&scene.words));
-            black_box(&mut words);
+            words.0.copy_from_slice(black_box(&start.0));
+            black_box(&mut words.0);
         }
     }
 }
