@@ -227,22 +227,25 @@ pub fn in_turns(rounds: usize, batches: Vec<Batch>) -> Vec<f64> {
     times.collect()
 }
 
+/// One call: what it gives, and the words and what is lent behind it.
+fn called(scene: &Scene, message: &[u8], call: Call) -> ((u8, usize), Words, Lent) {
+    let (mut words, mut lent) = (scene.words, Lent::new(scene));
+    let Lent {
+        memory,
+        room,
+        holder,
+    } = &mut lent;
+    let connection = scene.asker.connection;
+    let given = call(&mut words, connection, message, memory, room, holder);
+    (given, words, lent)
+}
+
 /// The programs agree on the request, and its answer is the one that is to be
 /// measured.
 fn check(scene: &Scene, request: &Request) {
-    let (connection, message) = (scene.asker.connection, &request.bytes);
-    let called = |call: Call| {
-        let (mut words, mut lent) = (scene.words, Lent::new(scene));
-        let Lent {
-            memory,
-            room,
-            holder,
-        } = &mut lent;
-        let given = call(&mut words, connection, message, memory, room, holder);
-        (given, words, lent)
-    };
-    let (given, words, lent) = called(by_library);
-    let (own_given, own_words, own) = called(by_second);
+    let message = &request.bytes;
+    let (given, words, lent) = called(scene, message, by_library);
+    let (own_given, own_words, own) = called(scene, message, by_second);
     let same = given == own_given
         && (words, &lent.memory, &lent.room) == (own_words, &own.memory, &own.room)
         && lent.holder == own.holder;
@@ -275,14 +278,8 @@ pub fn cost(scene: &Scene, request: &Request, rounds: usize) -> Cost {
 /// the answer is "unchanged".
 pub fn question_cost(scene: &Scene, read: &Request, rounds: usize) -> QuestionCost {
     check(scene, read);
-    let (connection, fid) = (scene.asker.connection, scene.asker.fid.into());
-    let (mut words, mut lent) = (scene.words, Lent::new(scene));
-    let Lent {
-        memory,
-        room,
-        holder,
-    } = &mut lent;
-    by_library(&mut words, connection, &read.bytes, memory, room, holder);
+    let fid = scene.asker.fid.into();
+    let (_, words, _) = called(scene, &read.bytes, by_library);
     let tables = unpack(&words).unwrap();
     assert_eq!(asked_of_library(&words, fid), (0, true));
     assert_eq!(words::unchanged(&words, fid), Ok(true));
