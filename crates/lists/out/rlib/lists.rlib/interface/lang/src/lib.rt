@@ -1,1 +1,0 @@
-# [ derive ( Drop ) ] pub enum Found { At ( usize ) , Nothing , }
