@@ -19,5 +19,5 @@ pub fn lay(part: &[u8], room: &mut [u8])
     requires { length part.now ≤ length room.old }
     ensures { room.new ≡ put room.old 0 part.now }
 {
-    bytes::copy(part, room);
+    room[..part.len()].copy_from_slice(part);
 }
