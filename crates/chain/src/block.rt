@@ -1,7 +1,7 @@
 // A block of a chain, taken apart.
 
 // What a LOCKING block asks: its FID, its lock type, and how many ranges to unlock and to lock.
-#[derive(Drop)]
+#[derive(Clone, Copy)]
 pub struct LockingFields {
     pub fid: u16,
     pub kind: u8,
@@ -10,7 +10,7 @@ pub struct LockingFields {
 }
 
 // What a READ block asks.
-#[derive(Drop)]
+#[derive(Clone, Copy)]
 pub struct ReadFields {
     pub fid: u16,
     pub offset: u64,
@@ -19,7 +19,7 @@ pub struct ReadFields {
 
 // What a WRITE block asks: `count` bytes of the message, from place `from` on, go to the offset. A core WRITE of
 // count 0 sets the file's size to the offset.
-#[derive(Drop)]
+#[derive(Clone, Copy)]
 pub struct WriteFields {
     pub fid: u16,
     pub offset: u64,
@@ -29,7 +29,7 @@ pub struct WriteFields {
 
 // What a LOCK_BYTE_RANGE or UNLOCK_BYTE_RANGE block asks: one range, of the header's process. Its numbers are as wide as those of the
 // other blocks, so that the fields of all bodies lie in the same places: narrower ones cost every block of a chain some nanoseconds.
-#[derive(Drop)]
+#[derive(Clone, Copy)]
 pub struct RangeFields {
     pub fid: u16,
     pub offset: u64,
@@ -39,7 +39,7 @@ pub struct RangeFields {
 // What an OPEN block asks (document 02, CR 6): OpenMode, the whole word; the access and the sharing code of AccessMode, whose other bits
 // are ignored; and whether the reply is to tell of the file ("zero after the FID with the block's Flags bit 0 clear"). The name stays
 // in the message. The word is the first, where the other blocks have their FID.
-#[derive(Drop)]
+#[derive(Clone, Copy)]
 pub struct OpenFields {
     pub mode: u16,
     pub access: u8,
@@ -48,7 +48,7 @@ pub struct OpenFields {
 }
 
 // A block by its command. A core READ or WRITE has the fields of its AndX counterpart (document 02, CR 3).
-#[derive(Drop)]
+#[derive(Clone, Copy)]
 pub enum Body {
     Locking(LockingFields),
     Read(ReadFields),
@@ -65,14 +65,14 @@ pub enum Body {
 }
 
 // What follows a block: nothing, or a block with that command at that place.
-#[derive(Drop)]
+#[derive(Clone, Copy)]
 pub enum Next {
     End,
     Follow(u8, usize),
 }
 
 // A block: its command, its place from the header's start, its length, its fields and what follows.
-#[derive(Drop)]
+#[derive(Clone, Copy)]
 pub struct Block {
     pub command: u8,
     pub at: usize,
@@ -83,14 +83,14 @@ pub struct Block {
 
 // The answer for one block: "A block's reading either yields the block or ends the chain's reading at
 // once with 2/1." The definitions give it; the code judges a block first, and takes it apart after.
-#[derive(Drop)]
+#[derive(Clone, Copy)]
 pub enum Parsed {
     Whole(Block),
     Malformed,
 }
 
 // The same answer where a block is judged and not taken apart: what follows a block that stands there.
-#[derive(Drop)]
+#[derive(Clone, Copy)]
 pub enum Judged {
     Fits(Next),
     Malformed,

@@ -32,7 +32,7 @@ pub const OPEN: u8 = 0x2d;
 pub const NO_COMMAND: u8 = 0xff;
 
 // The requests served, as the grammar's table has them, and one case for every other command.
-#[derive(Drop)]
+#[derive(Clone, Copy)]
 pub enum ServedRequest {
     Locking,
     Read,

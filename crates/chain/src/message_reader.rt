@@ -9,7 +9,7 @@ ghost use Rattle.chain.specs.Judged.{judged};
 use crate::block::Judged;
 use crate::judge::judge_block;
 
-#[derive(Drop)]
+#[derive(Clone, Copy)]
 pub struct MessageReader<'a> {
     pub message: &'a [u8],
     pub at: usize,

@@ -20,7 +20,7 @@ pub const EXCEEDS_RIGHT: u8 = 8;
 pub const FILE_OPEN: u8 = 9;
 
 // The row, the number given out or the answer given (0 where none was), and the tables after the call.
-#[derive(Drop)]
+#[derive(Clone, Copy)]
 pub struct Returned {
     pub number: u8,
     pub id: u16,
@@ -28,7 +28,7 @@ pub struct Returned {
 }
 
 // The same of a call on the words: the tables after the call are in the words.
-#[derive(Drop)]
+#[derive(Clone, Copy)]
 pub struct Row {
     pub number: u8,
     pub id: u16,

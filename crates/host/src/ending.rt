@@ -13,7 +13,7 @@ use removal::sweep::remove_named;
 use soundness::whole::is_sound;
 
 // A session by its UID, a tree by its TID or an open by its FID.
-#[derive(Drop)]
+#[derive(Clone, Copy)]
 pub enum One {
     Session(u16),
     Tree(u16),

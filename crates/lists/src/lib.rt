@@ -2,7 +2,7 @@
 // records, a record that exists, the first record that answers a question, the records kept.
 
 // What a walk from the front finds: the place of the first record that answers, or nothing.
-#[derive(Drop)]
+#[derive(Clone, Copy)]
 pub enum Found {
     At(usize),
     Nothing,

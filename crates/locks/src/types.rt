@@ -3,7 +3,7 @@
 use records::Lock;
 
 // A range of a LOCKING request; a lock's process is the range's.
-#[derive(Drop)]
+#[derive(Clone, Copy)]
 pub struct LockRange {
     pub process: u32,
     pub offset: u64,
@@ -12,7 +12,7 @@ pub struct LockRange {
 
 // What a walk over the list is for: a lock to be granted, shared or not, a read, a write, or an
 // unlock.
-#[derive(Drop)]
+#[derive(Clone, Copy)]
 pub enum Purpose {
     Grant(bool),
     Read,
@@ -21,7 +21,7 @@ pub enum Purpose {
 }
 
 // What is asked of the list: a range, and who asks for what.
-#[derive(Drop)]
+#[derive(Clone, Copy)]
 pub struct Ask {
     pub fid: u16,
     pub process: u32,
@@ -32,7 +32,7 @@ pub struct Ask {
 
 // A LOCKING request without its ranges: the upper half of the asker's process, type bits 0x01 and
 // 0x10, and how many ranges to unlock and to lock.
-#[derive(Drop)]
+#[derive(Clone, Copy)]
 pub struct Request {
     pub fid: u16,
     pub high: u16,
@@ -44,14 +44,14 @@ pub struct Request {
 
 // The first lock in the way of what is asked, and its place, from 0, in the list as it then stands (document 02,
 // CR 2).
-#[derive(Drop)]
+#[derive(Clone, Copy)]
 pub struct Holder {
     pub lock: Lock,
     pub place: usize,
 }
 
 // How a LOCKING request ends. A conflict names the holder.
-#[derive(Drop)]
+#[derive(Clone, Copy)]
 pub enum Outcome {
     Done,
     Malformed,
@@ -62,7 +62,7 @@ pub enum Outcome {
 }
 
 // The outcome, and the lock list after the request.
-#[derive(Drop)]
+#[derive(Clone, Copy)]
 pub struct Locking {
     pub outcome: Outcome,
     pub locks: [Lock; 128],

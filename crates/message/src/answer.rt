@@ -6,7 +6,7 @@ use records::Tables;
 // What the reply block says. The bytes that a READ yields are not copied out: `Read(place, count)` says where
 // they stand in the file memory. `CoreRead` and `CoreWrote` say the same in the blocks of the core commands.
 // `Opened` says the FID, the size, the access and OpenResults.
-#[derive(Drop)]
+#[derive(Clone, Copy)]
 pub enum Answer {
     Refused(Refusal),
     Locked,
@@ -20,7 +20,7 @@ pub enum Answer {
 }
 
 // The answer, and the tables that the command left.
-#[derive(Drop)]
+#[derive(Clone, Copy)]
 pub struct Performed {
     pub answer: Answer,
     pub tables: Tables,

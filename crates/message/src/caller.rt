@@ -1,7 +1,7 @@
 // Who sends a message.
 
 // Its connection, and the session, tree and process that the header names.
-#[derive(Drop)]
+#[derive(Clone, Copy)]
 pub struct Caller {
     pub connection: u32,
     pub uid: u16,

@@ -7,7 +7,7 @@ ghost use Rattle.message.specs.Refusal.{forms, forms_of, holder_of};
 use locks::types::Holder;
 
 // A conflict, of a lock or of a read or write, names the holder: the first lock in the way, in the list as it then stands.
-#[derive(Drop)]
+#[derive(Clone, Copy)]
 pub enum Refusal {
     NotServed,
     NotSentence,
@@ -30,14 +30,14 @@ pub enum Refusal {
 }
 
 // An SMBSTATUS: 0/0 where everything was done.
-#[derive(Drop)]
+#[derive(Clone, Copy)]
 pub struct Status {
     pub class: u8,
     pub code: u16,
 }
 
 // The same beside it as an NTSTATUS, for a request that asks for that form (document 02, CR 7).
-#[derive(Drop)]
+#[derive(Clone, Copy)]
 pub struct Forms {
     pub status: Status,
     pub nt: u32,
@@ -45,7 +45,7 @@ pub struct Forms {
 
 // Who holds the lock in the way, for the host (document 02, CR 2): nobody, unless a command was refused for
 // conflict.
-#[derive(Drop)]
+#[derive(Clone, Copy)]
 pub enum HeldBy {
     Nobody,
     Holder(Holder),

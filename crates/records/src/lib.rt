@@ -2,14 +2,14 @@
 // each array with a count of the records that are in use, which stand first.
 
 // A session: the user number given at login, and the connection it belongs to.
-#[derive(Drop)]
+#[derive(Clone, Copy)]
 pub struct Session {
     pub uid: u16,
     pub connection: u32,
 }
 
 // A connected tree of a session: right 0 is read, 1 is read and write.
-#[derive(Drop)]
+#[derive(Clone, Copy)]
 pub struct Tree {
     pub tid: u16,
     pub uid: u16,
@@ -18,7 +18,7 @@ pub struct Tree {
 
 // An open file: access 0 is read, 1 is write, 2 is both; sharing is what it denies to others (document 02, CR 6): 1 both, 2 write,
 // 3 read, 4 nothing; whether it has read, and the file's change number at its last granted read (CR 8), 0 in a new open.
-#[derive(Drop)]
+#[derive(Clone, Copy)]
 pub struct Open {
     pub fid: u16,
     pub uid: u16,
@@ -33,7 +33,7 @@ pub struct Open {
 
 // A byte-range lock. The locks of the table stand in order of grant. `shared` stands between offset and length because two words side
 // by side are read back as one of sixteen bytes, which waits for the stores of both (docs/PERFORMANCE.md).
-#[derive(Drop)]
+#[derive(Clone, Copy)]
 pub struct Lock {
     pub fid: u16,
     pub process: u32,
@@ -44,14 +44,14 @@ pub struct Lock {
 
 // A file: how many of its 4,096 bytes in the file memory count, and how often it was changed, as far as 32 bits count (document 02, CR 8: "a 32-bit change number"). Soundness
 // keeps both within their limits, 4,096 and 4,294,967,295.
-#[derive(Drop)]
+#[derive(Clone, Copy)]
 pub struct File {
     pub size: usize,
     pub changes: u64,
 }
 
 // A name of the catalogue (document 02, CR 6): the first `length` bytes of its text, and the file that it names.
-#[derive(Drop)]
+#[derive(Clone, Copy)]
 pub struct Name {
     pub length: u8,
     pub text: [u8; 12],
@@ -59,7 +59,7 @@ pub struct Name {
 }
 
 // All tables.
-#[derive(Drop)]
+#[derive(Clone, Copy)]
 pub struct Tables {
     pub sessions: [Session; 16],
     pub nsessions: usize,

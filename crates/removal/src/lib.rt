@@ -15,7 +15,7 @@ use records::{Open, Session, Tree};
 
 // What goes: the sessions of a connection, a session by its UID, a tree by its TID, an open by its
 // FID, or the opens of a UID and a process.
-#[derive(Drop)]
+#[derive(Clone, Copy)]
 pub enum Gone {
     Connection(u32),
     Session(u16),

@@ -30,7 +30,7 @@ use server::call::take_message;
 use wire::{byte_at, le16_at, le32_at};
 
 // Where the next call stands, and how long this one's line is. What it left is in the words and the file memory.
-#[derive(Drop)]
+#[derive(Clone, Copy)]
 pub(crate) struct Step {
     pub next: usize,
     pub length: usize,

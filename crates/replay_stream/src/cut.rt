@@ -8,7 +8,7 @@ use numbers::number::at_most;
 const LONGEST_PIECE: usize = 120;
 
 // What of a piece is left, from a place up to its end, and how long the piece was to be.
-#[derive(Drop)]
+#[derive(Clone, Copy)]
 pub(crate) struct Cut {
     pub at: usize,
     pub end: usize,

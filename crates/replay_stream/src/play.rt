@@ -14,7 +14,7 @@ use stream::state::State;
 use stream::writer::write_message;
 
 // What a piece gave: the reader's number, the bytes taken and the state for the next.
-#[derive(Drop)]
+#[derive(Clone, Copy)]
 pub(crate) struct Played {
     pub number: u8,
     pub taken: usize,

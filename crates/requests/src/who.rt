@@ -17,7 +17,7 @@ use tables::session::session_at;
 use tables::tree::tree_at;
 
 // The open that a command names and its place, or why it names none.
-#[derive(Drop)]
+#[derive(Clone, Copy)]
 pub(crate) enum NamedOpen {
     Open(Open, usize),
     Refused(Refusal),

@@ -8,7 +8,7 @@ ghost use Rattle.requests.specs.WorkPart.{read_meant, core_work, work_of};
 
 use chain::block::{Body, LockingFields, OpenFields, RangeFields, ReadFields, WriteFields};
 
-#[derive(Drop)]
+#[derive(Clone, Copy)]
 pub(crate) enum Work {
     Locking(LockingFields),
     Read(ReadFields, bool),

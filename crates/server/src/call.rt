@@ -33,7 +33,7 @@ const ROOM: usize = 12292;
 
 // The row, the reply's length (0 where none was written), and beside it the holder (document 02, CR 2). The tables are left
 // in the words.
-#[derive(Drop)]
+#[derive(Clone, Copy)]
 pub struct Taken {
     pub number: u8,
     pub length: usize,

@@ -22,7 +22,7 @@ use reply::block::{block_size, link_to, write_block};
 use requests::perform::perform_block;
 
 // How a chain ended: the status for the header in both forms, the holder that its refused command names, and where the reply ends.
-#[derive(Drop)]
+#[derive(Clone, Copy)]
 pub(crate) struct Ended {
     pub forms: Forms,
     pub holder: HeldBy,

@@ -13,7 +13,7 @@ use numbers::number::at_most;
 use tables::open::open_at;
 
 // Whether the opens in use are sound and, if so, the file of each FID, 255 for none.
-#[derive(Drop)]
+#[derive(Clone, Copy)]
 pub(crate) struct Opens {
     pub sound: bool,
     pub files: [u8; 65],

@@ -10,7 +10,7 @@ ghost use Rattle.soundness.specs.InWords.{table_in_order, Told, session_stands};
 use crate::by_number::number_free;
 
 // Whether the sessions in use are sound and, if so, which UIDs they have: 1 for each.
-#[derive(Drop)]
+#[derive(Clone, Copy)]
 pub(crate) struct Sessions {
     pub sound: bool,
     pub uids: [u8; 17],

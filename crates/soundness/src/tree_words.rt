@@ -16,7 +16,7 @@ use records::{Open, Tree};
 use tables::tree::tree_at;
 
 // Whether the trees in use are sound and, if so, the UID and the right of each TID as one number, 0 for none.
-#[derive(Drop)]
+#[derive(Clone, Copy)]
 pub(crate) struct Trees {
     pub sound: bool,
     pub codes: [u8; 33],

@@ -12,7 +12,7 @@ pub const KEEP_ALIVE: u8 = 0x85;
 pub const LONGEST_READ: usize = 8192;
 
 // What a header says: the reader stops by that number, a keep-alive, or a message of that length.
-#[derive(Drop)]
+#[derive(Clone, Copy)]
 pub enum Judged {
     Stop(u8),
     KeepAlive,

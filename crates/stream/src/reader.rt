@@ -14,7 +14,7 @@ use wire::fill::lay;
 
 // No message became whole; or one did, as a part of the piece from a place on and of a length, or in the buffer from 0 on and of
 // a length.
-#[derive(Drop)]
+#[derive(Clone, Copy)]
 pub enum Event {
     NoMessage,
     InPiece(usize, usize),
@@ -23,7 +23,7 @@ pub enum Event {
 
 // What a call gives: 0 or the number of a refusal, how many bytes of the piece it took, whether a message became whole, and the state
 // for the next call. With 0 and no message all of the piece was taken and more is wanted.
-#[derive(Drop)]
+#[derive(Clone, Copy)]
 pub struct Step {
     pub number: u8,
     pub taken: usize,
@@ -32,7 +32,7 @@ pub struct Step {
 }
 
 // The state of a begun header; or a header that stops the reader or that is a message's, with the place behind it.
-#[derive(Drop)]
+#[derive(Clone, Copy)]
 enum Seen {
     Short(State),
     Bad(u8, usize),

@@ -8,7 +8,7 @@ use wire::byte_at;
 
 // `stopped`: 0, or the number that stopped the reader. `begun`: how many bytes of a header are in, and `first` to `third`
 // those bytes. `length`: that of a begun message, and `got` how many of its bytes are in the buffer.
-#[derive(Drop)]
+#[derive(Clone, Copy)]
 pub struct State {
     pub stopped: u64,
     pub begun: u64,

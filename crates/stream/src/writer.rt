@@ -15,7 +15,7 @@ pub const TOO_LONG: u8 = 1;
 pub const NO_ROOM: u8 = 2;
 
 // 0 or the number of a refusal, and how many bytes were written.
-#[derive(Drop)]
+#[derive(Clone, Copy)]
 pub struct Written {
     pub number: u8,
     pub length: usize,

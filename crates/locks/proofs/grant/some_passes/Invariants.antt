@@ -1,0 +1,16 @@
+use mathlib.Core.Path.{refl, sym}
+use Prim.Native.Nat.{◌-◌}
+use native.Mathlib.Omega.{arith}
+use Rattle.lists.specs.Walk.{any}
+use Rattle.lists.specs.FoundLaws.{any-first, any-later}
+use Rattle.locks.specs.Wire.{ranges_at}
+use Rattle.locks.specs.Request.{range_passes}
+use Rattle.locks.proofs.Ahead.{Ahead, ahead-start, ahead-here, ahead_more, ahead_none}
+use Rattle.locks.proofs.Granted.{range-passes}
+use Rattle.locks.proofs.grant.some_passes.Given as goal
+
+abbrev pub invariant-loop-k : goal.invariant-loop-k
+invariant-loop-k l = Ahead (any range_passes (ranges_at l.large l.area l.from (l.to - l.from))) (any range_passes) l.large l.area l.from l.to l.k
+
+abbrev pub decreases-loop-k : goal.decreases-loop-k
+decreases-loop-k l = l.to - l.k

@@ -1,0 +1,18 @@
+use mathlib.Core.Path.{◌≡◌, sym, ap, ◌∙◌}
+use Prim.Native.Nat.{◌-◌, ◌≤◌}
+use lib.ListN.{length}
+use lib.Seq.{take_all}
+use lib.Dec.{eqb}
+use borrow.Author.Tests.{eq-eqb, ne_eqb}
+use Rattle.lists.specs.Walk.{any, rest}
+use Rattle.lists.specs.WalkLaws.{any-end, any-yes, any-no}
+use Rattle.numbers.specs.Number.{contains}
+use Rattle.numbers.specs.ColumnWords.{numbers_in, length-numbers_in, number_at, number-inside}
+use native.Mathlib.Omega.{arith}
+use Rattle.numbers.proofs.column_words.has_number.Given as goal
+
+abbrev pub invariant-loop-i : goal.invariant-loop-i
+invariant-loop-i l =     (l.i ≤ l.count) × (any (λ x. eqb x l.number) (numbers_in l.step l.count l.words) ≡ any (λ x. eqb x l.number) (rest (numbers_in l.step l.count l.words) l.count l.i))
+
+abbrev pub decreases-loop-i : goal.decreases-loop-i
+decreases-loop-i l = l.count - l.i

@@ -1,0 +1,13 @@
+use Rattle.text.specs.Overlaid.{written-nothing, written-hex-more, written-length, written-hex-whole}
+use Prim.Native.Nat.{◌-◌}
+use lib.ListN.{length, take}
+use Rattle.text.specs.Over.{Written}
+use Rattle.text.specs.Digits.{hex_bytes}
+use native.Mathlib.Omega.{arith}
+use Rattle.text.proofs.put_hex_bytes.Given as goal
+
+abbrev pub invariant-loop-i : goal.invariant-loop-i
+invariant-loop-i l = Written l.initial.out l.at (hex_bytes (take l.i l.bytes)) l.out l.to
+
+abbrev pub decreases-loop-i : goal.decreases-loop-i
+decreases-loop-i l = length l.bytes - l.i

@@ -1,0 +1,12 @@
+use Rattle.text.specs.Overlaid.{written-nothing, written-more, written-length, written-whole}
+use Prim.Native.Nat.{◌-◌}
+use lib.ListN.{length, take}
+use Rattle.text.specs.Over.{Written}
+use native.Mathlib.Omega.{arith}
+use Rattle.text.proofs.put_text.Given as goal
+
+abbrev pub invariant-loop-i : goal.invariant-loop-i
+invariant-loop-i l = Written l.initial.out l.at (take l.i l.text) l.out l.to
+
+abbrev pub decreases-loop-i : goal.decreases-loop-i
+decreases-loop-i l = length l.text - l.i
