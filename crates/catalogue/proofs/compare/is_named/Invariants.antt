@@ -1,0 +1,16 @@
+use mathlib.Core.Path.{◌≡◌, refl, sym, ap, ◌∙◌}
+use Prim.Native.Nat.{◌<◌, ◌-◌, ◌≤◌}
+use lib.ListN.{length, drop, get_or}
+use Rattle.records.specs.Empty.{no_name}
+use Rattle.tables.specs.Words.{name_array}
+use Rattle.catalogue.specs.Name.{folded, same_name, name_bytes, is_named}
+use Rattle.catalogue.specs.NameLaws.{same-long, same_more, same_not, same_end, length-name, byte-name}
+use borrow.Author.Rules.{rules}
+use native.Mathlib.Omega.{arith}
+use Rattle.catalogue.proofs.compare.is_named.Given as goal
+
+abbrev pub invariant-loop-k : goal.invariant-loop-k
+invariant-loop-k l = (l.k ≤ l.n) × (l.n ≤ 12) × (same_name (name_bytes (get_or (name_array l.words) l.i no_name)) l.name ≡ same_name (drop l.k (name_bytes (get_or (name_array l.words) l.i no_name))) (drop l.k l.name))
+
+abbrev pub decreases-loop-k : goal.decreases-loop-k
+decreases-loop-k l = l.n - l.k

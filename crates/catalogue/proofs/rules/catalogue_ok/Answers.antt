@@ -1,0 +1,22 @@
+-- `catalogue::rules::catalogue_ok` meets its contract: the count is tested, then each name, then every two. Assumes nothing.
+use mathlib.Core.Path.{sym, ◌∙◌}
+use borrow.Author.Tests.{le-leb, lt-leb, not-true, not-false}
+use Rattle.tables.specs.Words.{word}
+use Rattle.catalogue.specs.NameLaws.{catalogue-tested}
+use borrow.Author.Rules.{rules}
+use Rattle.catalogue.proofs.rules.catalogue_ok.Goals as goal
+
+pub returns-then-words-gt16 : goal.returns-then-words-gt16
+returns-then-words-gt16 c =
+    let w = c.args.words.now in
+    rw (catalogue-tested w, lt-leb (word w 0) 16 c.if-words-gt16.true)
+
+pub returns-then-not-names_stand : goal.returns-then-not-names_stand
+returns-then-not-names_stand c =
+    let w = c.args.words.now in
+    rw (catalogue-tested w, le-leb (word w 0) 16 c.if-words-gt16.false, sym c.names_stand.ensures ∙ c.if-not-names_stand.true)
+
+pub returns : goal.returns
+returns c =
+    let w = c.args.words.now in
+    rw (catalogue-tested w, le-leb (word w 0) 16 c.if-words-gt16.false, sym c.names_stand.ensures ∙ c.if-not-names_stand.false) c.none_doubled.ensures
