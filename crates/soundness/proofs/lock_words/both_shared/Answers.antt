@@ -4,7 +4,7 @@ use borrow.Author.Tests.{not-true, not-false}
 use Rattle.soundness.proofs.lock_words.both_shared.Goals as goal
 
 pub returns-then-not-shared : goal.returns-then-not-shared
-returns-then-not-shared c = rw (not-true c.args.shared c.if-not-shared.true)
+returns-then-not-shared c = rw (c.if-not-shared.true)
 
 pub returns : goal.returns
-returns c = rw (not-false c.args.shared c.if-not-shared.false)
+returns c = rw (c.if-not-shared.false)
