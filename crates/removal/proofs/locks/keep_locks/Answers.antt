@@ -11,6 +11,7 @@ use Rattle.tables.specs.ChangeLaws.{length-lock_array}
 use Rattle.removal.specs.Filter.{lock_marked}
 use Rattle.removal.proofs.Filtering.{Filtering, filtering-none, filtering-most, filtering-no, filtering-yes, filtered}
 use Rattle.removal.proofs.locks.keep_locks.Goals as goal
+use Rattle.removal.proofs.locks.keep_locks.Goals.{then-marked, else-marked}
 
 pub bounds-words-0 : goal.bounds-words-0
 bounds-words-0 c = omega arith
@@ -54,18 +55,18 @@ loop-i-preserved c =
     let long : length (lock_array args.words.now) ≡ 128 = length-lock_array args.words.now in
     let below : loop.i < c.at_most-n.result = omega arith in
     let inside : loop.i < length (lock_array args.words.now) = omega arith in
-    ⊎_elim
-    (λ w.
-    let stays = sym c.marked.ensures ∙ w.0.taken in (
+    elim c.if-marked.branch [
+      then-marked w ↦
+    let stays = sym c.marked.ensures ∙ w.if-marked.true in (
       omega arith,
-      rw (w.5, w.6) (filtering-yes loop.invariant.1 x below inside c.lock_at-l.ensures w.2.kept.0 stays w.2.ensures),
-    ))
-    (λ w.
-    let goes = sym c.marked.ensures ∙ w.0.left in (
+      rw (w.words-is, w.count-is) (filtering-yes loop.invariant.1 x below inside c.lock_at-l.ensures w.move_lock.auto.words stays w.move_lock.ensures),
+    )
+    | else-marked w ↦
+    let goes = sym c.marked.ensures ∙ w.if-marked.false in (
       omega arith,
-      rw (w.5, w.6) (filtering-no loop.invariant.1 x below inside c.lock_at-l.ensures w.2.kept.0 goes w.2.ensures),
-    ))
-    c.if-marked.branch
+      rw (w.words-is, w.count-is) (filtering-no loop.invariant.1 x below inside c.lock_at-l.ensures w.put_lock.auto.words goes w.put_lock.ensures),
+    )
+    ]
 
 pub bounds-words-0-2 : goal.bounds-words-0-2
 bounds-words-0-2 c =

@@ -13,6 +13,7 @@ use Rattle.removal.specs.Filter.{open_marked}
 use Rattle.removal.proofs.Marking.{Marking, marking-none, length-marking, marking-yes, marking-no, marking-all}
 use Rattle.removal.proofs.Filtering.{Filtering, filtering-none, filtering-most, filtering-next, filtering-no, filtering-yes, filtered}
 use Rattle.removal.proofs.opens.keep_opens.Goals as goal
+use Rattle.removal.proofs.opens.keep_opens.Goals.{then-open_marked, else-open_marked}
 
 pub bounds-words-0 : goal.bounds-words-0
 bounds-words-0 c = omega arith
@@ -59,20 +60,20 @@ loop-i-preserved c =
     let below : loop.i < c.at_most-n.result = omega arith in
     let inside : loop.i < length (open_array args.words.now) = omega arith in
     let next = filtering-next loop.invariant.1 x inside c.open_at-o.ensures in
-    ⊎_elim
-    (λ w.
-    let stays = sym c.open_marked.ensures ∙ w.0.taken in (
+    elim c.if-open_marked.branch [
+      then-open_marked w ↦
+    let stays = sym c.open_marked.ensures ∙ w.if-open_marked.true in (
       omega arith,
-      rw (w.8, w.10) (filtering-yes loop.invariant.1 x below inside c.open_at-o.ensures w.2.kept.0 stays w.2.ensures),
-      marking-yes loop.invariant.2 no_open x inside next stays (w.9 ∙ w.6.ensures),
-    ))
-    (λ w.
-    let goes = sym c.open_marked.ensures ∙ w.0.left in (
+      rw (w.words-is, w.count-is) (filtering-yes loop.invariant.1 x below inside c.open_at-o.ensures w.move_open.auto.words stays w.move_open.ensures),
+      marking-yes loop.invariant.2 no_open x inside next stays (w.fids-is ∙ w.mark.ensures),
+    )
+    | else-open_marked w ↦
+    let goes = sym c.open_marked.ensures ∙ w.if-open_marked.false in (
       omega arith,
-      rw (w.5, w.7) (filtering-no loop.invariant.1 x below inside c.open_at-o.ensures w.2.kept.0 goes w.2.ensures),
-      rw w.6 (marking-no loop.invariant.2 no_open x inside next goes),
-    ))
-    c.if-open_marked.branch
+      rw (w.words-is, w.count-is) (filtering-no loop.invariant.1 x below inside c.open_at-o.ensures w.put_open.auto.words goes w.put_open.ensures),
+      rw w.fids-is (marking-no loop.invariant.2 no_open x inside next goes),
+    )
+    ]
 
 pub bounds-words-0-2 : goal.bounds-words-0-2
 bounds-words-0-2 c =

@@ -13,6 +13,7 @@ use Rattle.removal.specs.Removal.{session_stays}
 use Rattle.removal.proofs.Marking.{Marking, marking-none, length-marking, marking-yes, marking-no, marking-all}
 use Rattle.removal.proofs.Filtering.{Filtering, filtering-none, filtering-most, filtering-next, filtering-no, filtering-yes, filtered}
 use Rattle.removal.proofs.sessions.keep_sessions.Goals as goal
+use Rattle.removal.proofs.sessions.keep_sessions.Goals.{then-session_stays, else-session_stays}
 
 pub bounds-words-0 : goal.bounds-words-0
 bounds-words-0 c = omega arith
@@ -59,20 +60,20 @@ loop-i-preserved c =
     let below : loop.i < c.at_most-n.result = omega arith in
     let inside : loop.i < length (session_array args.words.now) = omega arith in
     let next = filtering-next loop.invariant.1 x inside c.session_at-s.ensures in
-    ⊎_elim
-    (λ w.
-    let stays = sym c.session_stays.ensures ∙ w.0.taken in (
+    elim c.if-session_stays.branch [
+      then-session_stays w ↦
+    let stays = sym c.session_stays.ensures ∙ w.if-session_stays.true in (
       omega arith,
-      rw (w.8, w.10) (filtering-yes loop.invariant.1 x below inside c.session_at-s.ensures w.2.kept.0 stays w.2.ensures),
-      marking-yes loop.invariant.2 no_session x inside next stays (w.9 ∙ w.6.ensures),
-    ))
-    (λ w.
-    let goes = sym c.session_stays.ensures ∙ w.0.left in (
+      rw (w.words-is, w.count-is) (filtering-yes loop.invariant.1 x below inside c.session_at-s.ensures w.move_session.auto.words stays w.move_session.ensures),
+      marking-yes loop.invariant.2 no_session x inside next stays (w.uids-is ∙ w.mark.ensures),
+    )
+    | else-session_stays w ↦
+    let goes = sym c.session_stays.ensures ∙ w.if-session_stays.false in (
       omega arith,
-      rw (w.5, w.7) (filtering-no loop.invariant.1 x below inside c.session_at-s.ensures w.2.kept.0 goes w.2.ensures),
-      rw w.6 (marking-no loop.invariant.2 no_session x inside next goes),
-    ))
-    c.if-session_stays.branch
+      rw (w.words-is, w.count-is) (filtering-no loop.invariant.1 x below inside c.session_at-s.ensures w.put_session.auto.words goes w.put_session.ensures),
+      rw w.uids-is (marking-no loop.invariant.2 no_session x inside next goes),
+    )
+    ]
 
 pub bounds-words-0-2 : goal.bounds-words-0-2
 bounds-words-0-2 c =
