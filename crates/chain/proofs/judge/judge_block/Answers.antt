@@ -1,0 +1,39 @@
+-- `chain::judge::judge_block` meets its contract: the tests are those of the definition, in its order; a block that fits its row stands inside the message.
+-- Assumes nothing.
+-- the block fits its row
+use mathlib.Core.Path.{◌≡◌, sym, ◌∙◌}
+use mathlib.Core.Bool.{true}
+use borrow.Author.Tests.{not-true, not-false}
+use Rattle.chain.specs.Request.{request_named, is_andx}
+use Rattle.chain.specs.Rows.{row_fits, row_inside, andx-inside, judged-misfit, judged-plain, judged-link}
+use borrow.Author.Rules.{rules}
+use Rattle.chain.proofs.judge.judge_block.Goals as goal
+use Rattle.chain.proofs.judge.judge_block.Goals.{Else-not-is_andx, Else-not-row_fits}
+
+fitting : (c : Else-not-row_fits)
+    → row_fits c.args.s.now (request_named c.args.command) c.args.at ≡ true
+fitting c = rw (← c.request_named-request.ensures) (sym c.row_fits.ensures ∙ c.if-not-row_fits.false)
+
+-- its words begin with AndX
+andx : (c : Else-not-is_andx) → is_andx (request_named c.args.command) ≡ true
+andx c = rw (← c.request_named-request.ensures) (sym c.is_andx.ensures ∙ c.if-not-is_andx.false)
+
+pub returns-then-not-row_fits : goal.returns-then-not-row_fits
+returns-then-not-row_fits c =
+    let args = c.args in
+    sym (judged-misfit args.s.now args.command args.at (rw (← c.request_named-request.ensures) (sym c.row_fits.ensures ∙ c.if-not-row_fits.true)))
+
+pub returns-then-not-is_andx : goal.returns-then-not-is_andx
+returns-then-not-is_andx c =
+    let args = c.args in
+    sym (judged-plain args.s.now args.command args.at (fitting (goal.at.returns-then-not-is_andx c).Else-not-row_fits) (rw (← c.request_named-request.ensures) (sym c.is_andx.ensures ∙ c.if-not-is_andx.true)))
+
+pub judge_link-requires : goal.judge_link-requires
+judge_link-requires c =
+    let args = c.args in
+    let fits = fitting (goal.at.judge_link-requires c).Else-not-row_fits in record { at_in_bounds = andx-inside args.s.now (request_named args.command) args.at (andx (goal.at.judge_link-requires c).Else-not-is_andx) fits; at_in_bounds_2 = row_inside args.s.now (request_named args.command) args.at fits }
+
+pub returns : goal.returns
+returns c =
+    let args = c.args in
+    c.judge_link.ensures ∙ sym (judged-link args.s.now args.command args.at (fitting (goal.at.returns c).Else-not-row_fits) (andx (goal.at.returns c).Else-not-is_andx))

@@ -1,0 +1,7 @@
+-- `chain::parse::range_fields` meets its contract: the numbers read are those of the definition.
+-- Assumes nothing.
+use borrow.Author.Rules.{rules}
+use Rattle.chain.proofs.parse.range_fields.Goals as goal
+
+pub returns : goal.returns
+returns c = rw (c.le16_at-fid.ensures, c.le32_at-offset.ensures, c.le32_at-length.ensures)
