@@ -54,7 +54,8 @@ fn fill_file(contents: &[u8], room: &mut [u8])
     requires { length contents.now ≤ length room.old }
     ensures { room.new ≡ contents.now ++ replicate (length room.old - length contents.now) 0 }
 {
-    let n = bytes::copy(contents, room);
+    let n = contents.len();
+    room[..n].copy_from_slice(contents);
     clear(&mut room[n..]);
 }
 

@@ -1,0 +1,32 @@
+-- `host::connection::drop_connection` meets its contract: words that are not those of sound tables are refused, and the call on sound tables does the rest.
+-- Assumes nothing.
+use borrow.Author.Rules.{rules}
+use mathlib.Core.Path.{sym, ◌∙◌}
+use borrow.Author.Tests.{not-true, not-false}
+use Rattle.lists.specs.Truth.{both_hold}
+use Rattle.tables.specs.Words.{tables_of, in_use_fit}
+use Rattle.soundness.specs.Sound.{sound}
+use Rattle.host.specs.HostCall.{drop_connection}
+use Rattle.host.specs.OnWords.{on_words}
+use Rattle.host.proofs.Leaving.{connection-unsound, on-unsound, on-sound, left-refused, left-same}
+use Rattle.host.proofs.connection.drop_connection.Goals as goal
+
+pub returns-then-not-is_sound : goal.returns-then-not-is_sound
+returns-then-not-is_sound c =
+    let args = c.args in
+    let is-sound = c.is_sound in
+    let w = args.words.now in
+    left-refused w 4 (on_words w (drop_connection (tables_of w) args.connection)) (on-unsound w (drop_connection (tables_of w) args.connection) (sym is-sound.ensures ∙ c.if-not-is_sound.true) (connection-unsound (tables_of w) args.connection))
+
+pub drop_sound-requires : goal.drop_sound-requires
+drop_sound-requires c =
+    let is-sound = c.is_sound in
+    let w = c.args.words.now in
+    (search rules, (both_hold (in_use_fit w) (sound (tables_of w)) (sym is-sound.ensures ∙ c.if-not-is_sound.false)).1)
+
+pub returns : goal.returns
+returns c =
+    let args = c.args in
+    let is-sound = c.is_sound in
+    let w = args.words.now in
+    left-same (drop_connection (tables_of w) args.connection) (on_words w (drop_connection (tables_of w) args.connection)) w c.drop_sound.new.words c.drop_sound.result (on-sound w (drop_connection (tables_of w) args.connection) (sym is-sound.ensures ∙ c.if-not-is_sound.false)) c.drop_sound.ensures

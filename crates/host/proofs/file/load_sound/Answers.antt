@@ -1,0 +1,69 @@
+-- `host::file::load_sound` meets its contract: a load that is not refused fits its room, the file's part of the memory is what was
+-- filled, and the change of one file is written.
+-- Assumes nothing.
+use borrow.Author.Rules.{rules}
+use mathlib.Core.Path.{◌≡◌, refl, sym, ap, ◌∙◌}
+use Prim.Native.Nat.{◌+◌, ◌*◌}
+use native.Mathlib.Omega.{arith}
+use lib.ListN.{length, length-take, length-drop}
+use Rattle.records.specs.Change.{with_change}
+use Rattle.records.specs.Held.{with_files}
+use Rattle.tables.specs.Words.{tables_of}
+use Rattle.tables.specs.PartLaws.{lent, length_part}
+use Rattle.tables.specs.WholeLaws.{tables-files, fit-files}
+use Rattle.host.specs.HostCall.{load_file}
+use Rattle.host.proofs.Loaded.{loadable, load-refused, load-done, filled-memory}
+use Rattle.host.proofs.Leaving.{left-refused, left-done}
+use Rattle.host.proofs.file.load_sound.Goals as goal
+
+pub returns-then-number-ne-DONE : goal.returns-then-number-ne-DONE
+returns-then-number-ne-DONE c =
+    let args = c.args in
+    let load-number = c.load_number-number in
+    let w = args.words.now in
+    let e = load-refused (tables_of w) args.file args.contents.now args.memory.now load-number.result c.requires.1.1 load-number.ensures c.if-number-ne-DONE.true in
+    record { left = left-refused w load-number.result (load_file (tables_of w) args.file args.contents.now args.memory.now) e.0; memory_after = sym e.1 }
+
+pub slice_bounds-fill_file-end : goal.slice_bounds-fill_file-end
+slice_bounds-fill_file-end c =
+    let args = c.args in
+    let l = loadable (tables_of args.words.now) args.file (length args.contents.now) 65536 (sym c.load_number-number.ensures ∙ c.if-number-ne-DONE.false) in
+    let whole : length args.memory.now ≡ 65536 = c.requires.1.1 in
+    let f = l.known-file in
+    omega arith
+
+pub fill_file-requires : goal.fill_file-requires
+fill_file-requires c =
+    let args = c.args in
+    let l = loadable (tables_of args.words.now) args.file (length args.contents.now) 65536 (sym c.load_number-number.ensures ∙ c.if-number-ne-DONE.false) in
+    let whole : length args.memory.now ≡ 65536 = c.requires.1.1 in
+    let f = l.known-file in
+    let s = l.fitting in
+    rw (length-take, length-drop) (omega arith)
+
+pub put_change-requires : goal.put_change-requires
+put_change-requires c =
+    let args = c.args in
+    let w = args.words.now in
+    let full : length w ≡ 1605 = c.requires.0 in
+    let l = loadable (tables_of w) args.file (length args.contents.now) 65536 (sym c.load_number-number.ensures ∙ c.if-number-ne-DONE.false) in
+    let f = l.known-file in
+    (length_part w 1348 32 (omega arith), omega arith)
+
+pub returns : goal.returns
+unfolding tables_of
+returns c =
+    let pre = c.requires in
+    let put-change = c.put_change in
+    let load-number = c.load_number-number in
+    let if1 = c.if-number-ne-DONE in
+    let fill-file = c.fill_file in
+    let args = c.args in
+    let w = args.words.now in
+    let full : length w ≡ 1605 = pre.0 in
+    let e = put-change.new.words in
+    let long : length e ≡ 32 = put-change.auto.words ∙ length_part w 1348 32 (omega arith) in
+    let l = loadable (tables_of w) args.file (length args.contents.now) 65536 (sym load-number.ensures ∙ if1.false) in
+    let whole : length args.memory.now ≡ 65536 = pre.1.1 in
+    let f = l.known-file in
+    let d = load-done (tables_of w) args.file args.contents.now args.memory.now load-number.result pre.1.1 load-number.ensures if1.false in record { left = left-done w (lent w 1348 32 e) 0 (load_file (tables_of w) args.file args.contents.now args.memory.now) (with_change (tables_of w) args.file (length args.contents.now)) d.0 (tables-files w e full long ∙ ap (with_files (tables_of w)) put-change.ensures) (fit-files w e full long); memory_after = filled-memory args.memory.now fill-file.new.room args.contents.now (args.file * 4096) (args.file * 4096 + 4096) refl (omega arith) l.fitting fill-file.ensures ∙ sym d.1 }

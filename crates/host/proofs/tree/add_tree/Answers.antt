@@ -1,0 +1,33 @@
+-- `host::tree::add_tree` meets its contract: words that are not those of sound tables are refused, and the call on sound tables does the rest.
+-- Assumes nothing.
+use borrow.Author.Rules.{rules}
+use mathlib.Core.Path.{sym, ◌∙◌}
+use borrow.Author.Tests.{not-true, not-false}
+use Rattle.lists.specs.Truth.{both_hold}
+use Rattle.tables.specs.Words.{tables_of, in_use_fit}
+use Rattle.soundness.specs.Sound.{sound}
+use Rattle.host.specs.HostCall.{add_tree}
+use Rattle.host.specs.OnWords.{on_words}
+use Rattle.host.proofs.Leaving.{on-unsound, on-sound, left-refused, left-same}
+use Rattle.host.proofs.Adding.{tree-unsound}
+use Rattle.host.proofs.tree.add_tree.Goals as goal
+
+pub returns-then-not-is_sound : goal.returns-then-not-is_sound
+returns-then-not-is_sound c =
+    let args = c.args in
+    let is-sound = c.is_sound in
+    let w = args.words.now in
+    left-refused w 4 (on_words w (add_tree (tables_of w) args.uid args.right)) (on-unsound w (add_tree (tables_of w) args.uid args.right) (sym is-sound.ensures ∙ c.if-not-is_sound.true) (tree-unsound (tables_of w) args.uid args.right))
+
+pub add_sound-requires : goal.add_sound-requires
+add_sound-requires c =
+    let is-sound = c.is_sound in
+    let w = c.args.words.now in
+    (search rules, (both_hold (in_use_fit w) (sound (tables_of w)) (sym is-sound.ensures ∙ c.if-not-is_sound.false)).1)
+
+pub returns : goal.returns
+returns c =
+    let args = c.args in
+    let is-sound = c.is_sound in
+    let w = args.words.now in
+    left-same (add_tree (tables_of w) args.uid args.right) (on_words w (add_tree (tables_of w) args.uid args.right)) w c.add_sound.new.words c.add_sound.result (on-sound w (add_tree (tables_of w) args.uid args.right) (sym is-sound.ensures ∙ c.if-not-is_sound.false)) c.add_sound.ensures
