@@ -52,7 +52,7 @@ module _ {A : Type 0} where
       rw z at h.hit
 
   -- none found: each fails
-  miss-from : (k : ℕ) (p : A → Bool) {x : A} {xs : List A} → In x xs → found_from k p xs ≡ Nothing → p x ≡ false
+  miss-from : {x : A} {xs : List A} (k : ℕ) (p : A → Bool) → In x xs → found_from k p xs ≡ Nothing → p x ≡ false
   unfolding found_from
   miss-from k p (here {x = y} {xs = ys} e) h = ap p e ∙ (miss-first (p y) k (found_from (suc k) p ys) h).0
   miss-from k p (there {x = y} {xs = ys} m) h = miss-from (suc k) p m (miss-first (p y) k (found_from (suc k) p ys) h).1
