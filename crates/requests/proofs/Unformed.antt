@@ -1,5 +1,5 @@
 -- What the arm `_` behind `Answer::Locked`, `Answer::Read` and `Answer::Wrote`, the enum's variants 1, 3 and 4, knows. Assumes nothing.
-use Rattle.core.specs.Prelude.{◌≡◌, [], ◌∷◌}
+use Rattle.std.specs.Prelude.{◌≡◌, [], ◌∷◌}
 use mathlib.Core.Path.{refl}
 use types.Run.{OneOf, miss}
 use denote.Enum.Declared.{tag_of}

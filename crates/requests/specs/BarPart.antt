@@ -1,5 +1,5 @@
 -- A lock in the way of a read or a write. Assumes nothing.
-use Rattle.core.specs.Prelude.{◌≡◌, ℕ, ◌<◌, length}
+use Rattle.std.specs.Prelude.{◌≡◌, ℕ, ◌<◌, length}
 use Rattle.lists.specs.FoundLaws.{found_below}
 use Rattle.lists.specs.declared.Found.TheVariants.{At}
 use Rattle.records.specs.declared.Tables.{Tables}

@@ -1,5 +1,5 @@
 -- What a counterpart answers, in the core command's reply block (document 02, CR 3): the same things are changed. Assumes nothing.
-use Rattle.core.specs.Prelude.{◌≡◌, ℕ, Bool, true, false, cond, List}
+use Rattle.std.specs.Prelude.{◌≡◌, ℕ, Bool, true, false, cond, List}
 use Rattle.std.specs.Prelude.{refl}
 use Rattle.std.proofs.Common.{sym, ap, ◌∙◌}
 use Rattle.records.specs.declared.Open.{Open}

@@ -1,6 +1,6 @@
 -- A command that leaves the file memory alone, a refusal, and how what was performed is seen to be what a command gives.
 -- Assumes nothing.
-use Rattle.core.specs.Prelude.{◌≡◌, ℕ, true, List}
+use Rattle.std.specs.Prelude.{◌≡◌, ℕ, true, List}
 use Rattle.std.specs.Prelude.{refl}
 use Rattle.std.proofs.Common.{sym}
 use Rattle.records.specs.declared.Tables.{Tables}

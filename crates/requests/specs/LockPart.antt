@@ -1,5 +1,5 @@
 -- What a LOCKING request leaves in the words of all tables, and its answer. Assumes nothing.
-use Rattle.core.specs.Prelude.{◌≡◌, ℕ, false, List, ◌++◌, length, take, drop}
+use Rattle.std.specs.Prelude.{◌≡◌, ℕ, false, List, ◌++◌, length, take, drop}
 use Rattle.std.proofs.Math.Path.{refl}
 use Rattle.std.proofs.Common.{sym, ap, ◌∙◌, take-append-drop}
 use Rattle.locks.specs.declared.types.Outcome.{Outcome}

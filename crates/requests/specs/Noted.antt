@@ -1,5 +1,5 @@
 -- The open that has read, written in its place: the list of opens with what each open remembers (document 02, CR 8). Assumes nothing.
-use Rattle.core.specs.Prelude.{◌≡◌, ℕ, zero, suc, ◌+◌, ◌-◌, ◌<◌, ◌≤◌, true, false, not, List, [], ◌∷◌, map, length, get_or, take, drop, set, ◌==◌, ◌≢◌, nat_eq, nat_le, slice_index_or, slice_set}
+use Rattle.std.specs.Prelude.{◌≡◌, ℕ, zero, suc, ◌+◌, ◌-◌, ◌<◌, ◌≤◌, true, false, not, List, [], ◌∷◌, map, length, get_or, take, drop, set, ◌==◌, ◌≢◌, nat_eq, nat_le, slice_index_or, slice_set}
 use Rattle.std.proofs.Math.Path.{refl}
 use Rattle.std.proofs.Common.{sym, ap, ◌∙◌, length-set, length-take, take-append-drop, length-take-le}
 use native.Mathlib.Omega.{arith}

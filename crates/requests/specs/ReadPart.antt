@@ -1,6 +1,6 @@
 -- Where the bytes that a read yields stand in the file memory: "It yields the file's bytes in the range below its size."
 -- Assumes nothing.
-use Rattle.core.specs.Prelude.{◌≡◌, ℕ, zero, suc, ◌+◌, ◌-◌, ◌*◌, ◌<◌, ◌≤◌, min, Bool, true, false, cond, List, [], ◌∷◌, length, take, drop, nat_le}
+use Rattle.std.specs.Prelude.{◌≡◌, ℕ, zero, suc, ◌+◌, ◌-◌, ◌*◌, ◌<◌, ◌≤◌, min, Bool, true, false, cond, List, [], ◌∷◌, length, take, drop, nat_le}
 use Rattle.std.proofs.Math.Path.{refl}
 use Rattle.std.proofs.Common.{sym, ap, arith, length-take, drop_of_length-le, take_all, take-take, drop-drop, leb-true, leb-false, le-leb}
 use Rattle.std.proofs.Math.Decide.{dec_le}

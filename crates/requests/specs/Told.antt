@@ -1,5 +1,5 @@
 -- What a function that answers a test says, where the code asks `if !f(..)`. Assumes nothing.
-use Rattle.core.specs.Prelude.{◌≡◌, Bool, true, false, not}
+use Rattle.std.specs.Prelude.{◌≡◌, Bool, true, false, not}
 use Rattle.std.proofs.Common.{sym, ◌∙◌}
 use Rattle.std.proofs.lemmas.Bool.{not-true, not-false}
 

@@ -1,5 +1,5 @@
 -- What a write leaves in the file memory and in the sizes. Assumes nothing.
-use Rattle.core.specs.Prelude.{◌≡◌, ℕ, ◌+◌, ◌-◌, ◌*◌, ◌<◌, ◌≤◌, false, ltb, List, ◌++◌, length, take, drop, replicate, ◌≢◌, nat_lt}
+use Rattle.std.specs.Prelude.{◌≡◌, ℕ, ◌+◌, ◌-◌, ◌*◌, ◌<◌, ◌≤◌, false, ltb, List, ◌++◌, length, take, drop, replicate, ◌≢◌, nat_lt}
 use Rattle.std.proofs.Common.{sym, ◌∙◌, arith, length-take, length-drop, take-append-drop, drop-drop, eq-eqb, ne_eqb, ltb-true, ltb-false, lt-ltb}
 use Rattle.std.proofs.lemmas.List.{length-replicate}
 use Rattle.lists.specs.Put.{put}

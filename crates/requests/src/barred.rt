@@ -1,6 +1,6 @@
 // The lock in the way of a read or a write, and the size of its file.
 
-ghost use Rattle.core.specs.Prelude.{◌≡◌, ◌<◌, ◌≤◌, length};
+ghost use Rattle.std.specs.Prelude.{◌≡◌, ◌<◌, ◌≤◌, length};
 ghost use Rattle.records.specs.Held.{locks_of};
 ghost use Rattle.tables.specs.Words.{tables_of};
 ghost use Rattle.locks.specs.Request.{holder_at};

@@ -1,7 +1,7 @@
 // CLOSE, LOGOFF, TREE_DISCONNECT and PROCESS_EXIT: what is named goes, "each with what hangs on them". "LOGOFF and
 // PROCESS_EXIT stop after 2/91, TREE_DISCONNECT after 2/5, CLOSE after 1/6." Their blocks have no bytes.
 
-ghost use Rattle.core.specs.Prelude.{◌≡◌, true, [], length};
+ghost use Rattle.std.specs.Prelude.{◌≡◌, true, [], length};
 ghost use Rattle.tables.specs.Words.{tables_of, in_use_fit};
 ghost use Rattle.chain.specs.declared.block.Body.TheVariants.{Close, Logoff, TreeDisconnect, ProcessExit};
 ghost use Rattle.message.specs.Command.{perform};

@@ -2,7 +2,7 @@
 // wire" and "Locks, reads and writes"; document 02, CR 3 and CR 6): `perform::perform_block`. The definitions are message/specs/Command.antt's.
 
 mod barred;
-mod core;
+mod core_commands;
 mod leaving;
 mod locking;
 mod opening;

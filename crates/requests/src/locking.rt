@@ -1,6 +1,6 @@
 // LOCKING: 2/65535, then the request as a whole, which is `locks::locking`'s.
 
-ghost use Rattle.core.specs.Prelude.{◌≡◌, true, length};
+ghost use Rattle.std.specs.Prelude.{◌≡◌, true, length};
 ghost use Rattle.tables.specs.Words.{tables_of, in_use_fit};
 ghost use Rattle.message.specs.Command.{served_type, request_of, do_locking};
 ghost use Rattle.invariants.specs.Sound.{Good};

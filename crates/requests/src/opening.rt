@@ -1,7 +1,7 @@
 // OPEN_ANDX (document 02, CR 6): a file of the catalogue opened by its name. "Refusals, after 2/5: 2/65535 OpenMode, 1/12 access or sharing
 // code, 1/2 name, 1/5 tree right, 1/32 sharing, 1/4 all 64 FIDs in use".
 
-ghost use Rattle.core.specs.Prelude.{◌≡◌, ◌≤◌, true, length};
+ghost use Rattle.std.specs.Prelude.{◌≡◌, ◌≤◌, true, length};
 ghost use Rattle.lists.specs.Walk.{found};
 ghost use Rattle.records.specs.Held.{names_of};
 ghost use Rattle.tables.specs.Words.{tables_of, in_use_fit};

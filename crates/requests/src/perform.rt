@@ -1,6 +1,6 @@
 // One block of a chain carried out.
 
-ghost use Rattle.core.specs.Prelude.{◌≡◌, ◌+◌, ◌≤◌, true, length, take, drop};
+ghost use Rattle.std.specs.Prelude.{◌≡◌, ◌+◌, ◌≤◌, true, length, take, drop};
 ghost use Rattle.tables.specs.Words.{tables_of, in_use_fit};
 ghost use Rattle.chain.specs.Layout.{byte_area, byte_count};
 ghost use Rattle.chain.specs.Parse.{parse};
@@ -14,7 +14,7 @@ ghost use Rattle.requests.specs.BlockPart.{LockingPart, OpeningPart};
 ghost use Rattle.requests.specs.CorePart.{in_form};
 ghost use Rattle.requests.specs.Leaves.{Leaves, performed};
 
-use crate::core::{do_range, in_form};
+use crate::core_commands::{do_range, in_form};
 use crate::leaving::{do_close, do_disconnect, do_exit, do_logoff};
 use crate::locking::do_locking;
 use crate::opening::do_open;

@@ -1,7 +1,7 @@
 // READ: 1/5, 1/33, then the file's bytes, which are not copied out: the answer says where they stand. The open then remembers the file's
 // change number (document 02, CR 8).
 
-ghost use Rattle.core.specs.Prelude.{◌≡◌, ◌≤◌, true, length};
+ghost use Rattle.std.specs.Prelude.{◌≡◌, ◌≤◌, true, length};
 ghost use Rattle.records.specs.Change.{changes_of, with_read};
 ghost use Rattle.tables.specs.Words.{tables_of, in_use_fit};
 ghost use Rattle.message.specs.Command.{do_read};

@@ -1,7 +1,7 @@
 // What opens of one file deny each other (document 02, CR 6): "sharing codes 1 to 4: deny both, deny write, deny read, deny none". Access 0 is
 // reading, 1 writing, 2 both.
 
-ghost use Rattle.core.specs.Prelude.{◌≡◌, ◌&&◌, ◌||◌, length, ◌==◌};
+ghost use Rattle.std.specs.Prelude.{◌≡◌, ◌&&◌, ◌||◌, length, ◌==◌};
 ghost use Rattle.lists.specs.Walk.{any};
 ghost use Rattle.tables.specs.Written.{opens_in};
 ghost use Rattle.message.specs.Sharing.{reads, writes, denies_reading, denies_writing, denied, kept_out};

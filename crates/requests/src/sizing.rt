@@ -1,7 +1,7 @@
 // A core WRITE of count 0 (document 02, CR 3): 1/5, 1/33, 3/39, then the size. Nothing is changed before the last refusal has been
 // ruled out.
 
-ghost use Rattle.core.specs.Prelude.{◌≡◌, ◌≤◌, true, length};
+ghost use Rattle.std.specs.Prelude.{◌≡◌, ◌≤◌, true, length};
 ghost use Rattle.tables.specs.Words.{tables_of, in_use_fit};
 ghost use Rattle.message.specs.Command.{between_sizes, do_set_size};
 ghost use Rattle.message.specs.Contents.{sized_to};

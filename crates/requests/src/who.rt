@@ -1,6 +1,6 @@
 // Who may ask: the session, the tree and the open that a command names.
 
-ghost use Rattle.core.specs.Prelude.{◌≡◌, length};
+ghost use Rattle.std.specs.Prelude.{◌≡◌, length};
 ghost use Rattle.lists.specs.Walk.{any, found};
 ghost use Rattle.tables.specs.Written.{sessions_in, trees_in, opens_in};
 ghost use Rattle.soundness.specs.Lookup.{is_tree};

@@ -2,7 +2,7 @@
 // alone differs (document 02, CR 3), and `core` says which it is. So one call carries out both, at one place: from a function that is
 // called at two the answers of all commands would come back through memory, which took 12 ns for each block of a chain.
 
-ghost use Rattle.core.specs.Prelude.{◌≡◌};
+ghost use Rattle.std.specs.Prelude.{◌≡◌};
 ghost use Rattle.message.specs.JustOpened.{body_meant};
 ghost use Rattle.requests.specs.WorkPart.{read_meant, core_work, work_of};
 

@@ -1,6 +1,6 @@
 // WRITE: 1/5, 1/33, 3/39, then the bytes. Nothing is written before the last refusal has been ruled out.
 
-ghost use Rattle.core.specs.Prelude.{◌≡◌, ◌+◌, ◌-◌, ◌<◌, ◌≤◌, max, true, length, replicate};
+ghost use Rattle.std.specs.Prelude.{◌≡◌, ◌+◌, ◌-◌, ◌<◌, ◌≤◌, max, true, length, replicate};
 ghost use Rattle.lists.specs.Put.{put};
 ghost use Rattle.records.specs.Change.{with_change};
 ghost use Rattle.tables.specs.Words.{tables_of, in_use_fit};

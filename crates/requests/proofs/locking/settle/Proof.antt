@@ -1,7 +1,7 @@
 -- `requests::locking::settle` meets its contract: over numbered FIDs the table of files says what the opens say.
 -- Assumes nothing.
 use borrow.Author.Rules.{rules}
-use Rattle.core.specs.Prelude.{◌≡◌, length}
+use Rattle.std.specs.Prelude.{◌≡◌, length}
 use mathlib.Core.Path.{◌∙◌}
 use native.Mathlib.Omega.{arith}
 use Rattle.records.specs.Held.{opens_of}

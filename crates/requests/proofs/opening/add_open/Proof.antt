@@ -3,7 +3,7 @@
 use borrow.Author.Rules.{rules}
 use Rattle.requests.proofs.opening.add_open.Statement.{statement}
 use Rattle.requests.proofs.opening.add_open.Tie as tie
-use Rattle.core.specs.Prelude.{◌≡◌, ◌<◌, ◌≤◌, [], ◌∷◌, ◌++◌, length}
+use Rattle.std.specs.Prelude.{◌≡◌, ◌<◌, ◌≤◌, [], ◌∷◌, ◌++◌, length}
 use mathlib.Core.Path.{refl, ap, ◌∙◌}
 use native.Mathlib.Omega.{arith}
 use borrow.Author.Tests.{lt-leb, le-leb}

@@ -3,7 +3,7 @@
 use borrow.Author.Rules.{rules}
 use Rattle.requests.proofs.opening.open_file.Statement.{statement}
 use Rattle.requests.proofs.opening.open_file.Tie as tie
-use Rattle.core.specs.Prelude.{◌≡◌, true, false}
+use Rattle.std.specs.Prelude.{◌≡◌, true, false}
 use mathlib.Core.Path.{refl, sym, ap, ◌∙◌}
 use Rattle.lists.specs.Walk.{any}
 use Rattle.records.specs.declared.Open.{Open}

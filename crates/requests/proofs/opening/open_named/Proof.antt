@@ -3,7 +3,7 @@
 use borrow.Author.Rules.{rules}
 use Rattle.requests.proofs.opening.open_named.Statement.{statement}
 use Rattle.requests.proofs.opening.open_named.Tie as tie
-use Rattle.core.specs.Prelude.{◌≡◌, length}
+use Rattle.std.specs.Prelude.{◌≡◌, length}
 use mathlib.Core.Path.{refl, sym, ap, ◌∙◌}
 use native.Mathlib.Omega.{arith}
 use Rattle.lists.specs.Walk.{found}

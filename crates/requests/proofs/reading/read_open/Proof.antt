@@ -3,7 +3,7 @@
 use borrow.Author.Rules.{rules}
 use Rattle.requests.proofs.reading.read_open.Statement.{statement}
 use Rattle.requests.proofs.reading.read_open.Tie as tie
-use Rattle.core.specs.Prelude.{ℕ}
+use Rattle.std.specs.Prelude.{ℕ}
 use mathlib.Core.Path.{refl, sym, ap, ◌∙◌}
 use borrow.Author.Tests.{eq-eqb, ne_eqb}
 use Rattle.records.specs.Change.{changes_of, with_read}

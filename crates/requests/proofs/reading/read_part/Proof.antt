@@ -3,7 +3,7 @@
 use borrow.Author.Rules.{rules}
 use Rattle.requests.proofs.reading.read_part.Statement.{statement}
 use Rattle.requests.proofs.reading.read_part.Tie as tie
-use Rattle.core.specs.Prelude.{◌<◌, ◌≤◌}
+use Rattle.std.specs.Prelude.{◌<◌, ◌≤◌}
 use native.Mathlib.Omega.{arith}
 use borrow.Author.Tests.{le-leb, lt-leb}
 use Rattle.tables.specs.Words.{tables_of}

@@ -1,7 +1,7 @@
 -- `requests::sizing::between_sizes` meets its contract: the smaller of the sizes is the start, and the difference the length.
 -- Assumes nothing.
 use borrow.Author.Rules.{rules}
-use Rattle.core.specs.Prelude.{◌≡◌, min, max}
+use Rattle.std.specs.Prelude.{◌≡◌, min, max}
 use native.Mathlib.Omega.{arith}
 use Rattle.message.specs.Command.{between_sizes}
 use Rattle.requests.proofs.sizing.between_sizes.Statement.{statement}

@@ -4,7 +4,7 @@ use Rattle.requests.proofs.who.session_named.Statement.{statement}
 use Rattle.requests.proofs.who.session_named.Tie as tie
 use borrow.Author.Rules.{rules}
 use native.Mathlib.Omega.{arith}
-use Rattle.core.specs.Prelude.{◌≡◌, ℕ, ◌-◌, ◌≤◌, List, length}
+use Rattle.std.specs.Prelude.{◌≡◌, ℕ, ◌-◌, ◌≤◌, List, length}
 use mathlib.Core.Path.{sym, ap, ◌∙◌}
 use Rattle.lists.specs.Walk.{any, rest}
 use Rattle.lists.specs.WalkLaws.{any-end, any-yes, any-no}

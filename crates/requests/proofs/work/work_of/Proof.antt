@@ -2,7 +2,7 @@
 -- Assumes nothing.
 use borrow.Author.Rules.{rules}
 use mathlib.Core.Path.{ap}
-use Rattle.core.specs.Prelude.{false}
+use Rattle.std.specs.Prelude.{false}
 use Rattle.chain.specs.declared.block.ReadFields.{ReadFields}
 use Rattle.message.specs.JustOpened.{body_meant}
 use Rattle.requests.specs.declared.work.Work.TheVariants.{Read}

@@ -2,7 +2,7 @@
 -- Assumes nothing.
 use Rattle.requests.proofs.writing.ends_past.Statement.{statement}
 use Rattle.requests.proofs.writing.ends_past.Tie as tie
-use Rattle.core.specs.Prelude.{◌+◌}
+use Rattle.std.specs.Prelude.{◌+◌}
 use native.Mathlib.Omega.{arith}
 use borrow.Author.Tests.{eq-eqb, ne_eqb, lt-ltb}
 use Rattle.message.specs.Command.{ends_past}

@@ -1,7 +1,7 @@
 -- `requests::writing::grow` meets its contract: the gap behind the file's size is cleared.
 -- Assumes nothing.
 use borrow.Author.Rules.{rules}
-use Rattle.core.specs.Prelude.{◌≤◌}
+use Rattle.std.specs.Prelude.{◌≤◌}
 use native.Mathlib.Omega.{arith}
 use Rattle.tables.specs.Words.{tables_of}
 use Rattle.invariants.specs.SoundParts.{sound-says}

@@ -2,7 +2,7 @@
 -- Assumes nothing.
 use borrow.Author.Rules.{rules}
 use mathlib.Core.Path.{ap, ◌∙◌}
-use Rattle.core.specs.Prelude.{ℕ, max}
+use Rattle.std.specs.Prelude.{ℕ, max}
 use Rattle.records.specs.Change.{with_change}
 use Rattle.tables.specs.Words.{tables_of}
 use Rattle.requests.proofs.writing.raise_size.Statement.{statement}

@@ -4,7 +4,7 @@ use borrow.Author.Rules.{rules}
 use Rattle.requests.proofs.writing.write_bytes.Statement.{statement}
 use Rattle.requests.proofs.writing.write_bytes.Tie as tie
 use mathlib.Core.Path.{◌∙◌}
-use Rattle.core.specs.Prelude.{◌+◌, ◌*◌, length}
+use Rattle.std.specs.Prelude.{◌+◌, ◌*◌, length}
 use native.Mathlib.Omega.{arith}
 use Rattle.lists.specs.PutLaws.{put-part}
 use Rattle.tables.specs.Words.{tables_of}
