@@ -85,6 +85,7 @@ first-command {s} {command} {at} {x} (andx-next h m g r) e = let q : x ≡ span_
 -- the only block
 in_one : {x y : Span} → In x (y ∷ []) → CoreStands x (y ∷ [])
 in_one (first e) = rw e alone
+in_one {y = y} (later x5) = elim x5 [ ]
 
 -- a block in front of a reading in which a core command stands
 in-front : {s : List ℕ} {command c at : ℕ} {x y : Span} {spans : List Span} → MayFollow command c → y.command ≡ command → ReadingFrom s c at spans → Core x.command

@@ -1,17 +1,15 @@
--- What the arm `_` behind `Answer::Refused`, the enum's variant 0, knows. Assumes nothing.
-use Prim.Native.Nat.{ℕ}
-use mathlib.Core.List.{[], ◌∷◌}
-use types.Run.{OneOf, miss}
-use denote.Enum.Declared.{tag_of}
-use Rattle.message.specs.contracts.answer.Answer.{the_type}
+-- What the arm `_` behind `Answer::Refused` knows: the answer is no refusal. Assumes nothing.
+use Rattle.std.specs.Prelude.{◌≡◌, ℕ}
+use mathlib.Core.Path.{refl}
+use Rattle.message.specs.declared.refusal.Refusal.{Refusal}
 use Rattle.message.specs.declared.answer.Answer.{Answer}
 use Rattle.message.specs.declared.answer.Answer.TheVariants.{Refused, Locked, LoggedOff, Read, Wrote, Plain, CoreRead, CoreWrote, Opened}
 
 -- what holds of each other variant holds there
 pub unrefused : (P : Answer → Type 0) → P Locked → P LoggedOff → ((place count : ℕ) → P (Read place count)) → ((count : ℕ) → P (Wrote count)) → P Plain
     → ((place count : ℕ) → P (CoreRead place count)) → ((count : ℕ) → P (CoreWrote count))
-    → ((fid size access results : ℕ) → P (Opened fid size access results)) → (a : Answer) → OneOf (1 ∷ 2 ∷ 3 ∷ 4 ∷ 5 ∷ 6 ∷ 7 ∷ 8 ∷ []) (tag_of the_type a) → P a
-unrefused P locked off read wrote plain core_read core_wrote opened (Refused why) h = absurd (miss (1 ∷ 2 ∷ 3 ∷ 4 ∷ 5 ∷ 6 ∷ 7 ∷ 8 ∷ []) 0 _ h)
+    → ((fid size access results : ℕ) → P (Opened fid size access results)) → (a : Answer) → ((why : Refusal) → a ≡ Refused why → ⊥) → P a
+unrefused P locked off read wrote plain core_read core_wrote opened (Refused why) h = absurd (h why refl)
 unrefused P locked off read wrote plain core_read core_wrote opened Locked h = locked
 unrefused P locked off read wrote plain core_read core_wrote opened LoggedOff h = off
 unrefused P locked off read wrote plain core_read core_wrote opened (Read place count) h = read place count
