@@ -1,0 +1,17 @@
+-- `gateway::byte_stream::put_step` meets its contract: the words of each kind of event. Assumes nothing.
+use borrow.Author.Rules.{rules}
+use mathlib.Core.Path.{refl}
+use Rattle.boundary.specs.StreamWords.{step_words}
+use Rattle.gateway.proofs.byte_stream.put_step.Goals as goal
+
+pub returns-in-NoMessage : goal.returns-in-NoMessage
+unfolding step_words
+returns-in-NoMessage c = rw c.in-NoMessage.is
+
+pub returns-in-InPiece : goal.returns-in-InPiece
+unfolding step_words
+returns-in-InPiece c = rw c.in-InPiece.is
+
+pub returns-in-InBuffer : goal.returns-in-InBuffer
+unfolding step_words
+returns-in-InBuffer c = rw c.in-InBuffer.is
