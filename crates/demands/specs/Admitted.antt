@@ -169,9 +169,9 @@ module _ (c : Caller) (t : Tables) where
   unfolding with_tree
   with-tree next s r = rw (tree-found t c.tid c.uid r) (with-session next s)
 
-  pub with_open : (fid k : ℕ) (next : Open → Given) → May c t fid k → with_open c t fid next ≡ next (get_or (opens_of t) k no_open)
+  pub with-open : (fid k : ℕ) (next : Open → Given) → May c t fid k → with_open c t fid next ≡ next (get_or (opens_of t) k no_open)
   unfolding with_open with_tree with_session open_at
-  with_open fid k next may = rw (may.session, may.tree, may.named)
+  with-open fid k next may = rw (may.session, may.tree, may.named)
 
   -- or one of them is not
   pub session-given : {n : Status} (next : Given) → NoSessionFor c t n → status_in (with_session c t next) ≡ n

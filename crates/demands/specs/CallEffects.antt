@@ -23,7 +23,7 @@ use Rattle.chain.specs.declared.block.Body.{Body}
 use Rattle.chain.specs.declared.block.Body.TheVariants.{Read as ReadBody, Write as WriteBody, Close, Logoff, TreeDisconnect, ProcessExit, CoreRead as CoreReadBody, CoreWrite as CoreWriteBody}
 use Rattle.chain.specs.declared.block.Block.{Block}
 use Rattle.invariants.specs.BlockParse.{block_at}
-use Rattle.invariants.specs.Chained.{Chained, chained-end, read-chained}
+use Rattle.invariants.specs.Chained.{Chained, chained-end, chained_more, read-chained}
 use Rattle.message.specs.Caller.{caller_of}
 use Rattle.message.specs.declared.caller.Caller.{Caller}
 use Rattle.message.specs.Refusal.{status, success}
@@ -89,10 +89,12 @@ pub record CoreReadCall (c : Caller) (t : Tables) (f : ReadFields) (memory : Lis
 one-counted : {s : List ℕ} {command at : ℕ} {b : Block} → Chained s command at (b ∷ []) → (f : WriteFields) → b.body ≡ WriteBody f → length (data_of s b) ≡ f.count
 unfolding block_at
 one-counted (chained-end h l) f same = data-counted h _ f same
+one-counted (chained_more h l rest) f same = elim rest [ ]
 
 one-filled : {s : List ℕ} {command at : ℕ} {b : Block} → Chained s command at (b ∷ []) → (f : WriteFields) → b.body ≡ CoreWriteBody f → length (drop 3 (area_of s b)) ≡ f.count
 unfolding block_at
 one-filled (chained-end h l) f same = core-counted h _ f same
+one-filled (chained_more h l rest) f same = elim rest [ ]
 
 -- what the command of a known body gives
 pub gives-body : (c : Caller) (s : List ℕ) (b : Block) (t : Tables) (memory : List ℕ) (body : Body) {g : Given} → b.body ≡ body → gives c s NOBODY b t memory ≡ g

@@ -45,7 +45,7 @@ use Rattle.message.specs.declared.refusal.Refusal.TheVariants.{NoAccess, LockTyp
 use Rattle.message.specs.Contents.{read_bytes}
 use Rattle.message.specs.Command.{Given, refused, done, read, with_session, with_tree, with_open, served_type, request_of, locking_end, locking_after, do_locking, ask_by, unless_barred, barring, do_read, ends_past, do_write, as_core, range_by, one_range, do_range, between_sizes, do_set_size, do_core_write, name_asked, perform}
 use Rattle.demands.specs.LoneLock.{held_in, May, InWay, Owner, BarsLock, lower_size, sizes_apart, BarsSize, BarsRange, read-conflict as read-exact, shared_in, exclusive-way, range_back}
-use Rattle.demands.specs.Admitted.{SessionHere, Admitted, NoSessionFor, NoTreeFor, NoOpenFor, admitted-may, session-or, tree-or, open-or, with-session, with-tree, with_open, session-given, tree-given, open-given}
+use Rattle.demands.specs.Admitted.{SessionHere, Admitted, NoSessionFor, NoTreeFor, NoOpenFor, admitted-may, session-or, tree-or, open-or, with-session, with-tree, with-open, session-given, tree-given, open-given}
 use Rattle.demands.specs.LockWords.{Released, Unnamed, Releasing, all-released, one-unnamed, release-means, released-is, unnamed-is, released-was, PastEnd, past-means, past_is, one-past, AllGranted, OneBlocked, Opened, Granting, all-granted, one-blocked, grant-means, granted-is, blocked-is, none-to-release, none-released, none-unnamed, one-released, one-names-none, names-none, none-to-grant, grant-then, none-granted, blocked-here, none-blocked, one-barred, one_more, one-granted}
 use Rattle.demands.specs.WritingReasons.{WritingStatus, conflicts-status, other-status, writing-reason, writing-given}
 use Rattle.demands.specs.OpenReasons.{OpenStatus, opening-reason, opening-given}
@@ -228,11 +228,11 @@ module _ (c : Caller) (t : Tables) (memory : List ℕ) (ok : sound t ≡ true) w
 
     read-refused : eqb read-open.access 1 ≡ true → do_read c t memory f ≡ refused NoAccess
     unfolding do_read
-    read-refused e = with_open c t f.fid k _ may ∙ rw e
+    read-refused e = with-open c t f.fid k _ may ∙ rw e
 
     read_is : eqb read-open.access 1 ≡ false → do_read c t memory f ≡ unless_barred t (barring t (ask_by c f.fid f.offset f.max Reading)) read-end
     unfolding do_read
-    read_is e = with_open c t f.fid k _ may ∙ rw e
+    read_is e = with-open c t f.fid k _ may ∙ rw e
 
     module _ (e : eqb read-open.access 1 ≡ false) where
       -- a lock is in the way, or the read is done
@@ -328,7 +328,7 @@ module _ (c : Caller) (t : Tables) (memory : List ℕ) (ok : sound t ≡ true) w
     locking-refused : (k : ℕ) → May c t f.fid k → served_type f.kind ≡ false → status_in (do_locking c t memory f area) ≡ status 2 65535
     unfolding do_locking status_in forms_of
     locking-refused k may e =
-        let g : do_locking c t memory f area ≡ refused LockType = with_open c t f.fid k _ may ∙ rw e in
+        let g : do_locking c t memory f area ≡ refused LockType = with-open c t f.fid k _ may ∙ rw e in
         ap status_in g
 
     -- the request, with what its unlocks give
@@ -339,7 +339,7 @@ module _ (c : Caller) (t : Tables) (memory : List ℕ) (ok : sound t ≡ true) w
         → status_in (do_locking c t memory f area) ≡ after-unlocks (release_all file-of f.fid (unlocks_in c f area) (locks_of t))
     unfolding do_locking request_of locking ranges_of request
     locking-is k may e =
-        ap status_in (with_open c t f.fid k _ may
+        ap status_in (with-open c t f.fid k _ may
         ∙ rw (e, eq-eqb (length area) ((f.unlocks + f.locks) * range_size (eqb (f.kind / 16 % 2) 1)) announced))
 
     module _ {o : Open} (a : Admitted c t f.fid o) (bits : OnlyTwoBits f.kind) where
@@ -420,14 +420,14 @@ module _ (c : Caller) (t : Tables) (memory : List ℕ) (ok : sound t ≡ true) w
   close-reason fid next zero =
       elim (open-or c t fid) [
         | inl h ↦ rw (open-given c t fid next h.1) (close-not h.1)
-        | inr (k, may, a) ↦ rw (with_open c t fid k next may, zero (get_or (opens_of t) k no_open)) (close-done a)
+        | inr (k, may, a) ↦ rw (with-open c t fid k next may, zero (get_or (opens_of t) k no_open)) (close-done a)
       ]
 
   close-given : (fid : ℕ) (next : Open → Given) → ((o : Open) → status_in (next o) ≡ status 0 0) → {n : Status} → CloseStatus c t fid n → status_in (with_open c t fid next) ≡ n
   close-given fid next zero (close-not h) = open-given c t fid next h
   close-given fid next zero (close-done {o} a) =
       let m = admitted-may c t fid ok o a in
-      ap status_in (with_open c t fid m.0 next m.1) ∙ zero (get_or (opens_of t) m.0 no_open)
+      ap status_in (with-open c t fid m.0 next m.1) ∙ zero (get_or (opens_of t) m.0 no_open)
 
   session-reason : (next : Given) → status_in next ≡ status 0 0 → SessionStatus c t (status_in (with_session c t next))
   session-reason next zero =

@@ -75,6 +75,8 @@ pub stands-in : {s : List ℕ} {command at : ℕ} {spans : List Span} → Readin
 unfolding span_at
 stands-in (plain_end h p) low x (first e) = rw e (record { is_block = h; so-long = refl; behind = low })
 stands-in (andx-end h a f) low x (first e) = rw e (record { is_block = h; so-long = refl; behind = low })
+stands-in (plain_end h p) low x (later i) = elim i [ ]
+stands-in (andx-end h a f) low x (later i) = elim i [ ]
 stands-in (andx-next h m g r) low x (first e) = rw e (record { is_block = h; so-long = refl; behind = low })
 stands-in (andx-next h m g r) low x (later i) = stands-in r (omega arith) x i
 

@@ -34,7 +34,7 @@ use Rattle.claims.specs.StatusList.{none-zero}
 use Rattle.demands.specs.StatusRead.{status_read}
 use Rattle.demands.specs.Calls.{sentence-answered}
 use Rattle.demands.specs.RefusedCall.{gives, first-refused}
-use Rattle.demands.specs.Admitted.{Admitted, NoSessionFor, no-session, NoTreeFor, before-tree, no-tree, NoOpenFor, before-open, no-open, session-or, tree-or, open-or, with-session, with-tree, with_open, session-given, tree-given, open-given}
+use Rattle.demands.specs.Admitted.{Admitted, NoSessionFor, no-session, NoTreeFor, before-tree, no-tree, NoOpenFor, before-open, no-open, session-or, tree-or, open-or, with-session, with-tree, with-open, session-given, tree-given, open-given}
 
 -- ---- from the call to its command
 
@@ -128,5 +128,5 @@ module _ (c : Caller) (t : Tables) {u : Tables} {m : List ℕ} {said : Said} whe
   past_open fid next e =
       elim (open-or c t fid) [
         | inl h ↦ coded-not-done h.0 (open_code h.1) (sym (open-given c t fid next h.1) ∙ ap status_in e)
-        | inr h ↦ (get_or (opens_of t) h.0 no_open, h.2, sym (with_open c t fid h.0 next h.1) ∙ e)
+        | inr h ↦ (get_or (opens_of t) h.0 no_open, h.2, sym (with-open c t fid h.0 next h.1) ∙ e)
       ]

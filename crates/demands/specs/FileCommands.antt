@@ -31,7 +31,7 @@ use Rattle.message.specs.Message.{area_of, data_of}
 use Rattle.invariants.specs.Sound.{Good}
 use Rattle.demands.specs.Malformed.{length-area}
 use Rattle.demands.specs.MemorySize.{write-ends}
-use Rattle.demands.specs.Admitted.{Admitted, admitted-may, with_open}
+use Rattle.demands.specs.Admitted.{Admitted, admitted-may, with-open}
 use Rattle.demands.specs.FileBytes.{Wrote, written-bytes, read_length, read_byte, resized-size, resized-number, resized-others, resized-records, written-nothing, resized-nothing}
 
 -- "It yields the file's bytes in the range below its size", z being the size: so many, and which
@@ -85,7 +85,7 @@ module _ (c : Caller) (t : Tables) (memory : List ℕ) (full : length memory ≡
   unfolding do_read
   read_left {said} f o a e =
       let w = admitted-may c t f.fid g.sound o a in
-      let h = not-refused (eqb (get_or (opens_of t) w.0 no_open).access 1) NoAccess _ (sym (with_open c t f.fid w.0 _ w.1) ∙ e) in
+      let h = not-refused (eqb (get_or (opens_of t) w.0 no_open).access 1) NoAccess _ (sym (with-open c t f.fid w.0 _ w.1) ∙ e) in
       let d : done (with_read t f.fid (changes_of t (get_or (opens_of t) w.0 no_open).file)) memory (read (read_bytes t memory (get_or (opens_of t) w.0 no_open).file f.offset f.max)) ≡ done u m said =
       not-barred t _ _ h.1 in
       let d' : done (with_read t f.fid (changes_of t o.file)) memory (read (read_bytes t memory o.file f.offset f.max)) ≡ done u m said = rw w.2 at d in
@@ -106,7 +106,7 @@ module _ (c : Caller) (t : Tables) (memory : List ℕ) (full : length memory ≡
       → (past ≡ false) × (next o ≡ done u m said)
   writing-left fid ask past next o a e =
       let w = admitted-may c t fid g.sound o a in
-      let h = not-refused (eqb (get_or (opens_of t) w.0 no_open).access 0) NoAccess _ (sym (with_open c t fid w.0 _ w.1) ∙ e) in
+      let h = not-refused (eqb (get_or (opens_of t) w.0 no_open).access 0) NoAccess _ (sym (with-open c t fid w.0 _ w.1) ∙ e) in
       let s = not-refused past NoSpace _ (not-barred t _ _ h.1) in
       (s.0, rw w.2 at s.1)
 

@@ -1,7 +1,7 @@
 -- Refusals for conflict and the status of a message with its one reason (document 01, "Locks, reads and writes" and "Refusals on the wire"; document 02, CR 3), said of the
 -- call and of the message's bytes: of any reading for the first command, and of a reading of one block for every status. Assumes nothing.
 use Rattle.std.specs.Prelude.{◌≡◌, ◌↔◌, ℕ, ◌/◌, ◌%◌, false, List, [], ◌∷◌, get_or, eqb}
-use Rattle.std.proofs.Math.Logic.{Iff·trans}
+use Rattle.std.proofs.Math.Logic.Iff
 use Rattle.std.proofs.Math.ListN.{drop}
 use Rattle.std.proofs.Common.{eq-eqb, ne_eqb}
 use Rattle.records.specs.declared.Open.{Open}
@@ -103,8 +103,8 @@ module _ (connection : ℕ) (s : List ℕ) {spans : List Span} (r : Reading s sp
   pub first-core-read-reading : header_command s ≡ CORE-READ → (o.access ≡ 1 → ⊥) → FirstConflict (take-message connection s t memory room) ↔ BarsCoreReadOn s t o
   unfolding body_at perform caller_of
   first-core-read-reading e access =
-      Iff·trans (first_by CORE-READ e)
-      (Iff·trans (core-conflict (do_read caller t memory (core_read_fields s)))
+      Iff.trans (first_by CORE-READ e)
+      (Iff.trans (core-conflict (do_read caller t memory (core_read_fields s)))
       (rw its-open.2 at (read-conflict caller t memory its-open.0 fit.tables-sound (core_read_fields s) its-open.1 (its-access 1 access))))
 
   -- a core WRITE of some bytes "exactly if any lock overlaps it save the writer's own exclusive ones"
@@ -113,8 +113,8 @@ module _ (connection : ℕ) (s : List ℕ) {spans : List Span} (r : Reading s sp
   unfolding body_at perform do_core_write caller_of
   first-core-write-reading e some access =
       let bytes = drop 3 (area_of s (reading-first r).1.block) in
-      Iff·trans (rw (ne_eqb (core_count s FIRST) 0 some) at (first_by CORE-WRITE e))
-      (Iff·trans (core-conflict (do_write caller t memory (core_write_fields s) bytes))
+      Iff.trans (rw (ne_eqb (core_count s FIRST) 0 some) at (first_by CORE-WRITE e))
+      (Iff.trans (core-conflict (do_write caller t memory (core_write_fields s) bytes))
       (rw its-open.2 at (write-conflict caller t memory its-open.0 fit.tables-sound (core_write_fields s) bytes its-open.1 (its-access 0 access))))
 
   -- and one of count 0 exactly if such a lock overlaps the bytes between the file's size and the offset
@@ -122,7 +122,7 @@ module _ (connection : ℕ) (s : List ℕ) {spans : List Span} (r : Reading s sp
       → FirstConflict (take-message connection s t memory room) ↔ BarsSizeOn s t o
   unfolding body_at perform do_core_write caller_of
   first-set-size-reading e none access =
-      Iff·trans (rw (eq-eqb (core_count s FIRST) 0 none) at (first_by CORE-WRITE e))
+      Iff.trans (rw (eq-eqb (core_count s FIRST) 0 none) at (first_by CORE-WRITE e))
       (rw its-open.2 at (size-conflict caller t memory its-open.0 fit.tables-sound (core_write_fields s) its-open.1 (its-access 0 access)))
 
   -- "A lock alone in its request, of a served type, on a valid open and within range, is refused for conflict exactly when a listed lock of that file overlaps it and the two
@@ -130,7 +130,7 @@ module _ (connection : ℕ) (s : List ℕ) {spans : List Span} (r : Reading s sp
   pub first-lock-reading : header_command s ≡ LOCK_BYTE_RANGE → FirstConflict (take-message connection s t memory room) ↔ BarsRangeOn s t o
   unfolding body_at perform
   first-lock-reading e =
-      Iff·trans (first_by LOCK_BYTE_RANGE e)
+      Iff.trans (first_by LOCK_BYTE_RANGE e)
       (rw its-open.2 at (range-conflict caller t memory its-open.0 fit.tables-sound (range_fields s FIRST) its-open.1))
 
 -- ---- a reading of one block

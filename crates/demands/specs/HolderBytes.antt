@@ -42,6 +42,7 @@ stands-some {h = h} w =
 -- the first ranges of a request are ranges of it
 among : (f : LockRange → LockRange) (large : Bool) (area : List ℕ) (k m n : ℕ) → m ≤ n → {r : LockRange} → In r (map f (ranges_at large area k m)) → In r (map f (ranges_at large area k n))
 unfolding ranges_at
+among f large area k zero n low i = elim i [ ]
 among f large area k (suc m) zero low i = absurd (omega arith)
 among f large area k (suc m) (suc n) low i = elim (first-or-later i) [ inl e ↦ here e | inr more ↦ there (among f large area (suc k) m n (omega arith) more) ]
 

@@ -3,7 +3,8 @@
 use Rattle.std.specs.Prelude.{◌≡◌, ◌↔◌, ℕ, ◌+◌, ◌*◌, ◌/◌, ◌%◌, ◌<◌, Bool, length, drop, get_or, leb, ltb, eqb}
 use Rattle.std.proofs.Math.Path.{refl, sym, ap}
 use Rattle.std.proofs.Common.{◌∙◌}
-use Rattle.std.proofs.Math.Logic.{inl, inr, Iff·trans}
+use Rattle.std.proofs.Math.Logic.{inl, inr}
+use Rattle.std.proofs.Math.Logic.Iff
 use native.Mathlib.Omega.{arith}
 use Rattle.std.proofs.Math.Bool.{true, false, cond}
 use mathlib.Core.List.{List, Memᴰ as In}
@@ -44,7 +45,7 @@ use Rattle.message.specs.declared.refusal.Refusal.TheVariants.{NoAccess, NoSpace
 use Rattle.message.specs.declared.refusal.HeldBy.TheVariants.{Holder as held_by}
 use Rattle.message.specs.Command.{Given, refused, done, with_open, served_type, request_of, locking_end, locking_after, do_locking, ask_by, unless_barred, barring, do_read, writing, ends_past, do_write, as_core, range_by, one_range, do_range, between_sizes, do_set_size, do_core_write, perform}
 use Rattle.demands.specs.LoneLock.{held_in, May, lower_size, sizes_apart, shared_in, read-bars, write-bars}
-use Rattle.demands.specs.Admitted.{Admitted, no-session, before-tree, no-tree, NoOpenFor, before-open, no-open, admitted-may, open-or, with_open, open-given}
+use Rattle.demands.specs.Admitted.{Admitted, no-session, before-tree, no-tree, NoOpenFor, before-open, no-open, admitted-may, open-or, with-open, open-given}
 use Rattle.demands.specs.LockWords.{never, Released, Releasing, all-released, one-unnamed, release-means, released-is, released-was, past-means, past_is, Opened}
 use Rattle.demands.specs.WritingReasons.{conflicts-status}
 use Rattle.demands.specs.CommandReasons.{Announced, OnlyTwoBits, served-exact, unlocks_in, locks_in}
@@ -118,11 +119,11 @@ module _ (c : Caller) (t : Tables) (memory : List ℕ) (ok : sound t ≡ true) w
         λ e. elim (open-or c t fid) [
           | inl no_one ↦ not-asked fid transfer no_one.1 h e
           | inr (k, may, a) ↦
-              transfer-may (get_or (opens_of t) k no_open) a (eqb (get_or (opens_of t) k no_open).access denied) refl (sym (ap held_in (with_open c t fid k transfer may)) ∙ e)
+              transfer-may (get_or (opens_of t) k no_open) a (eqb (get_or (opens_of t) k no_open).access denied) refl (sym (ap held_in (with-open c t fid k transfer may)) ∙ e)
         ],
         λ r. let m = admitted-may c t fid ok r.through r.admitted in
             let p = first-place (answers (file_of (opens_of t)) (ask r.through)) (locks_of t) (way-exact r.admitted) r.first in
-            ap held_in (with_open c t fid m.0 transfer m.1)
+            ap held_in (with-open c t fid m.0 transfer m.1)
             ∙ rw (m.2, ne_eqb r.through.access denied r.access, p.0) (ap held_by p.1),
       )
 
@@ -169,7 +170,7 @@ module _ (c : Caller) (t : Tables) (memory : List ℕ) (ok : sound t ≡ true) w
         → do_locking c t memory f area ≡ after-unlocks (release_all files f.fid (unlocks_in c f area) (locks_of t))
     unfolding do_locking request_of locking request ranges_of
     locking-is k may e =
-        with_open c t f.fid k _ may ∙ rw (e, eq-eqb (length area) ((f.unlocks + f.locks) * range_size (eqb (f.kind / 16 % 2) 1)) announced)
+        with-open c t f.fid k _ may ∙ rw (e, eq-eqb (length area) ((f.unlocks + f.locks) * range_size (eqb (f.kind / 16 % 2) 1)) announced)
 
     -- the grants that have a holder are those blocked by it
     grants-name : (x : Grants) → Names (ends (after_grants x)) h → x ≡ blocked h
@@ -203,7 +204,7 @@ module _ (c : Caller) (t : Tables) (memory : List ℕ) (ok : sound t ≡ true) w
         elim (decided (served_type f.kind)) [
           | inl b ↦ releases-name a ((served-exact f.kind).0 b) (release_all files f.fid (unlocks_in c f area) (locks_of t))
               (release-means files f.fid (unlocks_in c f area) (locks_of t)) (sym (ap held_in (locking-is k may b)) ∙ e)
-          | inr b ↦ let w = sym (ap held_in (with_open c t f.fid k _ may)) ∙ e in let z = rw b at w in never cc
+          | inr b ↦ let w = sym (ap held_in (with-open c t f.fid k _ may)) ∙ e in let z = rw b at w in never cc
         ]
 
     locking-exact : Names (do_locking c t memory f area) h ↔ LockHeld c t f area h
@@ -235,7 +236,7 @@ module _ (c : Caller) (t : Tables) (memory : List ℕ) (ok : sound t ≡ true) w
   unfolding do_core_write
   core-write-exact f bytes h =
       let size = size_exact f h in
-      let some = Iff·trans (core-names (do_write c t memory f bytes) h) (write-exact f bytes h) in (
+      let some = Iff.trans (core-names (do_write c t memory f bytes) h) (write-exact f bytes h) in (
         cond-case (λ (g : Given). Names g h → CoreWriteHeld c t f h) (eqb f.count 0) (do_set_size c t memory f) (as_core (do_write c t memory f bytes))
             (λ z e. size-held (eqb-true f.count 0 z) (size.0 e)) (λ z e. write-held (eqb-false f.count 0 z) (some.0 e)),
         λ r. elim r [ write-held n x ↦ rw (ne_eqb f.count 0 n) (some.1 x) | size-held z x ↦ rw (eq-eqb f.count 0 z) (size.1 x) ],
@@ -247,7 +248,7 @@ module _ (c : Caller) (t : Tables) (memory : List ℕ) (ok : sound t ≡ true) w
   unfolding do_range one_range small_form range_size
   one-range f unlocks locks one h =
       let area = small_form (range_by c f) in
-      Iff·trans (core-names (do_locking c t memory (one_range f unlocks locks) area) h) (locking-exact (one_range f unlocks locks) area (rw one refl) h)
+      Iff.trans (core-names (do_locking c t memory (one_range f unlocks locks) area) h) (locking-exact (one_range f unlocks locks) area (rw one refl) h)
 
   -- ---- all twelve
 
@@ -264,10 +265,10 @@ module _ (c : Caller) (t : Tables) (memory : List ℕ) (ok : sound t ≡ true) w
   perform-held Logoff area bytes k h = (session-case (λ (g : Given). Names g h → ⊥) c t _ (λ e. never cc) (λ _ e. never cc), λ r. absurd r)
   perform-held TreeDisconnect area bytes k h = (tree-case (λ (g : Given). Names g h → ⊥) c t _ (λ e. never cc) (λ e. never cc) (λ e. never cc), λ r. absurd r)
   perform-held ProcessExit area bytes k h = (session-case (λ (g : Given). Names g h → ⊥) c t _ (λ e. never cc) (λ _ e. never cc), λ r. absurd r)
-  perform-held (CoreReadBody f) area bytes k h = Iff·trans (core-names (do_read c t memory f) h) (read-exact f h)
+  perform-held (CoreReadBody f) area bytes k h = Iff.trans (core-names (do_read c t memory f) h) (read-exact f h)
   perform-held (CoreWriteBody f) area bytes k h = core-write-exact f (drop 3 area) h
-  perform-held (LockByteRange f) area bytes k h = Iff·trans (one-range f 0 1 refl h) (range-held c t ok f h)
-  perform-held (UnlockByteRange f) area bytes k h = Iff·trans (one-range f 1 0 refl h) (λ r. let none : r.held.granted < 0 = r.held.fewer in omega arith, λ r. absurd r)
+  perform-held (LockByteRange f) area bytes k h = Iff.trans (one-range f 0 1 refl h) (range-held c t ok f h)
+  perform-held (UnlockByteRange f) area bytes k h = Iff.trans (one-range f 1 0 refl h) (λ r. let none : r.held.granted < 0 = r.held.fewer in omega arith, λ r. absurd r)
   perform-held (OpenBody f) area bytes k h = (
     opening-case (λ (g : Given). Names g h → ⊥) c t memory f _ (λ e. never cc) (λ e. never cc) (λ e. never cc) (λ e. never cc) (λ e. never cc) (λ e. never cc) (λ e. never cc)
         (λ e. never cc) (λ j _ e. never cc),

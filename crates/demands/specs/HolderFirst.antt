@@ -3,7 +3,7 @@
 use Rattle.std.specs.Prelude.{◌≡◌, ◌↔◌, ℕ, ◌%◌, false, List, [], ◌∷◌}
 use Rattle.std.proofs.Common.{sym, ◌∙◌, arith}
 use Rattle.std.proofs.Math.Path.{ap}
-use Rattle.std.proofs.Math.Logic.{Iff·trans}
+use Rattle.std.proofs.Math.Logic.Iff
 use Rattle.std.proofs.Math.Option.{some}
 use Rattle.records.specs.declared.Open.{Open}
 use Rattle.records.specs.declared.Tables.{Tables}
@@ -119,14 +119,14 @@ module _ (connection : ℕ) (s : List ℕ) {spans : List Span} (r : Reading s sp
       → FirstMeets (call connection s t memory room) h
       ↔ FirstInWay t o (locks_of t) (read_from s) (read_max s FIRST) (λ l. (l.shared ≡ false) × (Owner (fid_after_andx s FIRST) (sender_process s) l → ⊥)) h
   unfolding body_at wide_offset caller_of CommandHeld
-  read_first e may = Iff·trans (first_by connection s r t memory room fit h READ e) (through-exact fit.tables-sound valid may)
+  read_first e may = Iff.trans (first_by connection s r t memory room fit h READ e) (through-exact fit.tables-sound valid may)
 
   -- where WRITE is, on an open that may be written: the first of any that overlap it "save the writer's own exclusive ones"
   pub write-first : header_command s ≡ WRITE → (o.access ≡ 0 → ⊥)
       → FirstMeets (call connection s t memory room) h
       ↔ FirstInWay t o (locks_of t) (write_from s) (data_length s FIRST) (λ l. (l.shared ≡ false) × Owner (fid_after_andx s FIRST) (sender_process s) l → ⊥) h
   unfolding body_at wide_offset caller_of CommandHeld
-  write-first e may = Iff·trans (first_by connection s r t memory room fit h WRITE e) (through-exact fit.tables-sound valid may)
+  write-first e may = Iff.trans (first_by connection s r t memory room fit h WRITE e) (through-exact fit.tables-sound valid may)
 
   -- "A lock alone in its request, of a served type, on a valid open and within range": the first "listed lock of that file" that "overlaps it and the two aren't both
   -- shared"
@@ -135,7 +135,7 @@ module _ (connection : ℕ) (s : List ℕ) {spans : List Span} (r : Reading s sp
   unfolding body_at CommandHeld
   lone-lock-first e none_out one bits low =
       let ok = fit.tables-sound in
-      Iff·trans (first_by connection s r t memory room fit h LOCKING e)
+      Iff.trans (first_by connection s r t memory room fit h LOCKING e)
       (lone-first ok (locking_fields s) (locking_area s) valid none_out one, first-lone ok (locking_fields s) (locking_area s) valid none_out one bits low)
 
 -- ---- the core commands (document 02, CR 3), whose FID is the first word
@@ -150,14 +150,14 @@ module _ (connection : ℕ) (s : List ℕ) {spans : List Span} (r : Reading s sp
       → FirstMeets (call connection s t memory room) h
       ↔ FirstInWay t o (locks_of t) (core_offset s FIRST) (core_count s FIRST) (λ l. (l.shared ≡ false) × (Owner (first_fid s FIRST) (sender_process s) l → ⊥)) h
   unfolding body_at caller_of CommandHeld
-  core-read-first e may = Iff·trans (by-command CORE-READ e) (through-exact fit.tables-sound valid may)
+  core-read-first e may = Iff.trans (by-command CORE-READ e) (through-exact fit.tables-sound valid may)
 
   -- a core WRITE of some bytes, on an open that may be written: the first of any that overlap it "save the writer's own exclusive ones"
   pub core-write-first : header_command s ≡ CORE-WRITE → (core_count s FIRST ≡ 0 → ⊥) → (o.access ≡ 0 → ⊥)
       → FirstMeets (call connection s t memory room) h
       ↔ FirstInWay t o (locks_of t) (core_offset s FIRST) (core_count s FIRST) (λ l. (l.shared ≡ false) × Owner (first_fid s FIRST) (sender_process s) l → ⊥) h
   unfolding body_at caller_of CommandHeld
-  core-write-first e more may = Iff·trans (by-command CORE-WRITE e) (some_written fit.tables-sound (core_write_fields s) valid may more)
+  core-write-first e more may = Iff.trans (by-command CORE-WRITE e) (some_written fit.tables-sound (core_write_fields s) valid may more)
 
   -- one of count 0: the first of these that overlaps the bytes between the file's size and the offset
   pub set-size-first : header_command s ≡ CORE-WRITE → core_count s FIRST ≡ 0 → (o.access ≡ 0 → ⊥)
@@ -165,10 +165,10 @@ module _ (connection : ℕ) (s : List ℕ) {spans : List Span} (r : Reading s sp
       ↔ FirstInWay t o (locks_of t) (lower_size t (core_offset s FIRST) o) (sizes_apart t (core_offset s FIRST) o)
       (λ l. (l.shared ≡ false) × Owner (first_fid s FIRST) (sender_process s) l → ⊥) h
   unfolding body_at caller_of CommandHeld
-  set-size-first e none may = Iff·trans (by-command CORE-WRITE e) (size-set fit.tables-sound (core_write_fields s) valid may none)
+  set-size-first e none may = Iff.trans (by-command CORE-WRITE e) (size-set fit.tables-sound (core_write_fields s) valid may none)
 
   -- a LOCK_BYTE_RANGE: the first "listed lock of that file" that "overlaps it"
   pub core-lock-first : header_command s ≡ LOCK_BYTE_RANGE
       → FirstMeets (call connection s t memory room) h ↔ FirstInWay t o (locks_of t) (range_offset s FIRST % 4294967296) (range_length s FIRST % 4294967296) AnyLock h
   unfolding body_at CommandHeld
-  core-lock-first e = Iff·trans (by-command LOCK_BYTE_RANGE e) (range-through fit.tables-sound (range_fields s FIRST) valid)
+  core-lock-first e = Iff.trans (by-command LOCK_BYTE_RANGE e) (range-through fit.tables-sound (range_fields s FIRST) valid)

@@ -3,7 +3,7 @@
 use Rattle.std.specs.Prelude.{◌≡◌, ◌↔◌, ℕ, ◌+◌, ◌*◌, ◌%◌, ◌≤◌, ◌<◌, true, length}
 use Rattle.std.proofs.Common.{sym, ◌∙◌, arith}
 use Rattle.std.proofs.Math.Path.{subst}
-use Rattle.std.proofs.Math.Logic.{Iff·trans}
+use Rattle.std.proofs.Math.Logic.Iff
 use mathlib.Core.List.{List, Memᴰ as In}
 use borrow.Author.Tests.{eqb-true, eq-eqb}
 use Rattle.records.specs.declared.Open.{Open}
@@ -155,7 +155,7 @@ module _ (connection : ℕ) (s : List ℕ) {spans : List Span} (r : Reading s sp
   unfolding body_at CommandHeld
   lock-first =
       let fits = locking-fits (reading-first r).1 e in
-      Iff·trans (first_by connection s r t memory room fit h LOCKING e) (to-wire connection s t h fits, from-wire connection s t h fits)
+      Iff.trans (first_by connection s r t memory room fit h LOCKING e) (to-wire connection s t h fits, from-wire connection s t h fits)
 
   -- an own earlier range as holder: the request's FID and that range's process
   pub lock-own : (k : LockHeldOn connection s t h) → length k.left ≤ h.place → OwnRangeOn s (unlock_count s FIRST) k.granted h.lock

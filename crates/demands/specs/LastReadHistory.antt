@@ -410,8 +410,8 @@ module _ (t : Tables) (memory : List ℕ) (reads : Reads) (g : Good t) (k : Kept
   pub up-to-date-was : UpToDate t o → AsItWas t memory reads o
   up-to-date-was u = let w = k.each o listed u.has-read in by-changed w.0 w.1 w.2 u
 
-  with_read : o.read ≡ true → (r : LastRead) → reads o.fid ≡ some r → Agrees t memory o r → (UpToDate t o → ⊥) → ReadAgain t reads o
-  with_read read r e a n =
+  with-read : o.read ≡ true → (r : LastRead) → reads o.fid ≡ some r → Agrees t memory o r → (UpToDate t o → ⊥) → ReadAgain t reads o
+  with-read read r e a n =
       test-cases r.changed (λ c. changed-since r e a.its-file c)
       (λ c. elim (dec_lt (changes_of t o.file) LARGEST) [
         | yes h ↦ absurd (n (record { has-read = read; equal = (a.fresh c).0; below = h }))
@@ -419,4 +419,4 @@ module _ (t : Tables) (memory : List ℕ) (reads : Reads) (g : Good t) (k : Kept
       ])
 
   pub out-of-date-why : (UpToDate t o → ⊥) → ReadAgain t reads o
-  out-of-date-why n = test-cases o.read (λ read. let w = k.each o listed read in with_read read w.0 w.1 w.2 n) (λ not-read. never-read (k.unread o listed not-read))
+  out-of-date-why n = test-cases o.read (λ read. let w = k.each o listed read in with-read read w.0 w.1 w.2 n) (λ not-read. never-read (k.unread o listed not-read))

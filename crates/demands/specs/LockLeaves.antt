@@ -25,7 +25,7 @@ use Rattle.message.specs.declared.caller.Caller.{Caller}
 use Rattle.message.specs.declared.refusal.Refusal.{Refusal}
 use Rattle.message.specs.declared.refusal.Refusal.TheVariants.{LockType}
 use Rattle.message.specs.Command.{Given, Said, locked, plain, refused, done, served_type, request_of, with_lock_list, locking_end, locking_after, do_locking, core_said, range_by, one_range, do_range}
-use Rattle.demands.specs.Admitted.{Admitted, admitted-may, with_open}
+use Rattle.demands.specs.Admitted.{Admitted, admitted-may, with-open}
 use Rattle.demands.specs.LockWords.{never, TakenOut, Released, none-released, one-released, Releasing, all-released, one-unnamed, release-means, released-was, AllGranted, none-granted, one-granted, Opened, Granting, all-granted, one-blocked, grant-means}
 use Rattle.demands.specs.LoneLock.{core_range, BarsRange, shared_in, range_back, exclusive-way}
 use Rattle.demands.specs.CommandReasons.{unlocks_in, locks_in}
@@ -115,7 +115,7 @@ module _ (c : Caller) (t : Tables) (memory : List ℕ) (ok : sound t ≡ true) {
   unfolding do_locking request_of locking ranges_of request
   locking-leaves announced e =
       let w = admitted-may c t f.fid ok o a in
-      let h = test-passed (served_type f.kind) LockType _ (sym (with_open c t f.fid w.0 _ w.1) ∙ e) in
+      let h = test-passed (served_type f.kind) LockType _ (sym (with-open c t f.fid w.0 _ w.1) ∙ e) in
       releases-left (release_all (file-of t) f.fid (unlocks_in c f area) (locks_of t)) (release-means (file-of t) f.fid (unlocks_in c f area) (locks_of t))
       (rw (eq-eqb (length area) ((f.unlocks + f.locks) * range_size (eqb (f.kind / 16 % 2) 1)) announced) at h)
 

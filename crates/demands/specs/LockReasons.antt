@@ -123,6 +123,7 @@ module _ (s : List ℕ) where
 
     fails-from : (k m : ℕ) {list : List Lock} → k + m ≤ n → Unnamed (fid_after_andx s FIRST) (ranges_in s k m) list → UnlockFails s k m list
     unfolding ranges_at
+    fails-from k zero h fails = elim fails [ ]
     fails-from k (suc m) h (names-none f) = unlock-none (range-on s n fits k (omega arith)) f
     fails-from k (suc m) h (later-names-none out more) = unlock-later (range-on s n fits k (omega arith)) out (fails-from (suc k) m (omega arith) more)
 
@@ -146,6 +147,7 @@ module _ (s : List ℕ) where
 
     pub ranges_in_lem : (k m : ℕ) {r : LockRange} → In r (ranges_in s k m) → (j : ℕ) × (k ≤ j) × (j < k + m) × (r ≡ range_in s j)
     unfolding ranges_at
+    ranges_in_lem k zero i = elim i [ ]
     ranges_in_lem k (suc m) i =
         elim (first-or-later i) [
           | inl e ↦ (k, omega arith, omega arith, e)
@@ -183,6 +185,7 @@ module _ (s : List ℕ) where
 
       blocked-from : (k m : ℕ) {list : List Lock} → k + m ≤ n → OneBlocked t o (fid_after_andx s FIRST) (shared_in (locking_fields s)) (ranges_in s k m) list → LockBlocked s t o k m list
       unfolding ranges_at lock_of
+      blocked-from k zero h blocked = elim blocked [ ]
       blocked-from k (suc m) h (blocked-here bar) = blocked-now (range-on s n fits k (omega arith)) (granted-lock s n fits (range_in s k)) bar
       blocked-from k (suc m) h (blocked-later free more) =
           blocked-then (range-on s n fits k (omega arith)) (granted-lock s n fits (range_in s k)) free (blocked-from (suc k) m (omega arith) more)

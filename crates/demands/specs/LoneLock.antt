@@ -181,9 +181,9 @@ module _ (c : Caller) (t : Tables) (fid k : ℕ) (may : May c t fid k) where
   asked = get_or (opens_of t) k no_open
 
   -- the caller's questions are passed
-  with_open : (next : Open → Given) → with_open c t fid next ≡ next asked
+  with-open : (next : Open → Given) → with_open c t fid next ≡ next asked
   unfolding with_open with_tree with_session open_at
-  with_open next = rw (may.session, may.tree, may.named)
+  with-open next = rw (may.session, may.tree, may.named)
 
   module _ (ok : sound t ≡ true) where
     file-asked : file_of (opens_of t) fid ≡ asked.file
@@ -248,7 +248,7 @@ module _ (c : Caller) (t : Tables) (memory : List ℕ) (k : ℕ) (ok : sound t �
       ↔ InWay t (asked c t f.fid k may) (locks_of t) f.offset f.max (λ l. (l.shared ≡ false) × (Owner f.fid c.process l → ⊥))
   unfolding do_read barring ask_by answers answers_for bars
   read-conflict f may access =
-      rw (with_open c t f.fid k may, access) (
+      rw (with-open c t f.fid k may, access) (
         λ h. let e = (unless-exact _ _ _ (done-not _ _ _)).0 h in
             hit-way c t f.fid k may ok (ask_by c f.fid f.offset f.max Reading) refl _ (read-bars (ask_by c f.fid f.offset f.max Reading)) (λ l. refl) e.0 e.1 no_lock,
         λ w. (unless-exact _ _ _ (done-not _ _ _)).1
@@ -265,7 +265,7 @@ module _ (c : Caller) (t : Tables) (memory : List ℕ) (k : ℕ) (ok : sound t �
         let o = asked c t fid k may in
         let q = ask_by c fid (from o) (size o) Writing in
         let n : Conflicts (cond past (refused NoSpace) (next o)) → ⊥ = cond-case (λ (g : Given). Conflicts g → ⊥) past (refused NoSpace) (next o) (λ _. space-not) (λ _. others o) in
-        rw (with_open c t fid k may, access) (
+        rw (with-open c t fid k may, access) (
           λ h. let e = (unless-exact _ _ _ n).0 h in hit-way c t fid k may ok q refl _ (write-bars q) (λ l. refl) e.0 e.1 no_lock,
           λ w. (unless-exact _ _ _ n).1 (way-hit c t fid k may ok q refl _ (write-bars q) (λ l. refl) w),
         )
@@ -314,7 +314,7 @@ module _ (c : Caller) (t : Tables) (memory : List ℕ) (k : ℕ) (ok : sound t �
   unfolding do_locking request_of locking ranges_of request release_all after_releases grant_all ranges_at any range_passes of_header
   lone_is u l s n low =
       let e : eqb (length area) (1 * range_size (eqb (f.kind / 16 % 2) 1)) ≡ true = eq-eqb (length area) (1 * range_size (eqb (f.kind / 16 % 2) 1)) n in
-      rw (with_open c t f.fid k may, s, u, l, e, low)
+      rw (with-open c t f.fid k may, s, u, l, e, low)
 
   -- "Then locks in order, each against the list as it stands, the asker's own locks included": a lone lock is refused 1/33 exactly if a listed lock
   -- of that file overlaps it and the two are not both shared

@@ -198,7 +198,7 @@ asked-call (ask-catalogue names count full) t memory = set-catalogue names count
 asked-call (ask-unchanged fid) t memory = ask fid
 asked-call (ask-message connection s room) t memory = message connection s room
 
-pub call-asked : {t after : Tables} {memory left : List ℕ} → HostCall t memory after left → (a : Asked) × ((told a t memory).tables ≡ after) × (memory_left a t memory ≡ left)
+pub call-asked : {t : Tables} {memory : List ℕ} {after : Tables} {left : List ℕ} → HostCall t memory after left → (a : Asked) × ((told a t memory).tables ≡ after) × (memory_left a t memory ≡ left)
 unfolding told host_told message_told memory_left
 call-asked (add-session connection) = (ask-session connection, refl, refl)
 call-asked (add-tree uid right) = (ask-tree uid right, refl, refl)

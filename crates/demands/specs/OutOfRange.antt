@@ -171,7 +171,7 @@ module _ (given : List ℕ) where
   unfolding records_fit
   no-byte-unfit b =
       fails (table_fits name_limits 16 given) λ e.
-      let h = b.in_use in
+      let h = b.used in
       let k = b.in-room in
       let i : b.place < in_use given 16 = omega arith in
       let one = up_to-all (within name_limits) (record_at 14 given) (in_use given 16) b.place e i in

@@ -93,7 +93,7 @@ pub data HostCall (t : Tables) (memory : List ℕ) : Tables → List ℕ → Typ
       → HostCall t memory (take-message connection s t memory room).tables (take-message connection s t memory room).memory
 
 -- "Every call on sound tables leaves sound tables"
-pub call-good : {t after : Tables} {memory left : List ℕ} → HostCall t memory after left → Good t → Good after
+pub call-good : {t : Tables} {memory : List ℕ} {after : Tables} {left : List ℕ} → HostCall t memory after left → Good t → Good after
 call-good {t} (add-session c) g = add_session-good t g c
 call-good {t} (add-tree uid right) g = add_tree-good t g uid right
 call-good {t} (add-open uid tid process file access) g = add_open-good t g uid tid process file access
@@ -105,7 +105,7 @@ call-good {t} (ask fid) g = rw (ask-stands t fid) g
 call-good {t} {memory = memory} (message c s room) g = take-message-good c s t memory room g
 
 -- and the file memory lent as long as it was
-pub call-memory : {t after : Tables} {memory left : List ℕ} → HostCall t memory after left → Good t → length left ≡ length memory
+pub call-memory : {t : Tables} {memory : List ℕ} {after : Tables} {left : List ℕ} → HostCall t memory after left → Good t → length left ≡ length memory
 call-memory (add-session c) g = refl
 call-memory (add-tree uid right) g = refl
 call-memory (add-open uid tid process file access) g = refl

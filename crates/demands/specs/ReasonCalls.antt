@@ -14,7 +14,7 @@ use Rattle.chain.specs.declared.block.LockingFields.{LockingFields}
 use Rattle.chain.specs.declared.block.Body.TheVariants.{Locking as LockingBody}
 use Rattle.chain.specs.declared.block.Block.{Block}
 use Rattle.invariants.specs.BlockParse.{body_at, block_at}
-use Rattle.invariants.specs.Chained.{Chained, chained-end, read-chained}
+use Rattle.invariants.specs.Chained.{Chained, chained-end, chained_more, read-chained}
 use Rattle.message.specs.Caller.{caller_of}
 use Rattle.message.specs.Refusal.{status}
 use Rattle.message.specs.declared.refusal.Status.{Status}
@@ -70,6 +70,7 @@ given-status (done u m said) place t memory rest h = h _ _ u m
 pub one-announced : {s : List ℕ} {command at : ℕ} {b : Block} → Chained s command at (b ∷ []) → Announced b.body (area_of s b)
 unfolding block_at
 one-announced (chained-end h l) = block-announced h _ (length-area h _)
+one-announced (chained_more h l rest) = elim rest [ ]
 
 module _ (connection : ℕ) (s : List ℕ) (b : Block) (e : blocks s ≡ some (b ∷ [])) (t : Tables) (memory room : List ℕ) (fit : Fit s t memory room) where
   -- a message of one command has a status in its reply exactly for its reason

@@ -82,7 +82,7 @@ module _ (connection : ℕ) (s small : List ℕ) where
       → SentFit s small (last_returned connection s small just front t memory) b (calls connection s small just front t memory).tables (calls connection s small just front t memory).memory
   unfolding call_spans last_returned
   next-fit [] b later (fit_then f more) none-sent = f
-  next-fit {just} {t} {memory} (d ∷ front) b later (fit_then f more) (carried-then e rest) = behind-one just d front b t memory e (next-fit front b later more rest)
+  next-fit {just} {t} {memory} (d ∷ front) b later (fit_then f more) (carried-then e rest) = behind-one just d front b t memory e (next-fit {just = returned connection s small just d t memory} front b later more rest)
     where
       behind-one : (just : ℕ) (d : Span) (front : List Span) (b : Span) (t : Tables) (memory : List ℕ) → carried_out (sent connection s small just d t memory) ≡ true
           → SentFit s small (last_returned connection s small (returned connection s small just d t memory) front (sent connection s small just d t memory).tables (sent connection s small just d t memory).memory) b

@@ -64,7 +64,7 @@ unfolding call_all call_spans
 calls-spans connection s room just [] t memory = refl
 calls-spans connection s room just (b ∷ bs) t memory =
     same-on (take-message connection (own s just b) t memory room) bs (λ j u m. call_all connection s room j bs u m) (λ j u m. call_spans connection s room j (map span_of bs) u m)
-    (calls-spans connection s room _ bs _ _)
+    (calls-spans connection s room (returned_fid (reply_in (take-message connection (own s just b) t memory room))) bs _ _)
     ∙ ap (λ (l : List ℕ). call_span_on (take-message connection l t memory room) (map span_of bs) (λ j u m. call_spans connection s room j (map span_of bs) u m)) (own-span s just b)
 
 -- "This is a single claim about the whole list of blocks": of any reading of a message fit to be answered, the call gives what the calls of its blocks'

@@ -21,7 +21,7 @@ use Rattle.message.specs.declared.refusal.Status.{Status}
 use Rattle.message.specs.declared.refusal.Refusal.TheVariants.{NoAccess, NoSpace}
 use Rattle.message.specs.Command.{Given, refused, done, ask_by, unless_barred, barring, writing}
 use Rattle.demands.specs.LoneLock.{held_in, nobody-holds, held-status, Conflicts, May, InWay, Owner, writing-conflict as writing-exact}
-use Rattle.demands.specs.Admitted.{Admitted, NoOpenFor, admitted-may, open-or, with_open, open-given}
+use Rattle.demands.specs.Admitted.{Admitted, NoOpenFor, admitted-may, open-or, with-open, open-given}
 
 -- a write, by the locks in its way, by what makes it end past 4,096 and by what lets it fit: "or a write on access 0", 1/33, "class 3, code 39, write would end past 4,096"
 pub data WritingStatus (c : Caller) (t : Tables) (fid : ℕ) (Bars : Open → Type 0) (Past Fits : Type 0) : Status → Type 0 where
@@ -72,11 +72,11 @@ module _ (c : Caller) (t : Tables) (memory : List ℕ) (ok : sound t ≡ true) (
     write-open = get_or (opens_of t) k no_open
 
     write-refused : eqb write-open.access 0 ≡ true → a_write ≡ refused NoAccess
-    write-refused e = with_open c t fid k _ may ∙ rw e
+    write-refused e = with-open c t fid k _ may ∙ rw e
 
     write-is : eqb write-open.access 0 ≡ false
         → a_write ≡ unless_barred t (barring t (ask_by c fid (from write-open) (size write-open) Writing)) (cond past (refused NoSpace) (next write-open))
-    write-is e = with_open c t fid k _ may ∙ rw e
+    write-is e = with-open c t fid k _ may ∙ rw e
 
     -- a lock is in the way, or the write's end decides
     write-ends : eqb write-open.access 0 ≡ false → (x : Found) → a_write ≡ unless_barred t x (cond past (refused NoSpace) (next write-open))

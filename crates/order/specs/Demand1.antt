@@ -1,6 +1,6 @@
 -- Demand 1 of the order, sentence by sentence. Assumes nothing.
 use Rattle.std.specs.Prelude.{◌≡◌, ◌↔◌, ℕ, ◌≤◌, List, [], ◌∷◌, ◌++◌, length}
-use Rattle.std.proofs.Math.Logic.{Iff·trans}
+use Rattle.std.proofs.Math.Logic.Iff
 use Rattle.std.proofs.lemmas.List.{length-replicate}
 use Rattle.wire.specs.LittleEndian.{le32_at}
 use Rattle.records.specs.declared.Name.{Name}
@@ -175,9 +175,9 @@ demand-1 =
         exit = λ c a one n. exit-exact c.connection c.message one.reading c.tables c.memory c.room a.fit one.is n;
         core-read = λ c a one n. core-read-exact c.connection c.message one.reading c.tables c.memory c.room a.fit one.is n;
         core-write = λ c a one more n.
-            Iff·trans (core-write-exact c.connection c.message one.reading c.tables c.memory c.room a.fit one.is n) (by-some more, some-count more);
+            Iff.trans (core-write-exact c.connection c.message one.reading c.tables c.memory c.room a.fit one.is n) (by-some more, some-count more);
         set-size = λ c a one e n.
-            Iff·trans (core-write-exact c.connection c.message one.reading c.tables c.memory c.room a.fit one.is n) (by-none e, count-0 e);
+            Iff.trans (core-write-exact c.connection c.message one.reading c.tables c.memory c.room a.fit one.is n) (by-none e, count-0 e);
         core-lock = λ c a one n. lock-exact c.connection c.message one.reading c.tables c.memory c.room a.fit one.is n;
         core-unlock = λ c a one n. unlock-exact c.connection c.message one.reading c.tables c.memory c.room a.fit one.is n;
         opening = λ c a one n. open-exact c.connection c.message one.reading c.tables c.memory c.room a.fit one.is n;
