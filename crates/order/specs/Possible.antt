@@ -228,6 +228,7 @@ pub free-stand : (x : Span) → In x free_spans → (k : ℕ) → x.place ≤ k 
 unfolding free_spans one_free other_free message
 free-stand x (first e) = rw e (part_bytes one_free other_free 32 29 refl)
 free-stand x (later (first e)) = rw e (part_bytes one_free other_free 62 23 refl)
+free-stand x (later (later none)) = elim none [ ]
 
 -- ---- two senders whose processes differ in the upper half only (what their calls give: literals/specs/TwoProcesses.antt)
 

@@ -1,0 +1,10 @@
+-- `exported::seen_unchanged` meets its contract: the contract of `gateway_unchanged` is the law's premises. Assumes nothing.
+use borrow.Author.Rules.{rules}
+use Rattle.demands.specs.Exported.{unchanged-seen}
+use Rattle.exported.proofs.seen_unchanged.Goals as goal
+
+pub returns : goal.returns
+returns c =
+    let args = c.args in
+    let called = c.gateway_unchanged in
+    unchanged-seen args.tables.now called.result args.fid args.unchanged.now called.new.unchanged called.ensures.value called.ensures.unchanged_after
