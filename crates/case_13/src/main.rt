@@ -1,14 +1,16 @@
 // Case 13 of document 01: standard input is a message, which is taken on the small gateway; printed are the number, the reply's
 // length, and the reply in hex.
+#![tactic(auto)]
 
-use libc::{STDIN_FILENO, STDOUT_FILENO};
+use input::read_full;
 use sample::show::put_answer;
 use sample::{CONNECTION, one_terminal};
 use server::call::take_message;
+use std::io;
 
-fn main() {
+fn main(rt: HostRuntime) -> io::Result<()> {
     let mut message = [0u8; 8193];
-    let n = io::read_full(STDIN_FILENO, &mut message);
+    let n = read_full(&mut rt.reader(), &mut message)?;
     let mut words = [0u64; 1605];
     let mut memory = [0u8; 65536];
     let mut room = [0u8; 12292];
@@ -22,5 +24,5 @@ fn main() {
     );
     let mut text = [0u8; 32768];
     let length = put_answer(&mut text, 0, taken.number, taken.length, &room);
-    io::write_all(STDOUT_FILENO, &text[..length]);
+    rt.write_all(&text[..length])
 }

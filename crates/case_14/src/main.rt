@@ -1,10 +1,11 @@
 // Case 14 of document 01: with 128 locks held the 129th is refused 1/8; after one unlock it is granted. Each lock is asked for by
 // a message of its own, on the small gateway.
+#![tactic(auto)]
 
-use libc::STDOUT_FILENO;
 use sample::show::put_status;
 use sample::{CONNECTION, one_terminal};
 use server::call::take_message;
+use std::io;
 
 // Taken on the words: the message that unlocks the byte at one place, or locks it, by process 7 through FID 1.
 fn ask(
@@ -32,7 +33,7 @@ fn hold_all(words: &mut [u64; 1605], memory: &mut [u8], room: &mut [u8]) {
     }
 }
 
-fn main() {
+fn main(rt: HostRuntime) -> io::Result<()> {
     let mut words = [0u64; 1605];
     let mut memory = [0u8; 65536];
     let mut room = [0u8; 12292];
@@ -46,5 +47,5 @@ fn main() {
     let a3 = put_status(&mut text, a2, b"unlock", &room);
     ask(0, 1, 128, &mut words, &mut memory, &mut room);
     let a4 = put_status(&mut text, a3, b"129th", &room);
-    io::write_all(STDOUT_FILENO, &text[..a4]);
+    rt.write_all(&text[..a4])
 }

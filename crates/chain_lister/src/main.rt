@@ -1,13 +1,15 @@
 // The chain lister: standard input is one message; the listing goes to standard output. One byte more
 // than the longest message is read, which is enough to see that a message is too long. Every listing
 // fits the buffer (`listing-fits`).
+#![tactic(auto)]
 
-use libc::{STDIN_FILENO, STDOUT_FILENO};
+use input::read_full;
+use std::io;
 
-fn main() {
+fn main(rt: HostRuntime) -> io::Result<()> {
     let mut message = [0u8; 8193];
-    let n = io::read_full(STDIN_FILENO, &mut message);
+    let n = read_full(&mut rt.reader(), &mut message)?;
     let mut text = [0u8; 65536];
     let length = listing::list_message(&message[..n], &mut text);
-    io::write_all(STDOUT_FILENO, &text[..length]);
+    rt.write_all(&text[..length])
 }

@@ -9,6 +9,7 @@ use numbers::number::at_most;
 use sample::names::catalogue_words;
 use sample::{CONNECTION, one_terminal};
 use server::call::take_message;
+use std::io;
 use stream::reader::{Event, read_piece};
 use stream::state::State;
 use stream::writer::write_message;
@@ -51,45 +52,58 @@ fn frame_digest(number: u8, reply: &[u8]) -> u64 {
 }
 
 // A message handed out: taken, its reply written, and its line printed.
-fn play_message(message: &[u8], words: &mut [u64; 1605], memory: &mut [u8; 65536]) {
+fn play_message(
+    rt: &impl Print,
+    message: &[u8],
+    words: &mut [u64; 1605],
+    memory: &mut [u8; 65536],
+) -> io::Result<()> {
     let mut room = [0u8; 12292];
     let taken = take_message(CONNECTION, message, words, memory, &mut room);
     let size = at_most(taken.length, 12292);
     let digest = frame_digest(taken.number, &room[..size]);
-    print_message(message.len(), taken.number, taken.length, digest as usize);
+    print_message(
+        rt,
+        message.len(),
+        taken.number,
+        taken.length,
+        digest as usize,
+    )
 }
 
 // A message that stands from a place on, in the piece or in the buffer.
 fn play_at(
+    rt: &impl Print,
     bytes: &[u8],
     at: usize,
     size: usize,
     words: &mut [u64; 1605],
     memory: &mut [u8; 65536],
-) {
+) -> io::Result<()> {
     let from = at_most(at, bytes.len());
     let to = from + at_most(size, bytes.len() - from);
-    play_message(&bytes[from..to], words, memory);
+    play_message(rt, &bytes[from..to], words, memory)
 }
 
 pub(crate) fn play_piece(
+    rt: &impl Print,
     state: State,
     piece: &[u8],
     buffer: &mut [u8; 8192],
     words: &mut [u64; 1605],
     memory: &mut [u8; 65536],
-) -> Played {
+) -> io::Result<Played> {
     let step = read_piece(state, buffer, piece);
     let event = step.event;
     match event {
         Event::NoMessage => {}
-        Event::InPiece(at, size) => play_at(piece, at, size, words, memory),
-        Event::InBuffer(size) => play_at(buffer, 0, size, words, memory),
+        Event::InPiece(at, size) => play_at(rt, piece, at, size, words, memory)?,
+        Event::InBuffer(size) => play_at(rt, buffer, 0, size, words, memory)?,
     }
     let next = step.state;
-    Played {
+    Ok(Played {
         number: step.number,
         taken: step.taken,
         state: next,
-    }
+    })
 }

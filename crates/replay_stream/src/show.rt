@@ -4,7 +4,7 @@ ghost use Rattle.text.specs.Over.{Written};
 ghost use Rattle.replay_stream.specs.Lines.{message_line, end_line};
 
 use digest::digest_words;
-use libc::STDOUT_FILENO;
+use std::io;
 use stream::state::State;
 use text::{put_number, put_text};
 
@@ -31,18 +31,24 @@ fn put_end(text: &mut [u8], number: u8, reader: usize, tables: usize) -> usize
     put_text(text, a4, b"\n")
 }
 
-pub(crate) fn print_message(size: usize, number: u8, length: usize, digest: usize) {
+pub(crate) fn print_message(
+    rt: &impl Print,
+    size: usize,
+    number: u8,
+    length: usize,
+    digest: usize,
+) -> io::Result<()> {
     let mut text = [0u8; 128];
     let end = put_message(&mut text, size, number, length, digest);
-    io::write_all(STDOUT_FILENO, &text[..end]);
+    rt.write_all(&text[..end])
 }
 
-pub(crate) fn print_end(number: u8, s: State, tables: usize) {
+pub(crate) fn print_end(rt: &impl Print, number: u8, s: State, tables: usize) -> io::Result<()> {
     let seven = [
         s.stopped, s.begun, s.first, s.second, s.third, s.length, s.got,
     ];
     let reader = digest_words(0, &seven) as usize;
     let mut text = [0u8; 128];
     let end = put_end(&mut text, number, reader, tables);
-    io::write_all(STDOUT_FILENO, &text[..end]);
+    rt.write_all(&text[..end])
 }
