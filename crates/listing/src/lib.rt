@@ -1,4 +1,5 @@
 // The chain lister's text, written into a lent buffer: `list_message` (document 01, "A listing, whole").
+#![tactic(auto)]
 
 ghost use Rattle.std.specs.Prelude.{◌≡◌, ◌≤◌};
 ghost use Rattle.chain.specs.Chain.{blocks_from};
