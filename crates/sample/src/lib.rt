@@ -1,5 +1,6 @@
 // A small gateway for the programs that play document 01's cases: one terminal with one open, on a file of 120 bytes.
 // `names` is for the programs that play a recording: a catalogue out of bytes.
+#![tactic(auto)]
 
 pub mod names;
 pub mod show;
