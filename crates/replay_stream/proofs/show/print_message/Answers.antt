@@ -1,0 +1,12 @@
+-- What was written is inside the buffer, so what is in front of its end can be lent. Assumes nothing.
+use Rattle.std.proofs.Common.{sym}
+use Rattle.std.proofs.lemmas.List.{length-take-le}
+use Rattle.text.specs.Overlaid.{written-inside}
+use Rattle.replay_stream.proofs.show.print_message.Goals as goal
+
+pub slice_bounds-text-end : goal.slice_bounds-text-end
+slice_bounds-text-end g c = written-inside c.put_message-end.ensures
+
+pub slice_bounds-write_all-end : goal.slice_bounds-write_all-end
+slice_bounds-write_all-end g c =
+    sym (length-take-le c.put_message-end.result c.put_message-end.new.text (written-inside c.put_message-end.ensures))
