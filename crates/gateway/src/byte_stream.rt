@@ -49,8 +49,7 @@ fn put_step(taken: usize, event: Event, words: &mut [u64; 4])
 }
 
 // A reader that has read nothing, whatever the words were.
-#[unsafe(no_mangle)]
-pub extern "C" fn gateway_stream_reset(state: &mut [u64; 7])
+pub fn gateway_stream_reset(state: &mut [u64; 7])
     ensures { state.new ≡ words_of none_begun }
 {
     put_state(start(), state);
@@ -58,8 +57,7 @@ pub extern "C" fn gateway_stream_reset(state: &mut [u64; 7])
 
 // A piece of the stream, up to the end of the first message that becomes whole. The step is written on 0 only. Any words are those of
 // the state that they hold, so that a state left as it was is words left as they were.
-#[unsafe(no_mangle)]
-pub extern "C" fn gateway_stream_read(
+pub fn gateway_stream_read(
     state: &mut [u64; 7],
     buffer: &mut [u8; 8192],
     piece: &[u8],
@@ -84,8 +82,7 @@ pub extern "C" fn gateway_stream_read(
 }
 
 // A message behind its session header at the start of the room; the length of both goes to written.
-#[unsafe(no_mangle)]
-pub extern "C" fn gateway_stream_write(message: &[u8], room: &mut [u8], written: &mut usize) -> u8
+pub fn gateway_stream_write(message: &[u8], room: &mut [u8], written: &mut usize) -> u8
     ensures value { result ≡ (write message.now room.old).answer.number }
     ensures room_after { room.new ≡ (write message.now room.old).room }
     ensures written_after { written.new ≡ written_after written.old (write message.now room.old).answer }

@@ -26,16 +26,14 @@ use host::unchanged::ask_unchanged;
 use server::call::take_message;
 
 // How many words the tables are. A host compares it with its header's number: an old header with a new library is noticed so.
-#[unsafe(no_mangle)]
-pub extern "C" fn gateway_words() -> u64
+pub fn gateway_words() -> u64
     ensures { result ≡ table_words }
 {
     1605
 }
 
 // Tables to start from.
-#[unsafe(no_mangle)]
-pub extern "C" fn gateway_empty(tables: &mut [u64; 1605])
+pub fn gateway_empty(tables: &mut [u64; 1605])
     ensures tables_after { tables.new ≡ replicate 1605 0 }
     ensures tables_after_2 { tables_of tables.new ≡ no_tables }
     ensures tables_after_3 { ready tables.new ≡ true }
@@ -44,12 +42,7 @@ pub extern "C" fn gateway_empty(tables: &mut [u64; 1605])
 }
 
 // A session on a connection; its UID goes to uid.
-#[unsafe(no_mangle)]
-pub extern "C" fn gateway_add_session(
-    tables: &mut [u64; 1605],
-    connection: u32,
-    uid: &mut u16,
-) -> u8
+pub fn gateway_add_session(tables: &mut [u64; 1605], connection: u32, uid: &mut u16) -> u8
     ensures value { result ≡ number_of tables.old (session_added tables.old connection) }
     ensures uid_after { uid.new ≡ id_after uid.old tables.old (session_added tables.old connection) }
     ensures for_next { ForNext tables.old tables.new result (session_added tables.old connection).tables }
@@ -64,13 +57,7 @@ pub extern "C" fn gateway_add_session(
 }
 
 // A tree of a session; its TID goes to tid.
-#[unsafe(no_mangle)]
-pub extern "C" fn gateway_add_tree(
-    tables: &mut [u64; 1605],
-    uid: u32,
-    right: u32,
-    tid: &mut u16,
-) -> u8
+pub fn gateway_add_tree(tables: &mut [u64; 1605], uid: u32, right: u32, tid: &mut u16) -> u8
     ensures value { result ≡ number_of tables.old (tree_added tables.old uid right) }
     ensures tid_after { tid.new ≡ id_after tid.old tables.old (tree_added tables.old uid right) }
     ensures for_next { ForNext tables.old tables.new result (tree_added tables.old uid right).tables }
@@ -87,8 +74,7 @@ pub extern "C" fn gateway_add_tree(
 }
 
 // An open of a file through a tree; its FID goes to fid.
-#[unsafe(no_mangle)]
-pub extern "C" fn gateway_add_open(
+pub fn gateway_add_open(
     tables: &mut [u64; 1605],
     uid: u32,
     tid: u32,
@@ -122,8 +108,7 @@ pub extern "C" fn gateway_add_open(
 }
 
 // The contents of a file that has no open, put into the file memory.
-#[unsafe(no_mangle)]
-pub extern "C" fn gateway_load_file(
+pub fn gateway_load_file(
     tables: &mut [u64; 1605],
     file: u32,
     contents: &[u8],
@@ -143,8 +128,7 @@ pub extern "C" fn gateway_load_file(
 }
 
 // A connection has ended: its sessions go, each with what hangs on it.
-#[unsafe(no_mangle)]
-pub extern "C" fn gateway_drop_connection(tables: &mut [u64; 1605], connection: u32) -> u8
+pub fn gateway_drop_connection(tables: &mut [u64; 1605], connection: u32) -> u8
     ensures value { result ≡ number_of tables.old (connection_dropped tables.old connection) }
     ensures for_next { ForNext tables.old tables.new result (connection_dropped tables.old connection).tables }
 {
@@ -157,8 +141,7 @@ pub extern "C" fn gateway_drop_connection(tables: &mut [u64; 1605], connection: 
 }
 
 // One session ended by its UID, with its trees, opens and locks.
-#[unsafe(no_mangle)]
-pub extern "C" fn gateway_end_session(tables: &mut [u64; 1605], uid: u32) -> u8
+pub fn gateway_end_session(tables: &mut [u64; 1605], uid: u32) -> u8
     ensures value { result ≡ number_of tables.old (one_ended tables.old (OneSession uid)) }
     ensures for_next { ForNext tables.old tables.new result (one_ended tables.old (OneSession uid)).tables }
 {
@@ -172,8 +155,7 @@ pub extern "C" fn gateway_end_session(tables: &mut [u64; 1605], uid: u32) -> u8
 }
 
 // One tree ended by its TID, with its opens and their locks.
-#[unsafe(no_mangle)]
-pub extern "C" fn gateway_end_tree(tables: &mut [u64; 1605], tid: u32) -> u8
+pub fn gateway_end_tree(tables: &mut [u64; 1605], tid: u32) -> u8
     ensures value { result ≡ number_of tables.old (one_ended tables.old (OneTree tid)) }
     ensures for_next { ForNext tables.old tables.new result (one_ended tables.old (OneTree tid)).tables }
 {
@@ -187,8 +169,7 @@ pub extern "C" fn gateway_end_tree(tables: &mut [u64; 1605], tid: u32) -> u8
 }
 
 // One open ended by its FID, with its locks.
-#[unsafe(no_mangle)]
-pub extern "C" fn gateway_end_open(tables: &mut [u64; 1605], fid: u32) -> u8
+pub fn gateway_end_open(tables: &mut [u64; 1605], fid: u32) -> u8
     ensures value { result ≡ number_of tables.old (one_ended tables.old (OneOpen fid)) }
     ensures for_next { ForNext tables.old tables.new result (one_ended tables.old (OneOpen fid)).tables }
 {
@@ -202,8 +183,7 @@ pub extern "C" fn gateway_end_open(tables: &mut [u64; 1605], fid: u32) -> u8
 }
 
 // The catalogue, set whole: 225 words, a count and 16 names of 14 words each.
-#[unsafe(no_mangle)]
-pub extern "C" fn gateway_set_catalogue(tables: &mut [u64; 1605], catalogue: &[u64; 225]) -> u8
+pub fn gateway_set_catalogue(tables: &mut [u64; 1605], catalogue: &[u64; 225]) -> u8
     ensures value { result ≡ number_of tables.old (catalogue_set tables.old catalogue.now) }
     ensures for_next { ForNext tables.old tables.new result (catalogue_set tables.old catalogue.now).tables }
 {
@@ -217,8 +197,7 @@ pub extern "C" fn gateway_set_catalogue(tables: &mut [u64; 1605], catalogue: &[u
 
 // Whether an open has read and its file was not changed since, as far as the change numbers tell (document 02, CR 8): 1 goes to unchanged for "unchanged", 0 for "changed". The
 // tables are only read.
-#[unsafe(no_mangle)]
-pub extern "C" fn gateway_unchanged(tables: &[u64; 1605], fid: u32, unchanged: &mut u16) -> u8
+pub fn gateway_unchanged(tables: &[u64; 1605], fid: u32, unchanged: &mut u16) -> u8
     ensures value { result ≡ number_of tables.now (unchanged_asked tables.now fid) }
     ensures unchanged_after { unchanged.new ≡ id_after unchanged.old tables.now (unchanged_asked tables.now fid) }
 {
@@ -234,8 +213,7 @@ pub extern "C" fn gateway_unchanged(tables: &[u64; 1605], fid: u32, unchanged: &
 
 // A request message of a connection. The reply goes to the start of the room, its length to written, and who holds the lock in its way
 // to holder.
-#[unsafe(no_mangle)]
-pub extern "C" fn gateway_take_message(
+pub fn gateway_take_message(
     tables: &mut [u64; 1605],
     connection: u32,
     message: &[u8],
