@@ -79,14 +79,23 @@ fn has_number(words: &[u64], step: usize, count: usize, number: u16) -> bool
     false
 }
 
-// Whether a session in use has that UID; likewise for trees and opens.
+// Whether a session in use has that UID.
 pub fn has_session(words: &[u64], uid: u16) -> bool
     requires { length words.now ≡ 33 }
     ensures { result ≡ contains uid (map uid_of (sessions_in words.now)) }
 {
-    has_number(words, 2, at_most(words[0] as usize, 16), uid)
+    let count = at_most(words[0] as usize, 16);
+    let mut i: usize = 0;
+    while i < count {
+        if low16(words[1 + 2 * i]) == uid {
+            return true;
+        }
+        i += 1;
+    }
+    false
 }
 
+// The same for trees and opens.
 pub fn has_tree(words: &[u64], tid: u16) -> bool
     requires { length words.now ≡ 97 }
     ensures { result ≡ contains tid (map tid_of (trees_in words.now)) }

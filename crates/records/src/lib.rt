@@ -31,15 +31,14 @@ pub struct Open {
     pub seen: u64,
 }
 
-// A byte-range lock. The locks of the table stand in order of grant. `shared` stands between offset and length because two words side
-// by side are read back as one of sixteen bytes, which waits for the stores of both (docs/PERFORMANCE.md).
+// A byte-range lock. The locks of the table stand in order of grant.
 #[derive(Clone, Copy)]
 pub struct Lock {
     pub fid: u16,
     pub process: u32,
     pub offset: u64,
-    pub shared: bool,
     pub length: u64,
+    pub shared: bool,
 }
 
 // A file: how many of its 4,096 bytes in the file memory count, and how often it was changed, as far as 32 bits count (document 02, CR 8: "a 32-bit change number"). Soundness

@@ -1,7 +1,7 @@
 -- The open that has read, written in its place: the list of opens with what each open remembers (document 02, CR 8). Assumes nothing.
 use Rattle.std.specs.Prelude.{◌≡◌, ℕ, zero, suc, ◌+◌, ◌-◌, ◌<◌, ◌≤◌, true, false, not, List, [], ◌∷◌, map, length, get_or, take, drop, set, ◌==◌, ◌≢◌, nat_eq, nat_le, slice_index_or, slice_set}
 use Rattle.std.proofs.Math.Path.{refl}
-use Rattle.std.proofs.Common.{sym, ap, ◌∙◌, length-set, length-take, take-append-drop, length-take-le}
+use Rattle.std.proofs.Common.{sym, ap, ◌∙◌, length-set, take-append-drop, length-take-le}
 use native.Mathlib.Omega.{arith}
 use Rattle.std.proofs.lemmas.List.{set-append_left}
 use borrow.Author.Tests.{eqb-false, eq-eqb, ne_eqb, not-true}
@@ -15,9 +15,9 @@ use Rattle.records.specs.Held.{with_opens}
 use Rattle.numbers.specs.Number.{contains, number_ok, numbered}
 use Rattle.numbers.specs.Column.{fid_of}
 use Rattle.tables.specs.Words.{word, part, open_array, open_limits, in_use, tables_of, in_use_fit}
-use Rattle.tables.specs.Written.{Renewed, Holds, opens_in}
+use Rattle.tables.specs.Written.{Wrote, Holds, opens_in}
 use Rattle.tables.specs.ChangeLaws.{length-open_array}
-use Rattle.tables.specs.FitLaws.{fit-wrote, renewed-fits}
+use Rattle.tables.specs.FitLaws.{fit-wrote}
 use Rattle.tables.specs.PartLaws.{lent}
 use Rattle.tables.specs.WholeLaws.{opens_in_lem, with-opens, told_fit, fit-opens}
 use Rattle.invariants.specs.SoundParts.{sound-says}
@@ -72,20 +72,13 @@ stored-set z xs n k x full h =
     ap (λ l. set l k x) (sym (take-append-drop n xs)) ∙ set-append_left (take n xs) (drop n xs) k x h ∙ rw (same, long, gap, sum)
 
 module _ (w e : List ℕ) (full : length w ≡ 1605) (long : length e ≡ 577) (good : Good (tables_of w)) (o : Open) (k number : ℕ)
-    (stands : Stands (tables_of w) o.fid o k) (wrote : Renewed open_array open_limits (part w 130 577) e k (open_after o number)) where
+    (stands : Stands (tables_of w) o.fid o k) (wrote : Wrote open_array open_limits (part w 130 577) e k (open_after o number)) where
   room : word (part w 130 577) 0 ≤ 64
   unfolding tables_of
   room = (sound-says (tables_of w) good.sound).room.opens-fit
 
   used : k < length (opens_in (part w 130 577))
   used = rw (opens_in_lem w) at stands.used
-
-  is_used : k < in_use (part w 130 577) 64
-  is_used =
-      let u = used in
-      let cut : length (opens_in (part w 130 577)) ≡ _ = length-take (word (part w 130 577) 0) (open_array (part w 130 577)) in
-      let all : length (open_array (part w 130 577)) ≡ 64 = length-open_array (part w 130 577) in
-      omega arith
 
   holds : Holds open_array no_open (part w 130 577) e (slice_set (opens_in (part w 130 577)) k (open_after o number))
   holds =
@@ -114,6 +107,4 @@ module _ (w e : List ℕ) (full : length w ≡ 1605) (long : length e ≡ 577) (
   pub fit-noted : in_use_fit w ≡ true → in_use_fit (lent w 130 577 e) ≡ true
   fit-noted f =
       let same = wrote.count in
-      let fits = (told_fit w f).opens-fit in
-      fit-opens w e full long f
-      (fit-wrote (in_use (part w 130 577) 64) (in_use e 64) (renewed-fits (in_use (part w 130 577) 64) wrote fits is_used) fits (λ j h n. omega arith))
+      fit-opens w e full long f (fit-wrote (in_use (part w 130 577) 64) (in_use e 64) wrote (told_fit w f).opens-fit (λ j h n. omega arith))

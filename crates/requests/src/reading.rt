@@ -22,7 +22,7 @@ use message::refusal::Refusal;
 use numbers::number::at_most;
 use records::Open;
 use tables::file::changes_at;
-use tables::open::put_read;
+use tables::open::put_open;
 
 // "It yields the file's bytes in the range below its size": where they stand in the file memory, and how many.
 fn read_part(words: &[u64], file: u8, offset: u64, max: u16) -> Answer
@@ -51,7 +51,18 @@ fn remember(words: &mut [u64], o: Open, place: usize)
     ensures words_after_2 { in_use_fit words.old ≡ true → in_use_fit words.new ≡ true }
 {
     let seen = changes_at(&words[1348..1380], o.file as usize);
-    put_read(&mut words[130..707], place, seen);
+    let noted = Open {
+        fid: o.fid,
+        uid: o.uid,
+        tid: o.tid,
+        process: o.process,
+        file: o.file,
+        access: o.access,
+        sharing: o.sharing,
+        read: true,
+        seen,
+    };
+    put_open(&mut words[130..707], place, noted);
 }
 
 // A read on an open that the caller may use: "1/5 is a read on access 1", then 1/33.

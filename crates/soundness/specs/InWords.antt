@@ -7,9 +7,9 @@ use Rattle.locks.specs.Range.{passes_end}
 use Rattle.records.specs.declared.Tree.{Tree}
 use Rattle.records.specs.declared.Open.{Open}
 use Rattle.numbers.specs.Number.{number_ok, numbered}
-use Rattle.tables.specs.Words.{word, up_to, record_at, array_of, within, table_fits, file_array}
+use Rattle.tables.specs.Words.{word, up_to, record_at, array_of, within, table_fits}
 use Rattle.numbers.specs.ByNumber.{number_free}
-use Rattle.soundness.specs.Sound.{sharing_ok, seen_ok}
+use Rattle.soundness.specs.Sound.{sharing_ok}
 
 -- the words of each of the n records of a table, k to a record
 abbrev pub rows : ℕ → ℕ → List ℕ → List (List ℕ)
@@ -55,7 +55,7 @@ tree_in uids t = leb t.right 1 && eqb (get_or uids t.uid 0) 1
 unfoldable pub tree_stands : List ℕ → List ℕ → List ℕ → Bool
 tree_stands uids codes r = number_free 0 codes (word r 0) && (leb (word r 2) 1 && marked uids (word r 1))
 
--- ---- opens: `codes` has all trees, `table` the opens behind this record, `files` the words of the files
+-- ---- opens: `codes` has all trees, `files` the opens behind this record
 
 -- the tree of that code is of that session, and permits the access
 unfoldable pub code_holds : ℕ → ℕ → ℕ → Bool
@@ -68,18 +68,12 @@ holds_at codes tid uid access = leb uid 65535 && (ltb tid (length codes) && code
 unfoldable pub open_in : List ℕ → Open → Bool
 open_in codes o = leb o.file 15 && (leb o.access 2 && (sharing_ok o.sharing && code_holds (get_or codes o.tid 0) o.uid o.access))
 
--- the same, and what it remembers of its file
-abbrev pub open_here : List ℕ → List ℕ → Open → Bool
-open_here files codes o = seen_ok (file_array files) o && open_in codes o
-
-unfoldable pub open_stands : List ℕ → List ℕ → List ℕ → List ℕ → Bool
-open_stands codes table files r =
-    number_free 255 table (word r 0)
+unfoldable pub open_stands : List ℕ → List ℕ → List ℕ → Bool
+open_stands codes files r =
+    number_free 255 files (word r 0)
     && (leb (word r 3) 4294967295
     && (leb (word r 4) 15
-    && (leb (word r 5) 2
-    && (sharing_ok (word r 6)
-    && (leb (word r 7) 1 && (leb (word r 8) (word files (2 * word r 4 + 1)) && holds_at codes (word r 2) (word r 1) (word r 5)))))))
+    && (leb (word r 5) 2 && (sharing_ok (word r 6) && (leb (word r 7) 1 && holds_at codes (word r 2) (word r 1) (word r 5))))))
 
 -- ---- locks
 

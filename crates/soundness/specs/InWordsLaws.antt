@@ -12,20 +12,19 @@ use Rattle.lists.specs.Walk.{all, all_tails}
 use Rattle.lists.specs.Stored.{take-most}
 use Rattle.locks.specs.Answer.{file_in}
 use Rattle.locks.specs.Range.{passes_end}
-use Rattle.records.specs.declared.File.{File}
-use Rattle.records.specs.Empty.{no_file, no_lock}
+use Rattle.records.specs.Empty.{no_lock}
 use Rattle.numbers.specs.Number.{number_ok, numbered}
 use Rattle.numbers.specs.Column.{uid_of, tid_of, fid_of}
 use Rattle.numbers.specs.ColumnWords.{map-up_to, take-up_to}
-use Rattle.tables.specs.Words.{word, record_at, array_of, within, records_fit, table_fits, session_of, tree_of, open_of, lock_of, tree_array, lock_array, file_array, session_limits, tree_limits, open_limits, lock_limits}
+use Rattle.tables.specs.Words.{word, record_at, array_of, within, records_fit, table_fits, session_of, tree_of, open_of, lock_of, tree_array, lock_array, session_limits, tree_limits, open_limits, lock_limits}
 use Rattle.tables.specs.Written.{trees_in}
 use Rattle.tables.specs.ChangeLaws.{length-tree_array}
 use Rattle.tables.specs.PartLaws.{row, part-row}
-use Rattle.tables.specs.ArrayLaws.{record-at, file-at}
+use Rattle.tables.specs.ArrayLaws.{record-at}
 use Rattle.soundness.specs.LockFits.{lock_fits}
 use Rattle.numbers.specs.ByNumber.{last-false, uncut, entry, by_number, free-number}
-use Rattle.soundness.specs.Sound.{sharing_ok, seen_ok}
-use Rattle.soundness.specs.InWords.{rows, in_order, table_in_order, marked, session_stands, tree_code, tree_in, tree_stands, code_holds, holds_at, open_in, open_here, open_stands, lock_stands}
+use Rattle.soundness.specs.Sound.{sharing_ok}
+use Rattle.soundness.specs.InWords.{rows, in_order, table_in_order, marked, session_stands, tree_code, tree_in, tree_stands, code_holds, holds_at, open_in, open_stands, lock_stands}
 
 -- ---- lists of values of a function, and of its first ones
 
@@ -177,22 +176,22 @@ tree-stands w i later uids codes long few h e q =
     (tree-words (word w (1 + 3 * i)) (word w (1 + 3 * i + 1)) (word w (1 + 3 * i + 2)) later uids codes h e q)
 
 -- opens
-open-sorted : (a o u t p e e' g g' s s' r n n' h h' : Bool) → (e ≡ true → e' ≡ true → n ≡ n') → (g ≡ true → h ≡ h')
-    → (a && o) && (p && ((e && e') && ((g && g') && ((s && s') && (r && (n && (u && (t && h))))))))
-    ≡ (a && (u && (t && (p && (e && (g && (s && (r && (true && true))))))))) && (o && (n' && (e' && (g' && (s' && h')))))
-open-sorted false o u t p e e' g g' s s' r n n' h h' l k = refl
-open-sorted true false u t p e e' g g' s s' r n n' h h' l k = simp last-false
-open-sorted true true u t false e e' g g' s s' r n n' h h' l k = simp last-false
-open-sorted true true u t true false e' g g' s s' r n n' h h' l k = simp last-false
-open-sorted true true u t true true false g g' s s' r n n' h h' l k = simp last-false
-open-sorted true true u t true true true false g' s s' r n n' h h' l k = simp last-false
-open-sorted true true u t true true true true false s s' r n n' h h' l k = simp last-false
-open-sorted true true u t true true true true true false s' r n n' h h' l k = simp last-false
-open-sorted true true u t true true true true true true false r n n' h h' l k = simp last-false
-open-sorted true true u t true true true true true true true false n n' h h' l k = simp last-false
-open-sorted true true false t true true true true true true true true n n' h h' l k = simp last-false
-open-sorted true true true false true true true true true true true true n n' h h' l k = simp last-false
-open-sorted true true true true true true true true true true true true n n' h h' l k = rw (l refl refl, k refl)
+open-sorted : (a o u t p e e' g g' s s' r h h' : Bool) → (g ≡ true → h ≡ h')
+    → (a && o) && (p && ((e && e') && ((g && g') && ((s && s') && (r && (u && (t && h)))))))
+    ≡ (a && (u && (t && (p && (e && (g && (s && (r && (true && true))))))))) && (o && (e' && (g' && (s' && h'))))
+open-sorted false o u t p e e' g g' s s' r h h' k = refl
+open-sorted true false u t p e e' g g' s s' r h h' k = simp last-false
+open-sorted true true u t false e e' g g' s s' r h h' k = simp last-false
+open-sorted true true u t true false e' g g' s s' r h h' k = simp last-false
+open-sorted true true u t true true false g g' s s' r h h' k = simp last-false
+open-sorted true true u t true true true false g' s s' r h h' k = simp last-false
+open-sorted true true u t true true true true false s s' r h h' k = simp last-false
+open-sorted true true u t true true true true true false s' r h h' k = simp last-false
+open-sorted true true u t true true true true true true false r h h' k = simp last-false
+open-sorted true true u t true true true true true true true false h h' k = simp last-false
+open-sorted true true false t true true true true true true true true h h' k = refl
+open-sorted true true true false true true true true true true true true h h' k = refl
+open-sorted true true true true true true true true true true true true h h' k = k refl
 
 abbrev pub row_fid : List ℕ → ℕ
 row_fid r = fid_of (open_of r)
@@ -200,17 +199,16 @@ row_fid r = fid_of (open_of r)
 abbrev pub row_file : List ℕ → ℕ
 row_file r = (open_of r).file
 
-abbrev pub open_rule : List ℕ → List ℕ → List ℕ → List (List ℕ) → Bool
-open_rule files codes = in_order open_limits open_of 64 fid_of (open_here files codes)
+abbrev pub open_rule : List ℕ → List ℕ → List (List ℕ) → Bool
+open_rule codes = in_order open_limits open_of 64 fid_of (open_in codes)
 
 -- an open in order has a file below 255
-open-some : (files codes r : List ℕ) (later : List (List ℕ)) → open_rule files codes r later ≡ true → row_file r ≡ 255 → ⊥
+open-some : (codes r : List ℕ) (later : List (List ℕ)) → open_rule codes r later ≡ true → row_file r ≡ 255 → ⊥
 unfolding in_order open_in
-open-some files codes r later e z =
+open-some codes r later e z =
     let a = both_hold (within open_limits r) _ e in
     let b = both_hold (number_ok 64 (row_fid r) (map row_fid later)) _ a.1 in
-    let d = both_hold (seen_ok (file_array files) (open_of r)) _ b.1 in
-    let c = both_hold (leb (row_file r) 15) _ d.1 in
+    let c = both_hold (leb (row_file r) 15) _ b.1 in
     let small : row_file r ≤ 15 = leb-true (row_file r) 15 c.0 in
     omega arith
 
@@ -239,21 +237,13 @@ sharing-bound x =
       | no k ↦ rw (lt-leb x 255 (omega arith), lt-leb x 4 (omega arith), le-leb 1 x (omega arith))
     ]
 
--- a file's number where the file is one of the sixteen
-number-looked : (files : List ℕ) (f n : ℕ) → leb f 255 ≡ true → leb (f % 256) 15 ≡ true
-    → leb n (word files (2 * f + 1)) ≡ leb n (get_or (file_array files) (f % 256) no_file).changes
-number-looked files f n wide few =
-    let same = uncut f 255 (leb-true f 255 wide) in
-    let small : f ≤ 15 = leb-true f 15 (ap (λ (x : ℕ). leb x 15) (sym same) ∙ few) in
-    rw same (sym (ap (λ (x : File). leb n x.changes) (file-at files f no_file (omega arith))))
-
-open-words : (a b c d f g s r n : ℕ) (later : List (List ℕ)) (codes table files : List ℕ) → n ≤ 18446744073709551615 → length codes ≤ 65536
-    → all_tails (open_rule files codes) later ≡ true → table ≡ by_number row_fid row_file 255 65 later
-    → open_stands codes table files (a ∷ b ∷ c ∷ d ∷ f ∷ g ∷ s ∷ r ∷ n ∷ []) ≡ open_rule files codes (a ∷ b ∷ c ∷ d ∷ f ∷ g ∷ s ∷ r ∷ n ∷ []) later
-unfolding open_stands in_order open_of within open_in seen_ok
-open-words a b c d f g s r n later codes table files word-sized h e q =
+open-words : (a b c d f g s r n : ℕ) (later : List (List ℕ)) (codes files : List ℕ) → n ≤ 18446744073709551615 → length codes ≤ 65536
+    → all_tails (open_rule codes) later ≡ true → files ≡ by_number row_fid row_file 255 65 later
+    → open_stands codes files (a ∷ b ∷ c ∷ d ∷ f ∷ g ∷ s ∷ r ∷ n ∷ []) ≡ open_rule codes (a ∷ b ∷ c ∷ d ∷ f ∷ g ∷ s ∷ r ∷ n ∷ []) later
+unfolding open_stands in_order open_of within open_in
+open-words a b c d f g s r n later codes files word-sized h e q =
     rw (
-      free-number row_fid row_file 255 (open_rule files codes) (open-some files codes) 64 later table a (omega arith) e q,
+      free-number row_fid row_file 255 (open_rule codes) (open-some codes) 64 later files a (omega arith) e q,
       bound f 15 255 (omega arith),
       bound g 2 255 (omega arith),
       sharing-bound s,
@@ -261,18 +251,17 @@ open-words a b c d f g s r n later codes table files word-sized h e q =
       le-leb n 18446744073709551615 word-sized,
     )
     (open-sorted (leb a 65535) (number_ok 64 (a % 65536) (map row_fid later)) (leb b 65535) (leb c 65535) (leb d 4294967295) (leb f 255)
-    (leb (f % 256) 15) (leb g 255) (leb (g % 256) 2) (leb s 255) (sharing_ok (s % 256)) (leb r 1) (leb n (word files (2 * f + 1)))
-    (leb n (get_or (file_array files) (f % 256) no_file).changes) (code_holds (get_or codes (c % 65536) 0) (b % 65536) g)
-    (code_holds (get_or codes (c % 65536) 0) (b % 65536) (g % 256)) (number-looked files f n)
+    (leb (f % 256) 15) (leb g 255) (leb (g % 256) 2) (leb s 255) (sharing_ok (s % 256)) (leb r 1) (code_holds (get_or codes (c % 65536) 0) (b % 65536) g)
+    (code_holds (get_or codes (c % 65536) 0) (b % 65536) (g % 256))
     (λ k. ap (code_holds (get_or codes (c % 65536) 0) (b % 65536)) (sym (uncut g 255 (leb-true g 255 k)))))
 
-pub open-stands : (w : List ℕ) (i : ℕ) (later : List (List ℕ)) (codes table files : List ℕ) → length w ≡ 577 → i < 64 → ((k : ℕ) → word w k ≤ 18446744073709551615)
-    → length codes ≤ 65536 → all_tails (open_rule files codes) later ≡ true → table ≡ by_number row_fid row_file 255 65 later
-    → open_stands codes table files (record_at 9 w i) ≡ open_rule files codes (record_at 9 w i) later
-open-stands w i later codes table files long few each h e q =
+pub open-stands : (w : List ℕ) (i : ℕ) (later : List (List ℕ)) (codes files : List ℕ) → length w ≡ 577 → i < 64 → ((k : ℕ) → word w k ≤ 18446744073709551615)
+    → length codes ≤ 65536 → all_tails (open_rule codes) later ≡ true → files ≡ by_number row_fid row_file 255 65 later
+    → open_stands codes files (record_at 9 w i) ≡ open_rule codes (record_at 9 w i) later
+open-stands w i later codes files long few each h e q =
     rw (part-row w (1 + 9 * i) 9 (omega arith))
     (open-words (word w (1 + 9 * i)) (word w (1 + 9 * i + 1)) (word w (1 + 9 * i + 2)) (word w (1 + 9 * i + 3)) (word w (1 + 9 * i + 4)) (word w (1 + 9 * i + 5)) (word w (1 + 9 * i + 6))
-    (word w (1 + 9 * i + 7)) (word w (1 + 9 * i + 8)) later codes table files (each (1 + 9 * i + 8)) h e q)
+    (word w (1 + 9 * i + 7)) (word w (1 + 9 * i + 8)) later codes files (each (1 + 9 * i + 8)) h e q)
 
 -- locks
 lock-sorted : (f p s e h : Bool) → s && (p && (e && (f && h))) ≡ (f && (p && (true && (true && (s && true))))) && (e && h)
@@ -301,7 +290,7 @@ lock-stands w i files long few each h =
     files (each (1 + 5 * i + 2)) (each (1 + 5 * i + 3)) h)
 
 -- all locks in use
-pub all_both : {A : Type 0} (p q : A → Bool) (xs : List A) → all (λ x. p x && q x) xs ≡ all p xs && all q xs
+all_both : {A : Type 0} (p q : A → Bool) (xs : List A) → all (λ x. p x && q x) xs ≡ all p xs && all q xs
 unfolding all
 all_both p q [] = refl
 all_both p q (x ∷ xs) = rw (all_both p q xs) (both-sorted (p x) (q x) (all p xs) (all q xs))

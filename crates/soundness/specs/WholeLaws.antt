@@ -23,8 +23,8 @@ use Rattle.soundness.specs.Sound.{within_room, file_ok, tree_ok, permits, holds_
 use Rattle.soundness.specs.SoundLaws.{fits-is-ok}
 use Rattle.soundness.specs.LockFits.{lock_fits}
 use Rattle.numbers.specs.ByNumber.{last-false, entry, entry-mark, by_number, by_number-serves}
-use Rattle.soundness.specs.InWords.{table_in_order, code_of, tree_code, tree_in, code_holds, open_in, open_here}
-use Rattle.soundness.specs.InWordsLaws.{code-none, all_both}
+use Rattle.soundness.specs.InWords.{table_in_order, code_of, tree_code, tree_in, code_holds, open_in}
+use Rattle.soundness.specs.InWordsLaws.{code-none}
 use Rattle.soundness.specs.AgreeLaws.{in_bounds}
 
 -- ---- sessions: a UID is marked exactly if it is in use
@@ -138,7 +138,7 @@ part-first w from n h = get_or-take n (drop from w) 0 0 h ∙ get_or-drop from w
 
 judged : (room files fs ns ft nt at fo nn ao fl lo la fn ca se : Bool)
     → (fs && (ft && (fo && (fl && fn)))) && (room && (files && ((ns && (nt && (nn && (at && ao)))) && ((lo && la) && (ca && se)))))
-    ≡ room && (files && ((fs && (ns && true)) && ((ft && (nt && at)) && ((fo && (nn && (se && ao))) && (((fl && lo) && la) && (fn && ca))))))
+    ≡ room && (files && ((fs && (ns && true)) && ((ft && (nt && at)) && ((fo && (nn && ao)) && (((fl && lo) && la) && ((fn && ca) && se))))))
 judged false files fs ns ft nt at fo nn ao fl lo la fn ca se = simp last-false
 judged true false fs ns ft nt at fo nn ao fl lo la fn ca se = simp last-false
 judged true true false ns ft nt at fo nn ao fl lo la fn ca se = refl
@@ -149,25 +149,16 @@ judged true true true true true true at false nn ao fl lo la fn ca se = simp las
 judged true true true true true true at true false ao fl lo la fn ca se = simp last-false
 judged true true true true true true false true true ao fl lo la fn ca se = simp last-false
 judged true true true true true true true true true false fl lo la fn ca se = simp last-false
-judged true true true true true true true true true true fl lo la fn ca false = simp last-false
-judged true true true true true true true true true true false lo la fn ca true = refl
-judged true true true true true true true true true true true false la fn ca true = simp last-false
-judged true true true true true true true true true true true true false fn ca true = simp last-false
-judged true true true true true true true true true true true true true false ca true = refl
-judged true true true true true true true true true true true true true true ca true = last-true ca
-  where
-    last-true : (b : Bool) → (b && true) ≡ b
-    last-true true = refl
-    last-true false = refl
+judged true true true true true true true true true true false lo la fn ca se = refl
+judged true true true true true true true true true true true false la fn ca se = simp last-false
+judged true true true true true true true true true true true true false fn ca se = simp last-false
+judged true true true true true true true true true true true true true false ca se = refl
+judged true true true true true true true true true true true true true true ca se = refl
 
 all_true : {A : Type 0} (xs : List A) → all (λ _. true) xs ≡ true
 unfolding all
 all_true [] = refl
 all_true (x ∷ xs) = all_true xs
-
--- the rules of an open by itself, with the words of the files
-abbrev pub open_kept : List ℕ → List Tree → Open → Bool
-open_kept files ts o = seen_ok (file_array files) o && open_ok ts o
 
 -- the tests table by table
 pub sound-words : (w : List ℕ) → in_use_fit w && sound (tables_of w)
@@ -175,17 +166,18 @@ pub sound-words : (w : List ℕ) → in_use_fit w && sound (tables_of w)
     && (all file_ok (file_array (part w 1348 32))
     && (table_in_order session_limits 16 session_of 16 uid_of (λ _. true) (part w 0 33)
     && (table_in_order tree_limits 32 tree_of 32 tid_of (tree_ok (map uid_of (sessions_in (part w 0 33)))) (part w 33 97)
-    && (table_in_order open_limits 64 open_of 64 fid_of (open_kept (part w 1348 32) (trees_in (part w 33 97))) (part w 130 577)
+    && (table_in_order open_limits 64 open_of 64 fid_of (open_ok (trees_in (part w 33 97))) (part w 130 577)
     && (((table_fits lock_limits 128 (part w 707 641) && all (lock_ok (map fid_of (opens_in (part w 130 577)))) (locks_in (part w 707 641)))
     && agree_all (file_of (opens_in (part w 130 577))) (locks_in (part w 707 641)))
-    && (table_fits name_limits 16 (part w 1380 225) && catalogue_ok (name_array (part w 1380 225)) (word (part w 1380 225) 0)))))))
+    && ((table_fits name_limits 16 (part w 1380 225) && catalogue_ok (name_array (part w 1380 225)) (word (part w 1380 225) 0))
+    && all (seen_ok (file_array (part w 1348 32))) (opens_in (part w 130 577))))))))
 unfolding in_use_fit sound sound_records sound_locks tables_of table_in_order session_array tree_array open_array
 sound-words w =
     let ss = sessions_in (part w 0 33) in
     let ts = trees_in (part w 33 97) in
     let os = opens_in (part w 130 577) in
     let ls = locks_in (part w 707 641) in
-    rw (all_true ss, all_both (seen_ok (file_array (part w 1348 32))) (open_ok ts) os)
+    rw (all_true ss)
     (judged (within_room (word (part w 0 33) 0) (word (part w 33 97) 0) (word (part w 130 577) 0) (word (part w 707 641) 0)) (all file_ok (file_array (part w 1348 32)))
     (table_fits session_limits 16 (part w 0 33)) (numbered 16 (map uid_of ss))
     (table_fits tree_limits 32 (part w 33 97)) (numbered 32 (map tid_of ts)) (all (tree_ok (map uid_of ss)) ts)
@@ -215,22 +207,21 @@ trees-judged w v uids e q =
     ap (λ (ok : Tree → Bool). table_in_order tree_limits 32 tree_of 32 tid_of ok v)
     (sym (uids-serve (sessions_in w) uids (order-told session_limits 16 session_of 16 uid_of (λ _. true) w e).0 q))
 
-pub opens-judged : (us w v codes files : List ℕ) → table_in_order tree_limits 32 tree_of 32 tid_of (tree_ok us) w ≡ true
+pub opens-judged : (us w v codes : List ℕ) → table_in_order tree_limits 32 tree_of 32 tid_of (tree_ok us) w ≡ true
     → codes ≡ by_number tid_of tree_code 0 33 (trees_in w)
-    → table_in_order open_limits 64 open_of 64 fid_of (open_kept files (trees_in w)) v ≡ table_in_order open_limits 64 open_of 64 fid_of (open_here files codes) v
+    → table_in_order open_limits 64 open_of 64 fid_of (open_ok (trees_in w)) v ≡ table_in_order open_limits 64 open_of 64 fid_of (open_in codes) v
 unfolding tree_array
-opens-judged us w v codes files e q =
+opens-judged us w v codes e q =
     let told = order-told tree_limits 32 tree_of 32 tid_of (tree_ok us) w e in
-    ap (λ (ok : Open → Bool). table_in_order open_limits 64 open_of 64 fid_of (λ o. seen_ok (file_array files) o && ok o) v) (sym (codes-serve us (trees_in w) codes told.0 told.1 q))
+    ap (λ (ok : Open → Bool). table_in_order open_limits 64 open_of 64 fid_of ok v) (sym (codes-serve us (trees_in w) codes told.0 told.1 q))
 
-pub locks-judged : (ts : List Tree) (w v table files : List ℕ) → table_in_order open_limits 64 open_of 64 fid_of (open_kept files ts) w ≡ true
-    → table ≡ by_number fid_of (λ o. o.file) 255 65 (opens_in w)
+pub locks-judged : (ts : List Tree) (w v files : List ℕ) → table_in_order open_limits 64 open_of 64 fid_of (open_ok ts) w ≡ true
+    → files ≡ by_number fid_of (λ o. o.file) 255 65 (opens_in w)
     → (table_fits lock_limits 128 v && all (lock_ok (map fid_of (opens_in w))) (locks_in v)) && agree_all (file_of (opens_in w)) (locks_in v)
-    ≡ (table_fits lock_limits 128 v && all (lock_fits (file_in table)) (locks_in v)) && agree_all (file_in table) (locks_in v)
+    ≡ (table_fits lock_limits 128 v && all (lock_fits (file_in files)) (locks_in v)) && agree_all (file_in files) (locks_in v)
 unfolding open_array
-locks-judged ts w v table files e q =
-    let told = order-told open_limits 64 open_of 64 fid_of (open_kept files ts) w e in
-    let serve = files-serve (opens_in w) table told.0 q in
-    let each = both_hold (all (seen_ok (file_array files)) (opens_in w)) (all (open_ok ts) (opens_in w)) (sym (all_both (seen_ok (file_array files)) (open_ok ts) (opens_in w)) ∙ told.1) in
-    let ok = fits-is-ok ts (opens_in w) each.1 in
+locks-judged ts w v files e q =
+    let told = order-told open_limits 64 open_of 64 fid_of (open_ok ts) w e in
+    let serve = files-serve (opens_in w) files told.0 q in
+    let ok = fits-is-ok ts (opens_in w) told.1 in
     rw (serve, ← ok)

@@ -5,6 +5,7 @@ mod by_number;
 mod file_words;
 mod lock_words;
 pub mod open_words;
+mod seen_words;
 mod session_words;
 pub mod tree_words;
 pub mod whole;

@@ -6,7 +6,7 @@ ghost use Rattle.tables.specs.Words.{word, record_at, open_of, open_limits};
 ghost use Rattle.tables.specs.Written.{opens_in};
 ghost use Rattle.soundness.specs.File.{file_table};
 ghost use Rattle.numbers.specs.ByNumber.{by_number};
-ghost use Rattle.soundness.specs.InWords.{table_in_order, Told, holds_at, open_here, open_stands};
+ghost use Rattle.soundness.specs.InWords.{table_in_order, Told, holds_at, open_in, open_stands};
 
 use crate::by_number::number_free;
 use numbers::number::at_most;
@@ -59,21 +59,20 @@ fn holds_at(codes: &[u8], tid: u64, uid: u64, access: u64) -> bool
     access == 0
 }
 
-// Whether the words of an open fit, its FID is in order, its file, access and sharing code are among those listed, the number that it
-// remembers doesn't exceed its file's, and its tree holds it; `table` has the opens behind it, `files` the words of the files.
-fn open_stands(codes: &[u8; 33], table: &[u8; 65], files: &[u64], words: &[u64], i: usize) -> bool
-    requires { (length files.now ≡ 32) × ((length words.now ≡ 577) × (i < 64)) }
-    ensures { result ≡ open_stands codes.now table.now files.now (record_at 9 words.now i) }
+// Whether the words of an open fit, its FID is in order, its file, access and sharing code are among those listed, and its tree holds it;
+// `files` has the opens behind it. What it remembers of its file is tested by `seen_words`, with the files.
+fn open_stands(codes: &[u8; 33], files: &[u8; 65], words: &[u64], i: usize) -> bool
+    requires { (length words.now ≡ 577) × (i < 64) }
+    ensures { result ≡ open_stands codes.now files.now (record_at 9 words.now i) }
 {
     let at = 1 + 9 * i;
-    if !number_free(table, 255, words[at]) {
+    if !number_free(files, 255, words[at]) {
         return false;
     }
     if 4294967295 < words[at + 3] {
         return false;
     }
-    let file = words[at + 4];
-    if 15 < file {
+    if 15 < words[at + 4] {
         return false;
     }
     let access = words[at + 5];
@@ -90,33 +89,27 @@ fn open_stands(codes: &[u8; 33], table: &[u8; 65], files: &[u64], words: &[u64],
     if 1 < words[at + 7] {
         return false;
     }
-    if files[2 * file as usize + 1] < words[at + 8] {
-        return false;
-    }
     holds_at(codes, words[at + 2], words[at + 1], access)
 }
 
-// The rules for each open in use; `codes` has the trees, `files` the words of the files.
-pub(crate) fn opens_marked(codes: &[u8; 33], files: &[u64], words: &[u64]) -> Opens
-    requires { (length codes.now ≡ 33) × ((length files.now ≡ 32) × ((length words.now ≡ 577) × (word words.now 0 ≤ 64))) }
-    ensures { Told (table_in_order open_limits 64 open_of 64 fid_of (open_here files.now codes.now) words.now) (by_number fid_of (λ o. o.file) 255 65 (opens_in words.now)) result.sound result.files }
+// The rules for each open in use; `codes` has the trees.
+pub(crate) fn opens_marked(codes: &[u8; 33], words: &[u64]) -> Opens
+    requires { (length codes.now ≡ 33) × ((length words.now ≡ 577) × (word words.now 0 ≤ 64)) }
+    ensures { Told (table_in_order open_limits 64 open_of 64 fid_of (open_in codes.now) words.now) (by_number fid_of (λ o. o.file) 255 65 (opens_in words.now)) result.sound result.files }
 {
-    let mut table = [255u8; 65];
+    let mut files = [255u8; 65];
     let mut i = words[0] as usize;
     while 0 < i {
         i -= 1;
-        if !open_stands(codes, &table, files, words, i) {
+        if !open_stands(codes, &files, words, i) {
             return Opens {
                 sound: false,
-                files: table,
+                files,
             };
         }
         let at = 1 + 9 * i;
         let fid = words[at] as usize;
-        table[fid] = words[at + 4] as u8;
+        files[fid] = words[at + 4] as u8;
     }
-    Opens {
-        sound: true,
-        files: table,
-    }
+    Opens { sound: true, files }
 }

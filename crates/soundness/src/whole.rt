@@ -12,6 +12,7 @@ ghost use Rattle.soundness.specs.LockFits.{lock_fits};
 use crate::file_words::files_ok;
 use crate::lock_words::{locks_agree, locks_fit};
 use crate::open_words::opens_marked;
+use crate::seen_words::all_seen;
 use crate::session_words::sessions_marked;
 use crate::tree_words::trees_marked;
 use catalogue::rules::catalogue_ok;
@@ -65,7 +66,7 @@ pub fn is_sound(words: &[u64]) -> bool
         return false;
     }
     let codes = trees.codes;
-    let opens = opens_marked(&codes, &words[1348..1380], &words[130..707]);
+    let opens = opens_marked(&codes, &words[130..707]);
     if !opens.sound {
         return false;
     }
@@ -73,5 +74,8 @@ pub fn is_sound(words: &[u64]) -> bool
     if !locks_ok(&files, &words[707..1348]) {
         return false;
     }
-    catalogue_ok(&words[1380..1605])
+    if !catalogue_ok(&words[1380..1605]) {
+        return false;
+    }
+    all_seen(&words[1348..1380], &words[130..707])
 }

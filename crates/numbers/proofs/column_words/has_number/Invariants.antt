@@ -12,7 +12,7 @@ use native.Mathlib.Omega.{arith}
 use Rattle.numbers.proofs.column_words.has_number.Given as goal
 
 abbrev pub invariant-loop-i : goal.invariant-loop-i
-invariant-loop-i l =     (l.i ≤ l.count) × (any (λ x. eqb x l.number) (numbers_in l.step l.count l.words) ≡ any (λ x. eqb x l.number) (rest (numbers_in l.step l.count l.words) l.count l.i))
+invariant-loop-i l = (l.i ≤ l.count) × (any (λ x. eqb x l.number) (numbers_in l.step l.count l.words) ≡ any (λ x. eqb x l.number) (rest (numbers_in l.step l.count l.words) l.count l.i))
 
 abbrev pub decreases-loop-i : goal.decreases-loop-i
 decreases-loop-i l = l.count - l.i

@@ -15,7 +15,7 @@ use Rattle.soundness.specs.AgreeLaws.{in_bounds, all-at, within, agree-empty, ag
 use Rattle.soundness.proofs.lock_words.agrees_later.Given as goal
 
 abbrev pub invariant-loop-j : goal.invariant-loop-j
-invariant-loop-j l =     (l.i < l.j) × (l.end ≤ word l.words 0) × (all (agree (file_in l.files) l.l) (rest (lock_array l.words) (word l.words 0) (l.i + 1)) ≡ all (agree (file_in l.files) l.l) (rest (lock_array l.words) (word l.words 0) l.j))
+invariant-loop-j l = (l.i < l.j) × (l.end ≤ word l.words 0) × (all (agree (file_in l.files) l.l) (rest (lock_array l.words) (word l.words 0) (l.i + 1)) ≡ all (agree (file_in l.files) l.l) (rest (lock_array l.words) (word l.words 0) l.j))
 
 abbrev pub decreases-loop-j : goal.decreases-loop-j
 decreases-loop-j l = l.end - l.j

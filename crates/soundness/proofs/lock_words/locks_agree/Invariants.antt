@@ -15,7 +15,7 @@ use Rattle.soundness.specs.Sound.{agree, agree_all}
 use Rattle.soundness.proofs.lock_words.locks_agree.Given as goal
 
 abbrev pub invariant-loop-i : goal.invariant-loop-i
-invariant-loop-i l =     (l.i ≤ l.count) × (agree_all (file_in l.files) (locks_in l.words) ≡ agree_all (file_in l.files) (rest (lock_array l.words) (word l.words 0) l.i))
+invariant-loop-i l = (l.i ≤ l.count) × (agree_all (file_in l.files) (locks_in l.words) ≡ agree_all (file_in l.files) (rest (lock_array l.words) (word l.words 0) l.i))
 
 abbrev pub decreases-loop-i : goal.decreases-loop-i
 decreases-loop-i l = l.count - l.i

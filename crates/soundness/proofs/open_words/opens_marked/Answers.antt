@@ -14,7 +14,7 @@ use Rattle.numbers.specs.Column.{fid_of}
 use Rattle.tables.specs.Words.{word, up_to, record_at, open_of, open_array, open_limits}
 use Rattle.tables.specs.PartLaws.{part-row}
 use Rattle.numbers.specs.ByNumber.{entry, by_number, number_free, uncut, Marked, marked_start}
-use Rattle.soundness.specs.InWords.{rows, open_here, open_stands}
+use Rattle.soundness.specs.InWords.{rows, open_in, open_stands}
 use Rattle.soundness.specs.InWordsLaws.{row_fid, row_file, open_rule, open-stands}
 use Rattle.soundness.specs.RowWalk.{free-inside, marked-length, row-yes, row-no, told-yes, told-no}
 use borrow.Author.Rules.{rules}
@@ -27,15 +27,15 @@ record OpenNumbers (w : List ℕ) (i : ℕ) : Type 0 where
   fid-same : row_fid (record_at 9 w i) ≡ word w (1 + 9 * i)
   file-same : row_file (record_at 9 w i) ≡ word w (1 + 9 * i + 4)
 
-open-numbers : (w : List ℕ) (i : ℕ) (codes table files : List ℕ) → length w ≡ 577 → i < 64 → length table ≡ 65
-    → open_stands codes table files (record_at 9 w i) ≡ true → OpenNumbers w i
+open-numbers : (w : List ℕ) (i : ℕ) (codes files : List ℕ) → length w ≡ 577 → i < 64 → length files ≡ 65
+    → open_stands codes files (record_at 9 w i) ≡ true → OpenNumbers w i
 unfolding open_stands open_of
-open-numbers w i codes table files long few size e =
+open-numbers w i codes files long few size e =
     let same = part-row w (1 + 9 * i) 9 (omega arith) in
-    let a = both_hold (number_free 255 table (word w (1 + 9 * i))) _ (rw same at e) in
+    let a = both_hold (number_free 255 files (word w (1 + 9 * i))) _ (rw same at e) in
     let b = both_hold (leb (word w (1 + 9 * i + 3)) 4294967295) _ a.1 in
     let d = both_hold (leb (word w (1 + 9 * i + 4)) 15) _ b.1 in
-    let fid : word w (1 + 9 * i) < 65 = rw size at (free-inside 255 table (word w (1 + 9 * i)) a.0) in
+    let fid : word w (1 + 9 * i) < 65 = rw size at (free-inside 255 files (word w (1 + 9 * i)) a.0) in
     let file : word w (1 + 9 * i + 4) ≤ 15 = leb-true (word w (1 + 9 * i + 4)) 15 d.0 in
     record {
       fid-small = fid;
@@ -62,9 +62,9 @@ returns-then-not-open_stands c =
     let loop = c.loop-i in
     let w = args.words.now in
     let stands = c.open_stands in
-    let rule = open-stands w (loop.i - 1) (rest (rows 9 64 w) (word w 0) loop.i) args.codes.now loop.table args.files.now pre.1.1.0 (omega arith) (λ k. omega (arith, c.type_inv.words k)) (omega arith) loop.invariant.1.keeps loop.invariant.1.made in
-    told-no open_limits 64 open_of 64 fid_of (open_here args.files.now args.codes.now) (λ o. o.file) 255 65 w loop.table
-    (row-no 9 64 w loop.i loop.table loop.invariant.1 c.loop-i-test.true loop.invariant.0 (omega arith)
+    let rule = open-stands w (loop.i - 1) (rest (rows 9 64 w) (word w 0) loop.i) args.codes.now loop.files pre.1.0 (omega arith) (λ k. omega (arith, c.type_inv.words k)) (omega arith) loop.invariant.1.keeps loop.invariant.1.made in
+    told-no open_limits 64 open_of 64 fid_of (open_in args.codes.now) (λ o. o.file) 255 65 w loop.files
+    (row-no 9 64 w loop.i loop.files loop.invariant.1 c.loop-i-test.true loop.invariant.0 (omega arith)
     (sym rule ∙ sym stands.ensures ∙ c.if-not-open_stands.true))
 
 pub overflow_mul-at : goal.overflow_mul-at
@@ -79,8 +79,8 @@ offset_bounds-words-at c = omega arith
 pub bounds-words-at : goal.bounds-words-at
 bounds-words-at c = omega arith
 
-pub overflow_add-table : goal.overflow_add-table
-overflow_add-table c = omega arith
+pub overflow_add-files : goal.overflow_add-files
+overflow_add-files c = omega arith
 
 pub offset_bounds-words-at-in-loop-i : goal.offset_bounds-words-at-in-loop-i
 offset_bounds-words-at-in-loop-i c = omega arith
@@ -88,24 +88,24 @@ offset_bounds-words-at-in-loop-i c = omega arith
 pub bounds-words-at-in-loop-i : goal.bounds-words-at-in-loop-i
 bounds-words-at-in-loop-i c = omega arith
 
-pub overflow_cast-table : goal.overflow_cast-table
-overflow_cast-table c =
+pub overflow_cast-files : goal.overflow_cast-files
+overflow_cast-files c =
     let args = c.args in
     let pre = c.requires in
     let loop = c.loop-i in
     let w = args.words.now in
     let stands = c.open_stands in
-    let n = open-numbers w (loop.i - 1) args.codes.now loop.table args.files.now pre.1.1.0 (omega arith) (marked-length 9 64 w loop.invariant.1) (sym stands.ensures ∙ c.if-not-open_stands.false) in
+    let n = open-numbers w (loop.i - 1) args.codes.now loop.files pre.1.0 (omega arith) (marked-length 9 64 w loop.invariant.1) (sym stands.ensures ∙ c.if-not-open_stands.false) in
     omega arith
 
-pub bounds-table-fid : goal.bounds-table-fid
-bounds-table-fid c =
+pub bounds-files-fid : goal.bounds-files-fid
+bounds-files-fid c =
     let args = c.args in
     let pre = c.requires in
     let loop = c.loop-i in
     let w = args.words.now in
     let stands = c.open_stands in
-    let n = open-numbers w (loop.i - 1) args.codes.now loop.table args.files.now pre.1.1.0 (omega arith) (marked-length 9 64 w loop.invariant.1) (sym stands.ensures ∙ c.if-not-open_stands.false) in
+    let n = open-numbers w (loop.i - 1) args.codes.now loop.files pre.1.0 (omega arith) (marked-length 9 64 w loop.invariant.1) (sym stands.ensures ∙ c.if-not-open_stands.false) in
     omega arith
 
 pub loop-i-smaller : goal.loop-i-smaller
@@ -118,9 +118,9 @@ loop-i-preserved c =
     let loop = c.loop-i in
     let w = args.words.now in
     let stands = c.open_stands in
-    let n = open-numbers w (loop.i - 1) args.codes.now loop.table args.files.now pre.1.1.0 (omega arith) (marked-length 9 64 w loop.invariant.1) (sym stands.ensures ∙ c.if-not-open_stands.false) in
-    let rule = open-stands w (loop.i - 1) (rest (rows 9 64 w) (word w 0) loop.i) args.codes.now loop.table args.files.now pre.1.1.0 (omega arith) (λ k. omega (arith, c.type_inv.words k)) (omega arith) loop.invariant.1.keeps loop.invariant.1.made in
-    (omega arith, row-yes 9 64 w loop.i loop.table loop.invariant.1 c.loop-i-test.true loop.invariant.0 (omega arith) _ _ (sym rule ∙ sym stands.ensures ∙ c.if-not-open_stands.false) n.fid-same n.file-same n.fid-small)
+    let n = open-numbers w (loop.i - 1) args.codes.now loop.files pre.1.0 (omega arith) (marked-length 9 64 w loop.invariant.1) (sym stands.ensures ∙ c.if-not-open_stands.false) in
+    let rule = open-stands w (loop.i - 1) (rest (rows 9 64 w) (word w 0) loop.i) args.codes.now loop.files pre.1.0 (omega arith) (λ k. omega (arith, c.type_inv.words k)) (omega arith) loop.invariant.1.keeps loop.invariant.1.made in
+    (omega arith, row-yes 9 64 w loop.i loop.files loop.invariant.1 c.loop-i-test.true loop.invariant.0 (omega arith) _ _ (sym rule ∙ sym stands.ensures ∙ c.if-not-open_stands.false) n.fid-same n.file-same n.fid-small)
 
 pub returns : goal.returns
 unfolding open_array
@@ -128,4 +128,4 @@ returns c =
     let args = c.args in
     let loop = c.loop-i in
     let z : loop.i ≡ 0 = omega arith in
-    told-yes open_limits 64 open_of 64 fid_of (open_here args.files.now args.codes.now) (λ o. o.file) 255 65 args.words.now loop.table (rw z at loop.invariant.1)
+    told-yes open_limits 64 open_of 64 fid_of (open_in args.codes.now) (λ o. o.file) 255 65 args.words.now loop.files (rw z at loop.invariant.1)

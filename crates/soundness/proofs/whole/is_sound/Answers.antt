@@ -84,7 +84,7 @@ opens_marked-opens-requires c =
     let fit = room_of (word (part w 0 33) 0) (word (part w 33 97) 0) (word (part w 130 577) 0) (word (part w 707 641) 0) room in
     let long = c.requires in
     let codes = ts.ensures.made (not-false ts.result.sound c.if-not-trees.false) in
-    (ap length codes ∙ length-by_number tid_of tree_code 0 33 (trees_in (part w 33 97)), (length_part w 1348 32 (omega arith), (length_part w 130 577 (omega arith), fit.opens-fit)))
+    (ap length codes ∙ length-by_number tid_of tree_code 0 33 (trees_in (part w 33 97)), (length_part w 130 577 (omega arith), fit.opens-fit))
 
 pub returns-then-not-opens : goal.returns-then-not-opens
 returns-then-not-opens c =
@@ -98,7 +98,7 @@ returns-then-not-opens c =
     let trees = trees-judged (part w 0 33) (part w 33 97) ss.result.uids sessions uids ∙ sym ts.ensures.says ∙ not-false ts.result.sound c.if-not-trees.false in
     let codes = ts.ensures.made (not-false ts.result.sound c.if-not-trees.false) in
     let os = c.opens_marked-opens in
-    let opens = opens-judged (map uid_of (sessions_in (part w 0 33))) (part w 33 97) (part w 130 577) ts.result.codes (part w 1348 32) trees codes ∙ sym os.ensures.says ∙ not-true os.result.sound c.if-not-opens.true in
+    let opens = opens-judged (map uid_of (sessions_in (part w 0 33))) (part w 33 97) (part w 130 577) ts.result.codes trees codes ∙ sym os.ensures.says ∙ not-true os.result.sound c.if-not-opens.true in
     rw (sound-words w, room, files, sessions, trees, opens)
 
 pub locks_ok-requires : goal.locks_ok-requires
@@ -113,7 +113,7 @@ locks_ok-requires c =
     let trees = trees-judged (part w 0 33) (part w 33 97) ss.result.uids sessions uids ∙ sym ts.ensures.says ∙ not-false ts.result.sound c.if-not-trees.false in
     let codes = ts.ensures.made (not-false ts.result.sound c.if-not-trees.false) in
     let os = c.opens_marked-opens in
-    let opens = opens-judged (map uid_of (sessions_in (part w 0 33))) (part w 33 97) (part w 130 577) ts.result.codes (part w 1348 32) trees codes ∙ sym os.ensures.says ∙ not-false os.result.sound c.if-not-opens.false in
+    let opens = opens-judged (map uid_of (sessions_in (part w 0 33))) (part w 33 97) (part w 130 577) ts.result.codes trees codes ∙ sym os.ensures.says ∙ not-false os.result.sound c.if-not-opens.false in
     let fit = room_of (word (part w 0 33) 0) (word (part w 33 97) 0) (word (part w 130 577) 0) (word (part w 707 641) 0) room in
     let long = c.requires in
     let table = os.ensures.made (not-false os.result.sound c.if-not-opens.false) in
@@ -131,9 +131,9 @@ returns-then-not-locks_ok c =
     let trees = trees-judged (part w 0 33) (part w 33 97) ss.result.uids sessions uids ∙ sym ts.ensures.says ∙ not-false ts.result.sound c.if-not-trees.false in
     let codes = ts.ensures.made (not-false ts.result.sound c.if-not-trees.false) in
     let os = c.opens_marked-opens in
-    let opens = opens-judged (map uid_of (sessions_in (part w 0 33))) (part w 33 97) (part w 130 577) ts.result.codes (part w 1348 32) trees codes ∙ sym os.ensures.says ∙ not-false os.result.sound c.if-not-opens.false in
+    let opens = opens-judged (map uid_of (sessions_in (part w 0 33))) (part w 33 97) (part w 130 577) ts.result.codes trees codes ∙ sym os.ensures.says ∙ not-false os.result.sound c.if-not-opens.false in
     let table = os.ensures.made (not-false os.result.sound c.if-not-opens.false) in
-    let locks = locks-judged (trees_in (part w 33 97)) (part w 130 577) (part w 707 641) os.result.files (part w 1348 32) opens table ∙ sym c.locks_ok.ensures ∙ c.if-not-locks_ok.true in
+    let locks = locks-judged (trees_in (part w 33 97)) (part w 130 577) (part w 707 641) os.result.files opens table ∙ sym c.locks_ok.ensures ∙ c.if-not-locks_ok.true in
     rw (sound-words w, room, files, sessions, trees, opens, locks)
 
 pub catalogue_ok-requires : goal.catalogue_ok-requires
@@ -141,6 +141,32 @@ catalogue_ok-requires c =
     let w = c.args.words.now in
     let long = c.requires in
     length_part w 1380 225 (omega arith)
+
+pub returns-then-not-catalogue_ok : goal.returns-then-not-catalogue_ok
+returns-then-not-catalogue_ok c =
+    let w = c.args.words.now in
+    let room = counts w ∙ sym c.within_room.ensures ∙ c.if-not-within_room.false in
+    let files = sym c.files_ok.ensures ∙ c.if-not-files_ok.false in
+    let ss = c.sessions_marked-sessions in
+    let sessions = sym ss.ensures.says ∙ not-false ss.result.sound c.if-not-sessions.false in
+    let uids = ss.ensures.made (not-false ss.result.sound c.if-not-sessions.false) in
+    let ts = c.trees_marked-trees in
+    let trees = trees-judged (part w 0 33) (part w 33 97) ss.result.uids sessions uids ∙ sym ts.ensures.says ∙ not-false ts.result.sound c.if-not-trees.false in
+    let codes = ts.ensures.made (not-false ts.result.sound c.if-not-trees.false) in
+    let os = c.opens_marked-opens in
+    let opens = opens-judged (map uid_of (sessions_in (part w 0 33))) (part w 33 97) (part w 130 577) ts.result.codes trees codes ∙ sym os.ensures.says ∙ not-false os.result.sound c.if-not-opens.false in
+    let table = os.ensures.made (not-false os.result.sound c.if-not-opens.false) in
+    let locks = locks-judged (trees_in (part w 33 97)) (part w 130 577) (part w 707 641) os.result.files opens table ∙ sym c.locks_ok.ensures ∙ c.if-not-locks_ok.false in
+    let catalogue = sym c.catalogue_ok.ensures ∙ c.if-not-catalogue_ok.true in
+    rw (sound-words w, room, files, sessions, trees, opens, locks, catalogue)
+
+pub all_seen-requires : goal.all_seen-requires
+all_seen-requires c =
+    let w = c.args.words.now in
+    let long = c.requires in
+    let room = counts w ∙ sym c.within_room.ensures ∙ c.if-not-within_room.false in
+    let fit = room_of (word (part w 0 33) 0) (word (part w 33 97) 0) (word (part w 130 577) 0) (word (part w 707 641) 0) room in
+    (length_part w 1348 32 (omega arith), (length_part w 130 577 (omega arith), fit.opens-fit))
 
 pub returns : goal.returns
 returns c =
@@ -154,7 +180,8 @@ returns c =
     let trees = trees-judged (part w 0 33) (part w 33 97) ss.result.uids sessions uids ∙ sym ts.ensures.says ∙ not-false ts.result.sound c.if-not-trees.false in
     let codes = ts.ensures.made (not-false ts.result.sound c.if-not-trees.false) in
     let os = c.opens_marked-opens in
-    let opens = opens-judged (map uid_of (sessions_in (part w 0 33))) (part w 33 97) (part w 130 577) ts.result.codes (part w 1348 32) trees codes ∙ sym os.ensures.says ∙ not-false os.result.sound c.if-not-opens.false in
+    let opens = opens-judged (map uid_of (sessions_in (part w 0 33))) (part w 33 97) (part w 130 577) ts.result.codes trees codes ∙ sym os.ensures.says ∙ not-false os.result.sound c.if-not-opens.false in
     let table = os.ensures.made (not-false os.result.sound c.if-not-opens.false) in
-    let locks = locks-judged (trees_in (part w 33 97)) (part w 130 577) (part w 707 641) os.result.files (part w 1348 32) opens table ∙ sym c.locks_ok.ensures ∙ c.if-not-locks_ok.false in
-    rw (sound-words w, room, files, sessions, trees, opens, locks) c.catalogue_ok.ensures
+    let locks = locks-judged (trees_in (part w 33 97)) (part w 130 577) (part w 707 641) os.result.files opens table ∙ sym c.locks_ok.ensures ∙ c.if-not-locks_ok.false in
+    let catalogue = sym c.catalogue_ok.ensures ∙ c.if-not-catalogue_ok.false in
+    rw (sound-words w, room, files, sessions, trees, opens, locks, catalogue) c.all_seen.ensures
