@@ -1,6 +1,6 @@
 -- The names of the catalogue (document 02, CR 6): "a catalogue, set whole by the host, of up to 16 names of 1 to 12 bytes, each with a file number,
 -- compared with ASCII letters caseless". Assumes nothing.
-use Rattle.std.specs.Prelude.{ℕ, ◌+◌, Bool, true, false, cond, not, ◌&&◌, List, [], ◌∷◌, length, take, leb, eqb}
+use Rattle.std.specs.Prelude.{ℕ, ◌+◌, Bool, true, false, cond, not, ◌&&◌, List, [], ◌∷◌, take, leb, eqb}
 use Rattle.lists.specs.Walk.{all, all_tails}
 use Rattle.records.specs.declared.Name.{Name}
 

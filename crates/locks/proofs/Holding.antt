@@ -2,7 +2,7 @@
 -- that then stood.
 -- Assumes nothing.
 use mathlib.Core.Path.{◌≡◌, refl, sym, ap, ◌∙◌}
-use Prim.Native.Nat.{ℕ, zero, suc, ◌+◌, ◌≤◌, ◌<◌}
+use Prim.Native.Nat.{ℕ, zero, suc, ◌+◌, ◌<◌}
 use native.Mathlib.Nat.{add-zero}
 use mathlib.Core.Bool.{Bool}
 use mathlib.Core.List.{List, [], ◌∷◌, ◌++◌, map, append_assoc}
@@ -19,12 +19,11 @@ use Rattle.tables.specs.Words.{lock_array}
 use Rattle.tables.specs.Written.{locks_in}
 use Rattle.locks.specs.Wire.{range_at, ranges_at}
 use Rattle.locks.specs.Answer.{answers}
-use Rattle.locks.specs.Request.{of_header, ranges_of, ask_of, lock_of, holder_at, Grants, granted, blocked, after_walk, grant_all}
+use Rattle.locks.specs.Request.{of_header, ranges_of, ask_of, lock_of, holder_at, Grants, blocked, after_walk, grant_all}
 use Rattle.locks.specs.Blocked.{blocked_at}
 use Rattle.locks.specs.Listed.{listed_at}
 use Rattle.locks.specs.declared.types.LockRange.{LockRange}
 use Rattle.locks.specs.declared.types.Request.{Request}
-use Rattle.locks.specs.declared.types.Holder.{Holder}
 use Rattle.locks.specs.declared.types.Purpose.TheVariants.{Grant}
 
 -- a place in the list of two parts: the front part's own

@@ -1,6 +1,6 @@
 -- What a LOCKING request does to the list of locks (document 01, "Locks, reads and writes" and "Refusals on the wire").
 -- The list is kept in order of grant. Assumes nothing.
-use Rattle.std.specs.Prelude.{ℕ, suc, ◌+◌, ◌*◌, Bool, cond, not, List, [], ◌∷◌, ◌++◌, map, length, take, drop, get_or, leb, eqb}
+use Rattle.std.specs.Prelude.{ℕ, suc, ◌+◌, ◌*◌, Bool, cond, List, [], ◌∷◌, ◌++◌, map, length, take, drop, get_or, leb, eqb}
 use Rattle.std.proofs.Math.Option.{Option, none, some}
 use Rattle.lists.specs.Walk.{any, found}
 use Rattle.lists.specs.Stored.{stored}

@@ -1,5 +1,6 @@
 // The tables of the gateway (document 01, "Tables and room"): plain records in arrays of fixed room,
 // each array with a count of the records that are in use, which stand first.
+#![tactic(auto)]
 
 // A session: the user number given at login, and the connection it belongs to.
 #[derive(Clone, Copy)]

@@ -6,7 +6,7 @@ use Prim.Native.Nat.{ℕ, min, ◌+◌, ◌≤◌, ◌<◌}
 use native.Mathlib.Omega.{arith}
 use mathlib.Core.Bool.{Bool, true, false}
 use mathlib.Core.List.{List}
-use lib.ListN.{length, take, get_or, set}
+use lib.ListN.{length, get_or, set}
 use lib.Seq.{set-set, set-get_or}
 use Rattle.lists.specs.Walk.{keep}
 use Rattle.lists.specs.Stored.{Keeping, keeping_none, keeping-most, keeping-no, keeping-yes, kept_read, take-most, kept-most}

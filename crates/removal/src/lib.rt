@@ -1,5 +1,6 @@
 // Removal: the records that are named go, each with what hangs on it. CLOSE, TREE_DISCONNECT, LOGOFF,
 // PROCESS_EXIT and a dropped connection are each one value of `Gone`.
+#![tactic(auto)]
 
 pub mod locks;
 pub mod marks;

@@ -1,6 +1,6 @@
 -- When two locks may stand together, test by test: both shared, or apart, or of two files.
 -- Assumes nothing.
-use Rattle.std.specs.Prelude.{◌≡◌, refl, ℕ, zero, suc, ◌+◌, ◌-◌, ◌^◌, ◌≤◌, ◌<◌, Bool, true, false, cond, not, ◌&&◌, ◌⊎◌, List, [], ◌∷◌, length, take, drop, get_or, eqb, ltb}
+use Rattle.std.specs.Prelude.{◌≡◌, refl, ℕ, zero, suc, ◌+◌, ◌-◌, ◌^◌, ◌≤◌, ◌<◌, Bool, true, false, cond, not, ◌&&◌, List, [], ◌∷◌, length, take, drop, get_or, eqb, ltb}
 use Rattle.std.proofs.Common.{◌∙◌, arith, inl, inr, length-take, get_or-take, drop-drop}
 use borrow.Author.Tests.{not-true, ltb-false, lt-ltb, le-ltb}
 use Rattle.lists.specs.Truth.{both_hold, hold-both, decided}

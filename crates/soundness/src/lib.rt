@@ -1,5 +1,6 @@
 // Soundness of the tables (document 01, "Tables and room"): `whole::is_sound` tests it, for any words that
 // the host lends. `tree_words` looks a tree up, and `open_words::file_table` gives the file of each FID.
+#![tactic(auto)]
 
 mod by_number;
 mod file_words;

@@ -1,5 +1,6 @@
 // The tables in the words that the host lends (specs/Words.antt has the order): records read and written in place, one table's
 // words at a time, and whether the words in use fit.
+#![tactic(auto)]
 
 pub mod copy;
 pub mod cut;

@@ -1,5 +1,6 @@
 // Reading little-endian numbers out of a message (document 01, "Header": "32 bytes, little-endian").
 // Bytes past the end count as 0: no place is refused, so no caller can break a reading.
+#![tactic(auto)]
 
 pub mod fill;
 

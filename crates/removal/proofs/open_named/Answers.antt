@@ -3,7 +3,6 @@
 use mathlib.Core.Path.{sym, ap, ◌∙◌}
 use borrow.Author.Tests.{eq-eqb, ne_eqb}
 use Rattle.removal.specs.Removal.{open_named}
-use borrow.Author.Rules.{rules}
 use Rattle.removal.proofs.open_named.Goals as goal
 
 pub returns-then-o-uid : goal.returns-then-o-uid

@@ -2,7 +2,6 @@
 -- Assumes nothing.
 use mathlib.Core.Path.{sym, ap}
 use Rattle.removal.specs.Removal.{session_named, session_stays}
-use borrow.Author.Rules.{rules}
 use Rattle.removal.proofs.session_stays.Goals as goal
 
 pub returns-in-Connection : goal.returns-in-Connection

@@ -2,7 +2,6 @@
 -- Assumes nothing.
 use mathlib.Core.Path.{sym, ap}
 use Rattle.removal.specs.Removal.{tree_named}
-use borrow.Author.Rules.{rules}
 use Rattle.removal.proofs.tree_named.Goals as goal
 
 pub returns-in-Connection : goal.returns-in-Connection

@@ -1,7 +1,6 @@
 -- `catalogue::compare::fold` meets its contract: the tests are those of the definition. Assumes nothing.
 use borrow.Author.Tests.{le-leb, lt-leb}
 use Rattle.catalogue.specs.Name.{folded}
-use borrow.Author.Rules.{rules}
 use Rattle.catalogue.proofs.compare.fold.Goals as goal
 
 pub returns-then-b-lt65 : goal.returns-then-b-lt65

@@ -1,13 +1,12 @@
 -- `catalogue::compare::is_named` meets its contract: names of different lengths are different, and what the walk has left says the same as the
 -- whole. Assumes nothing.
 use mathlib.Core.Path.{◌≡◌, refl, sym, ap, ◌∙◌}
-use Prim.Native.Nat.{◌<◌, ◌-◌, ◌≤◌}
-use lib.ListN.{length, drop, get_or}
+use Prim.Native.Nat.{◌<◌, ◌≤◌}
+use lib.ListN.{length, get_or}
 use Rattle.records.specs.Empty.{no_name}
 use Rattle.tables.specs.Words.{name_array}
-use Rattle.catalogue.specs.Name.{folded, same_name, name_bytes, is_named}
+use Rattle.catalogue.specs.Name.{folded, name_bytes, is_named}
 use Rattle.catalogue.specs.NameLaws.{same-long, same_more, same_not, same_end, length-name, byte-name}
-use borrow.Author.Rules.{rules}
 use native.Mathlib.Omega.{arith}
 use Rattle.catalogue.proofs.compare.is_named.Goals as goal
 

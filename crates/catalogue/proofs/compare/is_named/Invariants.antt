@@ -1,12 +1,9 @@
-use mathlib.Core.Path.{◌≡◌, refl, sym, ap, ◌∙◌}
-use Prim.Native.Nat.{◌<◌, ◌-◌, ◌≤◌}
-use lib.ListN.{length, drop, get_or}
+use mathlib.Core.Path.{◌≡◌}
+use Prim.Native.Nat.{◌-◌, ◌≤◌}
+use lib.ListN.{drop, get_or}
 use Rattle.records.specs.Empty.{no_name}
 use Rattle.tables.specs.Words.{name_array}
-use Rattle.catalogue.specs.Name.{folded, same_name, name_bytes, is_named}
-use Rattle.catalogue.specs.NameLaws.{same-long, same_more, same_not, same_end, length-name, byte-name}
-use borrow.Author.Rules.{rules}
-use native.Mathlib.Omega.{arith}
+use Rattle.catalogue.specs.Name.{same_name, name_bytes}
 use Rattle.catalogue.proofs.compare.is_named.Given as goal
 
 abbrev pub invariant-loop-k : goal.invariant-loop-k

@@ -4,7 +4,6 @@ use native.Mathlib.Omega.{arith}
 use Prim.Native.Nat.{◌*◌, ◌+◌, ◌%◌}
 use Rattle.tables.specs.Words.{word}
 use Rattle.catalogue.specs.NameLaws.{length-name}
-use borrow.Author.Rules.{rules}
 use Rattle.catalogue.proofs.compare.name_length.Goals as goal
 
 pub returns-then-n-lt12 : goal.returns-then-n-lt12

@@ -1,9 +1,8 @@
 -- `catalogue::compare::same_letter` meets its contract: equal words have equal letters. Assumes nothing.
-use mathlib.Core.Path.{◌≡◌, refl, sym, ap, ◌∙◌}
+use mathlib.Core.Path.{refl, sym, ap, ◌∙◌}
 use Prim.Native.Nat.{◌%◌}
 use lib.Dec.{eqb}
 use borrow.Author.Tests.{eq-eqb}
-use borrow.Author.Rules.{rules}
 use Rattle.catalogue.specs.Name.{folded}
 use Rattle.catalogue.proofs.compare.same_letter.Goals as goal
 

@@ -1,16 +1,14 @@
 -- `catalogue::compare::same_names` meets its contract: names of different lengths are different, and what the walk has left says the same as the
 -- whole. Assumes nothing.
-use mathlib.Core.Path.{◌≡◌, refl, sym, ap, ◌∙◌}
-use Prim.Native.Nat.{◌<◌, ◌-◌, ◌≤◌}
-use mathlib.Core.Bool.{true, false}
-use lib.ListN.{length, drop, get_or}
+use mathlib.Core.Path.{◌≡◌, refl, sym, ◌∙◌}
+use Prim.Native.Nat.{◌<◌, ◌≤◌}
+use lib.ListN.{length, get_or}
 use lib.Dec.{eqb}
-use borrow.Author.Tests.{eqb-true, eqb-false, not-true, not-false}
+use borrow.Author.Tests.{eqb-true, eqb-false}
 use Rattle.records.specs.Empty.{no_name}
 use Rattle.tables.specs.Words.{name_array}
-use Rattle.catalogue.specs.Name.{folded, same_name, name_bytes, is_named}
+use Rattle.catalogue.specs.Name.{folded, name_bytes, is_named}
 use Rattle.catalogue.specs.NameLaws.{same-long, same_more, same_not, same_end, length-name, byte-name}
-use borrow.Author.Rules.{rules}
 use native.Mathlib.Omega.{arith}
 use Rattle.catalogue.proofs.compare.same_names.Goals as goal
 

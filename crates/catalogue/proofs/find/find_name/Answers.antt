@@ -1,14 +1,11 @@
 -- `catalogue::find::find_name` meets its contract: the names that the walk has passed are not the one given. Assumes nothing.
 use mathlib.Core.Path.{◌≡◌, sym, ◌∙◌}
-use Prim.Native.Nat.{◌-◌, ◌≤◌}
 use native.Mathlib.Decide.{dec_le}
 use lib.ListN.{length}
-use Rattle.lists.specs.FoundLaws.{Passed, passed_start, passed_here, passed-more, passed_none, passed-all}
+use Rattle.lists.specs.FoundLaws.{passed_start, passed_here, passed-more, passed_none, passed-all}
 use Rattle.records.specs.Empty.{no_name}
-use Rattle.tables.specs.Words.{word, name_array, in_use}
+use Rattle.tables.specs.Words.{word, name_array}
 use Rattle.tables.specs.ChangeLaws.{length-name_array}
-use Rattle.catalogue.specs.Name.{is_named}
-use borrow.Author.Rules.{rules}
 use native.Mathlib.Omega.{arith}
 use Rattle.catalogue.proofs.find.find_name.Goals as goal
 

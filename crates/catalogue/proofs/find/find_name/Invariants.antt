@@ -1,14 +1,8 @@
-use mathlib.Core.Path.{◌≡◌, sym, ◌∙◌}
+use mathlib.Core.Path.{◌≡◌}
 use Prim.Native.Nat.{◌-◌, ◌≤◌}
-use native.Mathlib.Decide.{dec_le}
-use lib.ListN.{length}
-use Rattle.lists.specs.FoundLaws.{Passed, passed_start, passed_here, passed-more, passed_none, passed-all}
-use Rattle.records.specs.Empty.{no_name}
+use Rattle.lists.specs.FoundLaws.{Passed}
 use Rattle.tables.specs.Words.{word, name_array, in_use}
-use Rattle.tables.specs.ChangeLaws.{length-name_array}
 use Rattle.catalogue.specs.Name.{is_named}
-use borrow.Author.Rules.{rules}
-use native.Mathlib.Omega.{arith}
 use Rattle.catalogue.proofs.find.find_name.Given as goal
 
 abbrev pub invariant-loop-i : goal.invariant-loop-i

@@ -1,7 +1,6 @@
 -- `catalogue::find::name_file` meets its contract: the file is the last word of the record, cut to a byte. Assumes nothing.
 use mathlib.Core.Path.{sym, ◌∙◌}
 use Rattle.catalogue.specs.NameLaws.{name-file}
-use borrow.Author.Rules.{rules}
 use Rattle.catalogue.proofs.find.name_file.Goals as goal
 
 pub returns : goal.returns

@@ -1,9 +1,8 @@
 -- `catalogue::rules::catalogue_ok` meets its contract: the count is tested, then each name, then every two. Assumes nothing.
 use mathlib.Core.Path.{sym, ◌∙◌}
-use borrow.Author.Tests.{le-leb, lt-leb, not-true, not-false}
+use borrow.Author.Tests.{le-leb, lt-leb}
 use Rattle.tables.specs.Words.{word}
 use Rattle.catalogue.specs.NameLaws.{catalogue-tested}
-use borrow.Author.Rules.{rules}
 use Rattle.catalogue.proofs.rules.catalogue_ok.Goals as goal
 
 pub returns-then-words-gt16 : goal.returns-then-words-gt16

@@ -1,15 +1,10 @@
-use mathlib.Core.Path.{◌≡◌, refl, sym, ap, ◌∙◌}
+use mathlib.Core.Path.{◌≡◌}
 use Prim.Native.Nat.{◌+◌, ◌-◌, ◌<◌}
-use mathlib.Core.Bool.{not}
-use lib.ListN.{length, get_or}
+use lib.ListN.{get_or}
 use Rattle.lists.specs.Walk.{all, rest}
-use Rattle.lists.specs.WalkLaws.{all_yes, all-no, all_end}
 use Rattle.records.specs.Empty.{no_name}
 use Rattle.tables.specs.Words.{word, name_array}
-use Rattle.tables.specs.ChangeLaws.{length-name_array}
 use Rattle.catalogue.specs.Name.{differ}
-use borrow.Author.Rules.{rules}
-use native.Mathlib.Omega.{arith}
 use Rattle.catalogue.proofs.rules.differs_later.Given as goal
 
 abbrev pub invariant-loop-j : goal.invariant-loop-j

@@ -3,7 +3,6 @@ use Prim.Native.Nat.{◌+◌, ◌*◌}
 use borrow.Author.Tests.{le-leb, lt-leb}
 use Rattle.tables.specs.Words.{word}
 use Rattle.catalogue.specs.NameLaws.{name-stands}
-use borrow.Author.Rules.{rules}
 use Rattle.catalogue.proofs.rules.name_stands.Goals as goal
 
 pub returns-then-n-lt1 : goal.returns-then-n-lt1

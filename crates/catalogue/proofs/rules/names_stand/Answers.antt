@@ -1,13 +1,9 @@
 -- `catalogue::rules::names_stand` meets its contract: what the walk has left says the same as the whole. Assumes nothing.
-use mathlib.Core.Path.{◌≡◌, sym, ◌∙◌}
-use Prim.Native.Nat.{◌-◌, ◌≤◌}
-use borrow.Author.Tests.{not-true, not-false}
-use Rattle.lists.specs.Walk.{all}
-use Rattle.tables.specs.Words.{word, up_to}
-use Rattle.tables.specs.FitLaws.{left, left-start, left-yes, left-no, left_end}
+use mathlib.Core.Path.{sym, ◌∙◌}
+use Rattle.tables.specs.Words.{word}
+use Rattle.tables.specs.FitLaws.{left-start, left-yes, left-no, left_end}
 use Rattle.catalogue.specs.InWords.{name_stands}
 use Rattle.catalogue.specs.NameLaws.{names_stand}
-use borrow.Author.Rules.{rules}
 use native.Mathlib.Omega.{arith}
 use Rattle.catalogue.proofs.rules.names_stand.Goals as goal
 

@@ -1,13 +1,9 @@
-use mathlib.Core.Path.{◌≡◌, sym, ◌∙◌}
+use mathlib.Core.Path.{◌≡◌}
 use Prim.Native.Nat.{◌-◌, ◌≤◌}
-use borrow.Author.Tests.{not-true, not-false}
 use Rattle.lists.specs.Walk.{all}
 use Rattle.tables.specs.Words.{word, up_to}
-use Rattle.tables.specs.FitLaws.{left, left-start, left-yes, left-no, left_end}
+use Rattle.tables.specs.FitLaws.{left}
 use Rattle.catalogue.specs.InWords.{name_stands}
-use Rattle.catalogue.specs.NameLaws.{names_stand}
-use borrow.Author.Rules.{rules}
-use native.Mathlib.Omega.{arith}
 use Rattle.catalogue.proofs.rules.names_stand.Given as goal
 
 abbrev pub invariant-loop-i : goal.invariant-loop-i

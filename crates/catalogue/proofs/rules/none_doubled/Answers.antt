@@ -1,16 +1,12 @@
 -- `catalogue::rules::none_doubled` meets its contract: what the walk has left says the same as the whole. Assumes nothing.
 use mathlib.Core.Path.{◌≡◌, refl, sym, ◌∙◌}
-use Prim.Native.Nat.{◌-◌, ◌≤◌}
 use lib.ListN.{length}
-use borrow.Author.Tests.{not-true, not-false}
-use Rattle.lists.specs.Walk.{all, rest}
+use Rattle.lists.specs.Walk.{all}
 use Rattle.lists.specs.WalkLaws.{tails-yes, tails-no, tails_end}
 use Rattle.records.specs.Empty.{no_name}
 use Rattle.tables.specs.Words.{word, name_array}
-use Rattle.tables.specs.Written.{names_in}
 use Rattle.tables.specs.ChangeLaws.{length-name_array}
 use Rattle.catalogue.specs.Name.{differ, none_doubled}
-use borrow.Author.Rules.{rules}
 use native.Mathlib.Omega.{arith}
 use Rattle.catalogue.proofs.rules.none_doubled.Goals as goal
 

@@ -1,16 +1,9 @@
-use mathlib.Core.Path.{◌≡◌, refl, sym, ◌∙◌}
+use mathlib.Core.Path.{◌≡◌}
 use Prim.Native.Nat.{◌-◌, ◌≤◌}
-use lib.ListN.{length}
-use borrow.Author.Tests.{not-true, not-false}
-use Rattle.lists.specs.Walk.{all, rest}
-use Rattle.lists.specs.WalkLaws.{tails-yes, tails-no, tails_end}
-use Rattle.records.specs.Empty.{no_name}
+use Rattle.lists.specs.Walk.{rest}
 use Rattle.tables.specs.Words.{word, name_array}
 use Rattle.tables.specs.Written.{names_in}
-use Rattle.tables.specs.ChangeLaws.{length-name_array}
-use Rattle.catalogue.specs.Name.{differ, none_doubled}
-use borrow.Author.Rules.{rules}
-use native.Mathlib.Omega.{arith}
+use Rattle.catalogue.specs.Name.{none_doubled}
 use Rattle.catalogue.proofs.rules.none_doubled.Given as goal
 
 abbrev pub invariant-loop-i : goal.invariant-loop-i

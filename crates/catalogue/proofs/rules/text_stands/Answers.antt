@@ -1,11 +1,9 @@
 -- `catalogue::rules::text_stands` meets its contract: what the walk has left says the same as the whole. Assumes nothing.
-use mathlib.Core.Path.{◌≡◌, sym, ◌∙◌}
-use Prim.Native.Nat.{◌+◌, ◌-◌, ◌≤◌}
-use borrow.Author.Tests.{not-true, not-false}
+use mathlib.Core.Path.{sym, ◌∙◌}
+use Prim.Native.Nat.{◌+◌}
 use Rattle.tables.specs.Words.{word}
-use Rattle.tables.specs.FitLaws.{left, left-start, left-yes, left-no, left_end}
+use Rattle.tables.specs.FitLaws.{left-start, left-yes, left-no, left_end}
 use Rattle.catalogue.specs.InWords.{byte_stands, text_stands}
-use borrow.Author.Rules.{rules}
 use native.Mathlib.Omega.{arith}
 use Rattle.catalogue.proofs.rules.text_stands.Goals as goal
 

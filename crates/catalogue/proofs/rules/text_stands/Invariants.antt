@@ -1,11 +1,8 @@
-use mathlib.Core.Path.{◌≡◌, sym, ◌∙◌}
+use mathlib.Core.Path.{◌≡◌}
 use Prim.Native.Nat.{◌+◌, ◌-◌, ◌≤◌}
-use borrow.Author.Tests.{not-true, not-false}
 use Rattle.tables.specs.Words.{word}
-use Rattle.tables.specs.FitLaws.{left, left-start, left-yes, left-no, left_end}
+use Rattle.tables.specs.FitLaws.{left}
 use Rattle.catalogue.specs.InWords.{byte_stands, text_stands}
-use borrow.Author.Rules.{rules}
-use native.Mathlib.Omega.{arith}
 use Rattle.catalogue.proofs.rules.text_stands.Given as goal
 
 abbrev pub invariant-loop-k : goal.invariant-loop-k

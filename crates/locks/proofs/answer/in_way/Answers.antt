@@ -1,6 +1,5 @@
 -- `locks::answer::in_way` meets its contract: each test that fails makes the whole false, and the last one decides.
 -- Assumes nothing.
-use borrow.Author.Tests.{not-true, not-false}
 use Rattle.locks.specs.Answer.{in_way}
 use Rattle.locks.proofs.answer.in_way.Goals as goal
 

@@ -1,13 +1,10 @@
 -- `locks::grant::some_passes` meets its contract: some range passes the end where one of those ahead does.
 -- Assumes nothing.
 use mathlib.Core.Path.{refl, sym}
-use Prim.Native.Nat.{◌-◌}
 use native.Mathlib.Omega.{arith}
 use Rattle.lists.specs.Walk.{any}
 use Rattle.lists.specs.FoundLaws.{any-first, any-later}
-use Rattle.locks.specs.Wire.{ranges_at}
-use Rattle.locks.specs.Request.{range_passes}
-use Rattle.locks.proofs.Ahead.{Ahead, ahead-start, ahead-here, ahead_more, ahead_none}
+use Rattle.locks.proofs.Ahead.{ahead-start, ahead-here, ahead_more, ahead_none}
 use Rattle.locks.proofs.Granted.{range-passes}
 use Rattle.locks.proofs.grant.some_passes.Goals as goal
 

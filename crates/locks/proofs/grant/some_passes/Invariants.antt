@@ -1,12 +1,8 @@
-use mathlib.Core.Path.{refl, sym}
 use Prim.Native.Nat.{◌-◌}
-use native.Mathlib.Omega.{arith}
 use Rattle.lists.specs.Walk.{any}
-use Rattle.lists.specs.FoundLaws.{any-first, any-later}
 use Rattle.locks.specs.Wire.{ranges_at}
 use Rattle.locks.specs.Request.{range_passes}
-use Rattle.locks.proofs.Ahead.{Ahead, ahead-start, ahead-here, ahead_more, ahead_none}
-use Rattle.locks.proofs.Granted.{range-passes}
+use Rattle.locks.proofs.Ahead.{Ahead}
 use Rattle.locks.proofs.grant.some_passes.Given as goal
 
 abbrev pub invariant-loop-k : goal.invariant-loop-k

@@ -1,13 +1,12 @@
 -- `locks::grants::append_locks` meets its contract: each turn writes one lock behind those that the words hold.
 -- Assumes nothing.
 use mathlib.Core.Path.{◌≡◌, ◌∙◌}
-use mathlib.Core.Bool.{true}
-use Prim.Native.Nat.{◌+◌, ◌-◌, ◌≤◌}
+use Prim.Native.Nat.{◌+◌, ◌-◌}
 use lib.ListN.{length, length-set}
-use Rattle.tables.specs.Words.{lock_array, lock_limits, records_fit}
+use Rattle.tables.specs.Words.{lock_array}
 use Rattle.tables.specs.ChangeLaws.{length-lock_array, lock_array-count, count_set}
 use Rattle.locks.proofs.Lent.{fit-counted, fit-behind}
-use Rattle.locks.proofs.Appended.{appended, appended-start, appended-more}
+use Rattle.locks.proofs.Appended.{appended-start, appended-more}
 use native.Mathlib.Omega.{arith}
 use Rattle.locks.proofs.grants.append_locks.Goals as goal
 

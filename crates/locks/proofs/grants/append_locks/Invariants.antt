@@ -1,16 +1,13 @@
-use mathlib.Core.Path.{◌≡◌, ◌∙◌}
+use mathlib.Core.Path.{◌≡◌}
 use mathlib.Core.Bool.{true}
 use Prim.Native.Nat.{◌+◌, ◌-◌, ◌≤◌}
-use lib.ListN.{length, length-set}
+use lib.ListN.{length}
 use Rattle.tables.specs.Words.{lock_array, lock_limits, records_fit}
-use Rattle.tables.specs.ChangeLaws.{length-lock_array, lock_array-count, count_set}
-use Rattle.locks.proofs.Lent.{fit-counted, fit-behind}
-use Rattle.locks.proofs.Appended.{appended, appended-start, appended-more}
-use native.Mathlib.Omega.{arith}
+use Rattle.locks.proofs.Appended.{appended}
 use Rattle.locks.proofs.grants.append_locks.Given as goal
 
 abbrev pub invariant-loop-k : goal.invariant-loop-k
-invariant-loop-k l =     (l.from ≤ l.k) × (l.k ≤ l.to) × (length l.words ≡ 641) × (lock_array l.words ≡ appended (lock_array l.initial.words) l.held l.q l.area l.k)
+invariant-loop-k l = (l.from ≤ l.k) × (l.k ≤ l.to) × (length l.words ≡ 641) × (lock_array l.words ≡ appended (lock_array l.initial.words) l.held l.q l.area l.k)
     × (records_fit lock_limits l.held l.initial.words ≡ true → records_fit lock_limits (l.held + (l.k - l.from)) l.words ≡ true)
 
 abbrev pub decreases-loop-k : goal.decreases-loop-k

@@ -3,12 +3,10 @@
 use mathlib.Core.Path.{◌≡◌, sym, ◌∙◌}
 use Prim.Native.Nat.{◌+◌, ◌-◌}
 use mathlib.Core.List.{map}
-use Rattle.tables.specs.Written.{locks_in}
-use Rattle.locks.specs.Answer.{file_in}
-use Rattle.locks.specs.Request.{of_header, ranges_of, holder_at, grant_all}
+use Rattle.locks.specs.Request.{ranges_of, holder_at, grant_all}
 use Rattle.locks.specs.Blocked.{blocked_at}
-use Rattle.locks.proofs.Ahead.{Ahead, ahead-start, ahead-here, ahead_more, ahead_none}
-use Rattle.locks.proofs.Granted.{along, grant-start, grant-stop, grant-more}
+use Rattle.locks.proofs.Ahead.{ahead-start, ahead-here, ahead_more, ahead_none}
+use Rattle.locks.proofs.Granted.{grant-start, grant-stop, grant-more}
 use native.Mathlib.Omega.{arith}
 use Rattle.locks.proofs.grants.first_conflict.Goals as goal
 

@@ -1,13 +1,11 @@
 -- `locks::grants::first_overlap` meets its contract: the ranges ahead give the same answer as all of them.
 -- Assumes nothing.
 use mathlib.Core.Path.{sym}
-use Prim.Native.Nat.{◌-◌}
 use native.Mathlib.Omega.{arith}
-use Rattle.lists.specs.Walk.{found, found_from}
+use Rattle.lists.specs.Walk.{found_from}
 use Rattle.lists.specs.FoundLaws.{found_from-yes}
-use Rattle.locks.specs.Wire.{ranges_at}
 use Rattle.locks.specs.Blocked.{range_meets}
-use Rattle.locks.proofs.Ahead.{Ahead, ahead-start, ahead-here, ahead_more, ahead_none}
+use Rattle.locks.proofs.Ahead.{ahead-start, ahead-here, ahead_more, ahead_none}
 use Rattle.locks.proofs.Granted.{found-whole, found-next}
 use Rattle.locks.proofs.grants.first_overlap.Goals as goal
 

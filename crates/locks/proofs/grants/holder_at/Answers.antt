@@ -1,7 +1,7 @@
 -- `locks::grants::holder_at` meets its contract: the list of two parts has at the place a listed lock, or one of the request's own.
 -- Assumes nothing.
-use mathlib.Core.Path.{◌≡◌, sym, ap, ◌∙◌}
-use Prim.Native.Nat.{◌+◌, ◌-◌, ◌<◌}
+use mathlib.Core.Path.{sym, ap, ◌∙◌}
+use Prim.Native.Nat.{◌-◌}
 use native.Mathlib.Omega.{arith}
 use Rattle.records.specs.declared.Lock.{Lock}
 use Rattle.tables.specs.Written.{locks_in}

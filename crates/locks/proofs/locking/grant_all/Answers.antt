@@ -59,7 +59,10 @@ returns c =
     let most = held-most args.words.now in
     let held = c.held_in-held.ensures in
     let free = sym c.in_default.is ∙ c.first_conflict-first.ensures in
-    let many = length-of args.q args.area.now args.q.unlocks args.q.locks in record { settles = settles-done args.words.now _ _ _
+    let many = length-of args.q args.area.now args.q.unlocks args.q.locks in record {
+      settles = settles-done args.words.now _ _ _
           (locks-granted _ _ _ _ _ within free _ _ held many (omega arith))
           (rw (held-front args.words.now c.held_in-held.result held, held) at c.append_locks.ensures.words_after)
-          (c.append_locks.ensures.words_after_2 ∙ sym (length_whole _ _ _ _ _ within free _ _ held many)); words_after = λ f. c.append_locks.ensures.words_after_3 (fit-held args.words.now c.held_in-held.result held f) }
+          (c.append_locks.ensures.words_after_2 ∙ sym (length_whole _ _ _ _ _ within free _ _ held many));
+      words_after = λ f. c.append_locks.ensures.words_after_3 (fit-held args.words.now c.held_in-held.result held f);
+    }

@@ -30,11 +30,14 @@ returns-then-q-eq0 c =
     let args = c.args in
     let q = args.q in
     let w = args.words.now in
-    let sized : length args.area.now ≡ (q.unlocks + q.locks) * range_size q.large = rw (← c.range_size.ensures) c.if-area-ranges.false in record { settles = rw (
+    let sized : length args.area.now ≡ (q.unlocks + q.locks) * range_size q.large = rw (← c.range_size.ensures) c.if-area-ranges.false in record {
+      settles = rw (
         locking-sized (file_in args.files.now) (lock_array w) (word w 0) q args.area.now sized,
         no-unlocks (file_in args.files.now) q args.area.now (ranges_of q args.area.now q.unlocks q.locks) (locks_in w) c.if-q-eq0.true,
       )
-          c.grant_all.ensures.settles; words_after = c.grant_all.ensures.words_after }
+          c.grant_all.ensures.settles;
+      words_after = c.grant_all.ensures.words_after;
+    }
 
 pub returns-then-is_done : goal.returns-then-is_done
 returns-then-is_done c =
@@ -48,5 +51,8 @@ returns c =
     let args = c.args in
     let q = args.q in
     let w = args.words.now in
-    let sized : length args.area.now ≡ (q.unlocks + q.locks) * range_size q.large = rw (← c.range_size.ensures) c.if-area-ranges.false in record { settles = rw (locking-sized (file_in args.files.now) (lock_array w) (word w 0) q args.area.now sized, c.copy_words-2.ensures, c.copy_words.ensures)
-          (settles-back w _ (sym c.is_done.ensures ∙ c.if-is_done.false) c.unlock_and_grant-why.ensures.tried); words_after = λ f. rw (c.copy_words-2.ensures, c.copy_words.ensures) f }
+    let sized : length args.area.now ≡ (q.unlocks + q.locks) * range_size q.large = rw (← c.range_size.ensures) c.if-area-ranges.false in record {
+      settles = rw (locking-sized (file_in args.files.now) (lock_array w) (word w 0) q args.area.now sized, c.copy_words-2.ensures, c.copy_words.ensures)
+          (settles-back w _ (sym c.is_done.ensures ∙ c.if-is_done.false) c.unlock_and_grant-why.ensures.tried);
+      words_after = λ f. rw (c.copy_words-2.ensures, c.copy_words.ensures) f;
+    }

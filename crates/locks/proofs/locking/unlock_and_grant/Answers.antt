@@ -4,7 +4,6 @@ use mathlib.Core.Path.{◌∙◌}
 use native.Mathlib.Omega.{arith}
 use lib.ListN.{length-set}
 use Rattle.tables.specs.ChangeLaws.{count_set}
-use borrow.Author.Tests.{not-true, not-false}
 use Rattle.locks.proofs.Lent.{held-most, fit-held, fit-counted}
 use Rattle.locks.proofs.Settling.{recounted, tried-missing, tried-locks}
 use Rattle.locks.proofs.locking.unlock_and_grant.Goals as goal
@@ -27,8 +26,11 @@ returns-then-not-release_all c =
     let held = c.held_in-held.result in
     let most = held-most w in
     let same = c.held_in-held.ensures in
-    let long = c.requires in record { tried = tried-missing _ _ _ _ _ (recounted w held long same) c.release_all.ensures.unlocks _
-          (c.if-not-release_all.true); words_after = λ f. c.release_all.ensures.words_after (fit-counted w held (omega arith) (omega arith) (fit-held w held same f)) }
+    let long = c.requires in record {
+      tried = tried-missing _ _ _ _ _ (recounted w held long same) c.release_all.ensures.unlocks _
+          (c.if-not-release_all.true);
+      words_after = λ f. c.release_all.ensures.words_after (fit-counted w held (omega arith) (omega arith) (fit-held w held same f));
+    }
 
 pub grant_all-requires : goal.grant_all-requires
 grant_all-requires c = c.release_all.auto.words ∙ length-set c.args.words.now 0 c.held_in-held.result ∙ c.requires
@@ -42,5 +44,8 @@ returns c =
     let held = c.held_in-held.result in
     let most = held-most w in
     let same = c.held_in-held.ensures in
-    let long = c.requires in record { tried = tried-locks _ _ _ _ _ (recounted w held long same) c.release_all.ensures.unlocks
-          (c.if-not-release_all.false) c.grant_all.ensures.settles; words_after = λ f. c.grant_all.ensures.words_after (c.release_all.ensures.words_after (fit-counted w held (omega arith) (omega arith) (fit-held w held same f))) }
+    let long = c.requires in record {
+      tried = tried-locks _ _ _ _ _ (recounted w held long same) c.release_all.ensures.unlocks
+          (c.if-not-release_all.false) c.grant_all.ensures.settles;
+      words_after = λ f. c.grant_all.ensures.words_after (c.release_all.ensures.words_after (fit-counted w held (omega arith) (omega arith) (fit-held w held same f)));
+    }

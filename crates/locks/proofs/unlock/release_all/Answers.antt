@@ -1,17 +1,15 @@
 -- `locks::unlock::release_all` meets its contract: the unlocks ahead make of the list so far what all of them make of the first list, and the words hold it.
 -- Assumes nothing.
 use mathlib.Core.Path.{◌≡◌, sym, ◌∙◌}
-use mathlib.Core.Bool.{true, false≢true}
+use mathlib.Core.Bool.{false≢true}
 use Prim.Native.Nat.{◌-◌}
 use mathlib.Core.List.{map}
 use lib.ListN.{length}
-use Rattle.tables.specs.Words.{word, lock_array, lock_limits, table_fits}
-use Rattle.tables.specs.Written.{locks_in}
-use Rattle.locks.specs.Answer.{file_in}
-use Rattle.locks.specs.Request.{of_header, ranges_of, release_all}
-use Rattle.locks.proofs.Ahead.{Ahead, ahead-start, ahead-here, ahead_more, ahead_none}
+use Rattle.tables.specs.Words.{word, lock_array}
+use Rattle.locks.specs.Request.{ranges_of, release_all}
+use Rattle.locks.proofs.Ahead.{ahead-start, ahead-here, ahead_more, ahead_none}
 use Rattle.tables.specs.ChangeLaws.{length-lock_array}
-use Rattle.locks.proofs.Unlocked.{Left, left-start, left_below, left_step, left-list, release-more, release-stop}
+use Rattle.locks.proofs.Unlocked.{left-start, left_below, left_step, left-list, release-more, release-stop}
 use native.Mathlib.Omega.{arith}
 use Rattle.locks.proofs.unlock.release_all.Goals as goal
 
@@ -33,14 +31,17 @@ pub shape_of-words-in_default : goal.shape_of-words-in_default
 shape_of-words-in_default c = c.loop-k.invariant.0 ∙ sym c.requires.0
 
 pub returns-in_default : goal.returns-in_default
-returns-in_default c = record { unlocks = record {
+returns-in_default c = record {
+  unlocks = record {
     list = λ e. absurd (false≢true e);
     array = λ e. absurd (false≢true e);
     count = λ e. absurd (false≢true e);
     missing =
         λ _. ahead-here c.loop-k.invariant.2 (omega arith)
         (λ rs. release-stop _ _ _ _ c.range_of-r.ensures c.ask_of.ensures c.first_answer.ensures (map _ rs) c.in_default.is);
-  }; words_after = c.loop-k.invariant.3 }
+  };
+  words_after = c.loop-k.invariant.3;
+}
 
 pub remove_at-requires : goal.remove_at-requires
 remove_at-requires c =
@@ -78,9 +79,12 @@ shape_of-words c = c.loop-k.invariant.0 ∙ sym c.requires.0
 
 pub returns : goal.returns
 unfolding release_all
-returns c = record { unlocks = record {
+returns c = record {
+  unlocks = record {
     list = λ _. ahead_none c.loop-k.invariant.2 (omega arith);
     array = λ _. c.loop-k.invariant.1.holds;
     count = λ _. c.loop-k.invariant.1.short;
     missing = λ e. absurd (false≢true (sym e));
-  }; words_after = c.loop-k.invariant.3 }
+  };
+  words_after = c.loop-k.invariant.3;
+}

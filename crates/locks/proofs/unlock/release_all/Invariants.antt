@@ -1,5 +1,5 @@
-use mathlib.Core.Path.{◌≡◌, sym, ◌∙◌}
-use mathlib.Core.Bool.{true, false≢true}
+use mathlib.Core.Path.{◌≡◌}
+use mathlib.Core.Bool.{true}
 use Prim.Native.Nat.{◌-◌}
 use mathlib.Core.List.{map}
 use lib.ListN.{length}
@@ -7,14 +7,12 @@ use Rattle.tables.specs.Words.{word, lock_array, lock_limits, table_fits}
 use Rattle.tables.specs.Written.{locks_in}
 use Rattle.locks.specs.Answer.{file_in}
 use Rattle.locks.specs.Request.{of_header, ranges_of, release_all}
-use Rattle.locks.proofs.Ahead.{Ahead, ahead-start, ahead-here, ahead_more, ahead_none}
-use Rattle.tables.specs.ChangeLaws.{length-lock_array}
-use Rattle.locks.proofs.Unlocked.{Left, left-start, left_below, left_step, left-list, release-more, release-stop}
-use native.Mathlib.Omega.{arith}
+use Rattle.locks.proofs.Ahead.{Ahead}
+use Rattle.locks.proofs.Unlocked.{Left}
 use Rattle.locks.proofs.unlock.release_all.Given as goal
 
 abbrev pub invariant-loop-k : goal.invariant-loop-k
-invariant-loop-k l =     (length l.words ≡ 641)
+invariant-loop-k l = (length l.words ≡ 641)
     × Left (lock_array l.initial.words) (word l.initial.words 0) (lock_array l.words) (word l.words 0)
     × Ahead (release_all (file_in l.files) l.q.fid (ranges_of l.q l.area 0 l.q.unlocks) (locks_in l.initial.words))
     (λ rs. release_all (file_in l.files) l.q.fid (map (of_header l.q.high) rs) (locks_in l.words)) l.q.large l.area 0 l.q.unlocks l.k

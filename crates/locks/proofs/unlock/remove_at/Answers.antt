@@ -1,14 +1,12 @@
 -- `locks::unlock::remove_at` meets its contract: each turn moves one record forward, over the one in front of it.
 -- Assumes nothing.
 use mathlib.Core.Path.{◌≡◌, ◌∙◌}
-use mathlib.Core.Bool.{true}
-use Prim.Native.Nat.{◌-◌, ◌≤◌, ◌<◌}
 use lib.ListN.{length, length-set}
 use Rattle.records.specs.Empty.{no_lock}
-use Rattle.tables.specs.Words.{word, lock_array, lock_limits, records_fit}
+use Rattle.tables.specs.Words.{word, lock_array}
 use Rattle.tables.specs.ChangeLaws.{length-lock_array, lock_array-count, count_set}
 use Rattle.locks.proofs.Lent.{held-count, fit-held, fit-counted, fit-within}
-use Rattle.locks.proofs.Removed.{moved, moved-start, moved-step, moved-end}
+use Rattle.locks.proofs.Removed.{moved-start, moved-step, moved-end}
 use native.Mathlib.Omega.{arith}
 use Rattle.locks.proofs.unlock.remove_at.Goals as goal
 
@@ -76,8 +74,12 @@ returns c =
     let wrote = c.put_lock-2 in
     let long : length (lock_array words) ≡ 128 = length-lock_array words in
     let sized : length wrote.new.words ≡ 641 = wrote.auto.words ∙ loop.invariant.2 in
-    let at : loop.i ≡ word words 0 = omega arith in record { words_after = lock_array-count wrote.new.words _ (omega arith)
+    let at : loop.i ≡ word words 0 = omega arith in record {
+      words_after = lock_array-count wrote.new.words _ (omega arith)
           ∙ wrote.ensures.array
-          ∙ rw (loop.invariant.3, at) (moved-end (lock_array words) c.args.place (word words 0) (omega arith) (omega arith) no_lock); words_after_2 = count_set wrote.new.words _ (omega arith); words_after_3 = λ f.
-            fit-counted wrote.new.words _ (omega arith) (omega arith)
-            (fit-within (word words 0) _ (omega arith) wrote.ensures (loop.invariant.4 (fit-held words (word words 0) (held-count words (omega arith)) f))) }
+          ∙ rw (loop.invariant.3, at) (moved-end (lock_array words) c.args.place (word words 0) (omega arith) (omega arith) no_lock);
+      words_after_2 = count_set wrote.new.words _ (omega arith);
+      words_after_3 = λ f.
+          fit-counted wrote.new.words _ (omega arith) (omega arith)
+          (fit-within (word words 0) _ (omega arith) wrote.ensures (loop.invariant.4 (fit-held words (word words 0) (held-count words (omega arith)) f)));
+    }

@@ -1,11 +1,6 @@
-use mathlib.Core.Path.{◌≡◌, sym, ◌∙◌}
 use Prim.Native.Nat.{◌-◌, ◌≤◌}
-use native.Mathlib.Omega.{arith}
-use lib.ListN.{length}
-use Rattle.lists.specs.FoundLaws.{Passed, passed_start, passed_here, passed-more, passed_none, passed-all}
-use Rattle.records.specs.Empty.{no_lock}
+use Rattle.lists.specs.FoundLaws.{Passed}
 use Rattle.tables.specs.Words.{word, lock_array}
-use Rattle.tables.specs.ChangeLaws.{length-lock_array}
 use Rattle.locks.specs.Answer.{file_in, in_way}
 use Rattle.locks.proofs.walk.first_in_way.Given as goal
 

@@ -1,14 +1,12 @@
 -- `locks::walk::first_named` meets its contract: the locks ahead give the same answer as the whole list.
 -- Assumes nothing.
 use mathlib.Core.Path.{◌≡◌, sym, ◌∙◌}
-use Prim.Native.Nat.{◌-◌, ◌≤◌}
 use native.Mathlib.Omega.{arith}
 use lib.ListN.{length}
-use Rattle.lists.specs.FoundLaws.{Passed, passed_start, passed_here, passed-more, passed_none, passed-all}
+use Rattle.lists.specs.FoundLaws.{passed_start, passed_here, passed-more, passed_none, passed-all}
 use Rattle.records.specs.Empty.{no_lock}
-use Rattle.tables.specs.Words.{word, lock_array}
+use Rattle.tables.specs.Words.{lock_array}
 use Rattle.tables.specs.ChangeLaws.{length-lock_array}
-use Rattle.locks.specs.Answer.{named}
 use Rattle.locks.proofs.walk.first_named.Goals as goal
 
 pub bounds-words-0 : goal.bounds-words-0

@@ -1,6 +1,5 @@
 -- `locks::walk::stands_in_way` meets its contract: the words tested are the record's offset and length, and the record decides the rest.
 -- Assumes nothing.
-use borrow.Author.Tests.{not-true}
 use Rattle.records.specs.Empty.{no_lock}
 use Rattle.tables.specs.Words.{lock_of, lock_array}
 use Rattle.tables.specs.ArrayLaws.{record-at}

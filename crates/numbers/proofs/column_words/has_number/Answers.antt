@@ -1,12 +1,11 @@
 -- `numbers::column_words::has_number` meets its contract: what the walk has left says the same as the whole.
 -- Assumes nothing.
 use mathlib.Core.Path.{◌≡◌, sym, ap, ◌∙◌}
-use Prim.Native.Nat.{◌-◌, ◌≤◌}
 use lib.ListN.{length}
 use lib.Seq.{take_all}
 use lib.Dec.{eqb}
 use borrow.Author.Tests.{eq-eqb, ne_eqb}
-use Rattle.lists.specs.Walk.{any, rest}
+use Rattle.lists.specs.Walk.{any}
 use Rattle.lists.specs.WalkLaws.{any-end, any-yes, any-no}
 use Rattle.numbers.specs.Number.{contains}
 use Rattle.numbers.specs.ColumnWords.{numbers_in, length-numbers_in, number_at, number-inside}

@@ -1,14 +1,8 @@
-use mathlib.Core.Path.{◌≡◌, sym, ap, ◌∙◌}
+use mathlib.Core.Path.{◌≡◌}
 use Prim.Native.Nat.{◌-◌, ◌≤◌}
-use lib.ListN.{length}
-use lib.Seq.{take_all}
 use lib.Dec.{eqb}
-use borrow.Author.Tests.{eq-eqb, ne_eqb}
 use Rattle.lists.specs.Walk.{any, rest}
-use Rattle.lists.specs.WalkLaws.{any-end, any-yes, any-no}
-use Rattle.numbers.specs.Number.{contains}
-use Rattle.numbers.specs.ColumnWords.{numbers_in, length-numbers_in, number_at, number-inside}
-use native.Mathlib.Omega.{arith}
+use Rattle.numbers.specs.ColumnWords.{numbers_in}
 use Rattle.numbers.proofs.column_words.has_number.Given as goal
 
 abbrev pub invariant-loop-i : goal.invariant-loop-i

@@ -1,13 +1,13 @@
 -- `numbers::column_words::has_session` meets its contract: what the walk has left says the same as the whole.
 -- Assumes nothing.
 use mathlib.Core.Path.{◌≡◌, sym, ap, ◌∙◌}
-use Prim.Native.Nat.{ℕ, min, ◌-◌, ◌≤◌}
+use Prim.Native.Nat.{ℕ, min}
 use mathlib.Core.List.{List, map}
 use lib.ListN.{length}
 use lib.Seq.{take_all}
 use lib.Dec.{eqb}
 use borrow.Author.Tests.{eq-eqb, ne_eqb}
-use Rattle.lists.specs.Walk.{any, rest}
+use Rattle.lists.specs.Walk.{any}
 use Rattle.lists.specs.WalkLaws.{any-end, any-yes, any-no}
 use Rattle.tables.specs.Words.{word}
 use Rattle.tables.specs.Written.{sessions_in}

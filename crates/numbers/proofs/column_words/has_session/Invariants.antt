@@ -1,18 +1,8 @@
-use mathlib.Core.Path.{◌≡◌, sym, ap, ◌∙◌}
-use Prim.Native.Nat.{ℕ, min, ◌-◌, ◌≤◌}
-use mathlib.Core.List.{List, map}
-use lib.ListN.{length}
-use lib.Seq.{take_all}
+use mathlib.Core.Path.{◌≡◌}
+use Prim.Native.Nat.{◌-◌, ◌≤◌}
 use lib.Dec.{eqb}
-use borrow.Author.Tests.{eq-eqb, ne_eqb}
 use Rattle.lists.specs.Walk.{any, rest}
-use Rattle.lists.specs.WalkLaws.{any-end, any-yes, any-no}
-use Rattle.tables.specs.Words.{word}
-use Rattle.tables.specs.Written.{sessions_in}
-use Rattle.numbers.specs.Number.{contains}
-use Rattle.numbers.specs.Column.{uid_of}
-use Rattle.numbers.specs.ColumnWords.{numbers_in, uids-in, length-numbers_in, number_at}
-use native.Mathlib.Omega.{arith}
+use Rattle.numbers.specs.ColumnWords.{numbers_in}
 use Rattle.numbers.proofs.column_words.has_session.Given as goal
 
 abbrev pub invariant-loop-i : goal.invariant-loop-i

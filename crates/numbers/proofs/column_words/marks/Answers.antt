@@ -1,10 +1,10 @@
 -- `numbers::column_words::marks` meets its contract: each turn puts one number more in front of those that are marked.
 -- Assumes nothing.
 use mathlib.Core.Path.{◌≡◌, sym, ap, ◌∙◌}
-use Prim.Native.Nat.{◌-◌, ◌≤◌}
+use Prim.Native.Nat.{◌-◌}
 use lib.ListN.{length}
 use lib.Seq.{take_all}
-use Rattle.lists.specs.Walk.{rest, rest-none}
+use Rattle.lists.specs.Walk.{rest-none}
 use Rattle.tables.specs.Words.{up_to}
 use Rattle.numbers.specs.ByNumber.{entry, by_number}
 use Rattle.numbers.specs.ColumnWords.{numbers_in, marks_of, length-numbers_in, number_at, number-inside, marks-turn, marks-past}

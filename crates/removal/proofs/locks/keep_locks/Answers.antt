@@ -1,15 +1,13 @@
 -- `removal::locks::keep_locks` meets its contract: each turn keeps the next record or empties it. Assumes nothing.
-use borrow.Author.Rules.{rules}
 use mathlib.Core.Path.{◌≡◌, sym, ◌∙◌}
-use mathlib.Core.Logic.{⊎_elim}
-use Prim.Native.Nat.{◌≤◌, ◌<◌, ◌-◌}
+use Prim.Native.Nat.{◌<◌}
 use native.Mathlib.Omega.{arith}
 use lib.ListN.{length, length-set}
 use Rattle.records.specs.Empty.{no_lock}
 use Rattle.tables.specs.Words.{lock_of, lock_array, lock_limits}
 use Rattle.tables.specs.ChangeLaws.{length-lock_array}
 use Rattle.removal.specs.Filter.{lock_marked}
-use Rattle.removal.proofs.Filtering.{Filtering, filtering-none, filtering-most, filtering-no, filtering-yes, filtered}
+use Rattle.removal.proofs.Filtering.{filtering-none, filtering-most, filtering-no, filtering-yes, filtered}
 use Rattle.removal.proofs.locks.keep_locks.Goals as goal
 use Rattle.removal.proofs.locks.keep_locks.Goals.{then-marked, else-marked}
 
@@ -56,16 +54,16 @@ loop-i-preserved c =
     let below : loop.i < c.at_most-n.result = omega arith in
     let inside : loop.i < length (lock_array args.words.now) = omega arith in
     elim c.if-marked.branch [
-      then-marked w ↦
-    let stays = sym c.marked.ensures ∙ w.if-marked.true in (
-      omega arith,
-      rw (w.words-is, w.count-is) (filtering-yes loop.invariant.1 x below inside c.lock_at-l.ensures w.move_lock.auto.words stays w.move_lock.ensures),
-    )
-    | else-marked w ↦
-    let goes = sym c.marked.ensures ∙ w.if-marked.false in (
-      omega arith,
-      rw (w.words-is, w.count-is) (filtering-no loop.invariant.1 x below inside c.lock_at-l.ensures w.put_lock.auto.words goes w.put_lock.ensures),
-    )
+      | then-marked w ↦
+          let stays = sym c.marked.ensures ∙ w.if-marked.true in (
+            omega arith,
+            rw (w.words-is, w.count-is) (filtering-yes loop.invariant.1 x below inside c.lock_at-l.ensures w.move_lock.auto.words stays w.move_lock.ensures),
+          )
+      | else-marked w ↦
+          let goes = sym c.marked.ensures ∙ w.if-marked.false in (
+            omega arith,
+            rw (w.words-is, w.count-is) (filtering-no loop.invariant.1 x below inside c.lock_at-l.ensures w.put_lock.auto.words goes w.put_lock.ensures),
+          )
     ]
 
 pub bounds-words-0-2 : goal.bounds-words-0-2

@@ -1,7 +1,5 @@
 -- `removal::locks::move_lock` meets its contract: a record read, its place emptied, the record written. Assumes nothing.
-use borrow.Author.Rules.{rules}
 use mathlib.Core.Path.{◌∙◌}
-use native.Mathlib.Omega.{arith}
 use Rattle.removal.proofs.Filtering.{moved_none, moved}
 use Rattle.removal.proofs.locks.move_lock.Goals as goal
 

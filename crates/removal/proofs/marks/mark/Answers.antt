@@ -1,6 +1,5 @@
 -- `removal::marks::mark` meets its contract: past the end nothing is set.
 -- Assumes nothing.
-use borrow.Author.Rules.{rules}
 use mathlib.Core.Path.{sym}
 use mathlib.Core.Bool.{true}
 use lib.Seq.{set_out}

@@ -1,6 +1,5 @@
 -- `removal::marks::marked` meets its contract: past the end nothing is marked.
 -- Assumes nothing.
-use borrow.Author.Rules.{rules}
 use mathlib.Core.Path.{sym}
 use mathlib.Core.Bool.{false}
 use lib.ListN.{get_or-eq_default}

@@ -1,8 +1,6 @@
 -- `removal::opens::keep_opens` meets its contract: each turn keeps the next record and marks its number, or empties it. Assumes nothing.
-use borrow.Author.Rules.{rules}
 use mathlib.Core.Path.{◌≡◌, sym, ◌∙◌}
-use mathlib.Core.Logic.{⊎_elim}
-use Prim.Native.Nat.{◌≤◌, ◌<◌, ◌-◌}
+use Prim.Native.Nat.{◌<◌}
 use native.Mathlib.Omega.{arith}
 use lib.ListN.{length, length-set}
 use Rattle.records.specs.Empty.{no_open}
@@ -10,8 +8,8 @@ use Rattle.tables.specs.Words.{word, open_of, open_array, open_limits}
 use Rattle.tables.specs.ChangeLaws.{length-open_array}
 use Rattle.numbers.specs.Column.{fid_of}
 use Rattle.removal.specs.Filter.{open_marked}
-use Rattle.removal.proofs.Marking.{Marking, marking-none, length-marking, marking-yes, marking-no, marking-all}
-use Rattle.removal.proofs.Filtering.{Filtering, filtering-none, filtering-most, filtering-next, filtering-no, filtering-yes, filtered}
+use Rattle.removal.proofs.Marking.{marking-none, length-marking, marking-yes, marking-no, marking-all}
+use Rattle.removal.proofs.Filtering.{filtering-none, filtering-most, filtering-next, filtering-no, filtering-yes, filtered}
 use Rattle.removal.proofs.opens.keep_opens.Goals as goal
 use Rattle.removal.proofs.opens.keep_opens.Goals.{then-open_marked, else-open_marked}
 
@@ -61,18 +59,18 @@ loop-i-preserved c =
     let inside : loop.i < length (open_array args.words.now) = omega arith in
     let next = filtering-next loop.invariant.1 x inside c.open_at-o.ensures in
     elim c.if-open_marked.branch [
-      then-open_marked w ↦
-    let stays = sym c.open_marked.ensures ∙ w.if-open_marked.true in (
-      omega arith,
-      rw (w.words-is, w.count-is) (filtering-yes loop.invariant.1 x below inside c.open_at-o.ensures w.move_open.auto.words stays w.move_open.ensures),
-      marking-yes loop.invariant.2 no_open x inside next stays (w.fids-is ∙ w.mark.ensures),
-    )
-    | else-open_marked w ↦
-    let goes = sym c.open_marked.ensures ∙ w.if-open_marked.false in (
-      omega arith,
-      rw (w.words-is, w.count-is) (filtering-no loop.invariant.1 x below inside c.open_at-o.ensures w.put_open.auto.words goes w.put_open.ensures),
-      rw w.fids-is (marking-no loop.invariant.2 no_open x inside next goes),
-    )
+      | then-open_marked w ↦
+          let stays = sym c.open_marked.ensures ∙ w.if-open_marked.true in (
+            omega arith,
+            rw (w.words-is, w.count-is) (filtering-yes loop.invariant.1 x below inside c.open_at-o.ensures w.move_open.auto.words stays w.move_open.ensures),
+            marking-yes loop.invariant.2 no_open x inside next stays (w.fids-is ∙ w.mark.ensures),
+          )
+      | else-open_marked w ↦
+          let goes = sym c.open_marked.ensures ∙ w.if-open_marked.false in (
+            omega arith,
+            rw (w.words-is, w.count-is) (filtering-no loop.invariant.1 x below inside c.open_at-o.ensures w.put_open.auto.words goes w.put_open.ensures),
+            rw w.fids-is (marking-no loop.invariant.2 no_open x inside next goes),
+          )
     ]
 
 pub bounds-words-0-2 : goal.bounds-words-0-2

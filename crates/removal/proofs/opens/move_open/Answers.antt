@@ -1,7 +1,5 @@
 -- `removal::opens::move_open` meets its contract: a record read, its place emptied, the record written. Assumes nothing.
-use borrow.Author.Rules.{rules}
 use mathlib.Core.Path.{◌∙◌}
-use native.Mathlib.Omega.{arith}
 use Rattle.removal.proofs.Filtering.{moved_none, moved}
 use Rattle.removal.proofs.opens.move_open.Goals as goal
 

@@ -2,7 +2,6 @@
 -- Assumes nothing.
 use mathlib.Core.Path.{sym, ◌∙◌}
 use Rattle.removal.specs.Filter.{open_marked}
-use borrow.Author.Rules.{rules}
 use Rattle.removal.proofs.opens.open_marked.Goals as goal
 
 pub returns-then-open_named : goal.returns-then-open_named

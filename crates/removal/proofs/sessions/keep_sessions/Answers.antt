@@ -1,8 +1,6 @@
 -- `removal::sessions::keep_sessions` meets its contract: each turn keeps the next record and marks its number, or empties it. Assumes nothing.
-use borrow.Author.Rules.{rules}
 use mathlib.Core.Path.{◌≡◌, sym, ◌∙◌}
-use mathlib.Core.Logic.{⊎_elim}
-use Prim.Native.Nat.{◌≤◌, ◌<◌, ◌-◌}
+use Prim.Native.Nat.{◌<◌}
 use native.Mathlib.Omega.{arith}
 use lib.ListN.{length, length-set}
 use Rattle.records.specs.Empty.{no_session}
@@ -10,8 +8,8 @@ use Rattle.tables.specs.Words.{word, session_of, session_array, session_limits}
 use Rattle.tables.specs.ChangeLaws.{length-session_array}
 use Rattle.numbers.specs.Column.{uid_of}
 use Rattle.removal.specs.Removal.{session_stays}
-use Rattle.removal.proofs.Marking.{Marking, marking-none, length-marking, marking-yes, marking-no, marking-all}
-use Rattle.removal.proofs.Filtering.{Filtering, filtering-none, filtering-most, filtering-next, filtering-no, filtering-yes, filtered}
+use Rattle.removal.proofs.Marking.{marking-none, length-marking, marking-yes, marking-no, marking-all}
+use Rattle.removal.proofs.Filtering.{filtering-none, filtering-most, filtering-next, filtering-no, filtering-yes, filtered}
 use Rattle.removal.proofs.sessions.keep_sessions.Goals as goal
 use Rattle.removal.proofs.sessions.keep_sessions.Goals.{then-session_stays, else-session_stays}
 
@@ -61,18 +59,18 @@ loop-i-preserved c =
     let inside : loop.i < length (session_array args.words.now) = omega arith in
     let next = filtering-next loop.invariant.1 x inside c.session_at-s.ensures in
     elim c.if-session_stays.branch [
-      then-session_stays w ↦
-    let stays = sym c.session_stays.ensures ∙ w.if-session_stays.true in (
-      omega arith,
-      rw (w.words-is, w.count-is) (filtering-yes loop.invariant.1 x below inside c.session_at-s.ensures w.move_session.auto.words stays w.move_session.ensures),
-      marking-yes loop.invariant.2 no_session x inside next stays (w.uids-is ∙ w.mark.ensures),
-    )
-    | else-session_stays w ↦
-    let goes = sym c.session_stays.ensures ∙ w.if-session_stays.false in (
-      omega arith,
-      rw (w.words-is, w.count-is) (filtering-no loop.invariant.1 x below inside c.session_at-s.ensures w.put_session.auto.words goes w.put_session.ensures),
-      rw w.uids-is (marking-no loop.invariant.2 no_session x inside next goes),
-    )
+      | then-session_stays w ↦
+          let stays = sym c.session_stays.ensures ∙ w.if-session_stays.true in (
+            omega arith,
+            rw (w.words-is, w.count-is) (filtering-yes loop.invariant.1 x below inside c.session_at-s.ensures w.move_session.auto.words stays w.move_session.ensures),
+            marking-yes loop.invariant.2 no_session x inside next stays (w.uids-is ∙ w.mark.ensures),
+          )
+      | else-session_stays w ↦
+          let goes = sym c.session_stays.ensures ∙ w.if-session_stays.false in (
+            omega arith,
+            rw (w.words-is, w.count-is) (filtering-no loop.invariant.1 x below inside c.session_at-s.ensures w.put_session.auto.words goes w.put_session.ensures),
+            rw w.uids-is (marking-no loop.invariant.2 no_session x inside next goes),
+          )
     ]
 
 pub bounds-words-0-2 : goal.bounds-words-0-2

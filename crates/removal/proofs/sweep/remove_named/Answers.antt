@@ -1,5 +1,4 @@
 -- `removal::sweep::remove_named` meets its contract: each part that was lent holds its table filtered. Assumes nothing.
-use borrow.Author.Rules.{rules}
 use mathlib.Core.Path.{◌≡◌, ◌∙◌}
 use lib.ListN.{length}
 use native.Mathlib.Omega.{arith}

@@ -1,8 +1,6 @@
 -- `removal::trees::keep_trees` meets its contract: each turn keeps the next record and marks its number, or empties it. Assumes nothing.
-use borrow.Author.Rules.{rules}
 use mathlib.Core.Path.{◌≡◌, sym, ◌∙◌}
-use mathlib.Core.Logic.{⊎_elim}
-use Prim.Native.Nat.{◌≤◌, ◌<◌, ◌-◌}
+use Prim.Native.Nat.{◌<◌}
 use native.Mathlib.Omega.{arith}
 use lib.ListN.{length, length-set}
 use Rattle.records.specs.Empty.{no_tree}
@@ -10,8 +8,8 @@ use Rattle.tables.specs.Words.{word, tree_of, tree_array, tree_limits}
 use Rattle.tables.specs.ChangeLaws.{length-tree_array}
 use Rattle.numbers.specs.Column.{tid_of}
 use Rattle.removal.specs.Filter.{tree_marked}
-use Rattle.removal.proofs.Marking.{Marking, marking-none, length-marking, marking-yes, marking-no, marking-all}
-use Rattle.removal.proofs.Filtering.{Filtering, filtering-none, filtering-most, filtering-next, filtering-no, filtering-yes, filtered}
+use Rattle.removal.proofs.Marking.{marking-none, length-marking, marking-yes, marking-no, marking-all}
+use Rattle.removal.proofs.Filtering.{filtering-none, filtering-most, filtering-next, filtering-no, filtering-yes, filtered}
 use Rattle.removal.proofs.trees.keep_trees.Goals as goal
 use Rattle.removal.proofs.trees.keep_trees.Goals.{then-tree_marked, else-tree_marked}
 
@@ -61,18 +59,18 @@ loop-i-preserved c =
     let inside : loop.i < length (tree_array args.words.now) = omega arith in
     let next = filtering-next loop.invariant.1 x inside c.tree_at-t.ensures in
     elim c.if-tree_marked.branch [
-      then-tree_marked w ↦
-    let stays = sym c.tree_marked.ensures ∙ w.if-tree_marked.true in (
-      omega arith,
-      rw (w.words-is, w.count-is) (filtering-yes loop.invariant.1 x below inside c.tree_at-t.ensures w.move_tree.auto.words stays w.move_tree.ensures),
-      marking-yes loop.invariant.2 no_tree x inside next stays (w.tids-is ∙ w.mark.ensures),
-    )
-    | else-tree_marked w ↦
-    let goes = sym c.tree_marked.ensures ∙ w.if-tree_marked.false in (
-      omega arith,
-      rw (w.words-is, w.count-is) (filtering-no loop.invariant.1 x below inside c.tree_at-t.ensures w.put_tree.auto.words goes w.put_tree.ensures),
-      rw w.tids-is (marking-no loop.invariant.2 no_tree x inside next goes),
-    )
+      | then-tree_marked w ↦
+          let stays = sym c.tree_marked.ensures ∙ w.if-tree_marked.true in (
+            omega arith,
+            rw (w.words-is, w.count-is) (filtering-yes loop.invariant.1 x below inside c.tree_at-t.ensures w.move_tree.auto.words stays w.move_tree.ensures),
+            marking-yes loop.invariant.2 no_tree x inside next stays (w.tids-is ∙ w.mark.ensures),
+          )
+      | else-tree_marked w ↦
+          let goes = sym c.tree_marked.ensures ∙ w.if-tree_marked.false in (
+            omega arith,
+            rw (w.words-is, w.count-is) (filtering-no loop.invariant.1 x below inside c.tree_at-t.ensures w.put_tree.auto.words goes w.put_tree.ensures),
+            rw w.tids-is (marking-no loop.invariant.2 no_tree x inside next goes),
+          )
     ]
 
 pub bounds-words-0-2 : goal.bounds-words-0-2

@@ -2,7 +2,6 @@
 -- Assumes nothing.
 use mathlib.Core.Path.{sym, ◌∙◌}
 use Rattle.removal.specs.Filter.{tree_marked}
-use borrow.Author.Rules.{rules}
 use Rattle.removal.proofs.trees.tree_marked.Goals as goal
 
 pub returns-then-tree_named : goal.returns-then-tree_named

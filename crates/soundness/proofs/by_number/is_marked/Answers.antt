@@ -2,7 +2,6 @@
 -- Assumes nothing.
 use borrow.Author.Tests.{lt-ltb, le-ltb}
 use Rattle.soundness.specs.InWords.{marked}
-use borrow.Author.Rules.{rules}
 use Rattle.soundness.proofs.by_number.is_marked.Goals as goal
 
 pub returns-then-table-at : goal.returns-then-table-at

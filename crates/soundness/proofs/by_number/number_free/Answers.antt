@@ -2,7 +2,6 @@
 -- Assumes nothing.
 use borrow.Author.Tests.{le-leb, lt-leb, lt-ltb, le-ltb}
 use Rattle.numbers.specs.ByNumber.{number_free}
-use borrow.Author.Rules.{rules}
 use Rattle.soundness.proofs.by_number.number_free.Goals as goal
 
 pub returns-then-number-lt1 : goal.returns-then-number-lt1

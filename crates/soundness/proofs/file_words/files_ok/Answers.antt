@@ -1,12 +1,12 @@
 -- `soundness::file_words::files_ok` meets its contract: what the walk has left says the same as the whole.
 -- Assumes nothing.
 use mathlib.Core.Path.{◌≡◌, sym, ap, ◌∙◌}
-use Prim.Native.Nat.{◌+◌, ◌*◌, ◌-◌, ◌≤◌}
+use Prim.Native.Nat.{◌+◌, ◌*◌}
 use mathlib.Core.Bool.{true, false}
 use lib.ListN.{length, get_or}
 use lib.Seq.{take_all}
 use borrow.Author.Tests.{le-leb, lt-leb}
-use Rattle.lists.specs.Walk.{all, rest}
+use Rattle.lists.specs.Walk.{all}
 use Rattle.lists.specs.WalkLaws.{all_end, all_yes, all-no}
 use Rattle.records.specs.Change.{LARGEST}
 use Rattle.records.specs.Empty.{no_file}

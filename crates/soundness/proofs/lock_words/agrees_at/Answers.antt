@@ -1,6 +1,5 @@
 -- `soundness::lock_words::agrees_at` meets its contract: each test that answers early is one of "both shared" and "apart"; the others meet.
 -- Assumes nothing.
-use borrow.Author.Rules.{rules}
 use mathlib.Core.Path.{◌≡◌, sym, ◌∙◌}
 use Prim.Native.Nat.{◌+◌, ◌*◌}
 use native.Mathlib.Omega.{arith}

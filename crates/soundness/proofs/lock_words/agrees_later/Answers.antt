@@ -1,12 +1,10 @@
 -- `soundness::lock_words::agrees_later` meets its contract: a lock of no bytes stands with any; otherwise what the walk has left says the same
 -- as the whole, and where it ends the lock stands with those left. Assumes nothing.
 use mathlib.Core.Path.{◌≡◌, refl, sym, ◌∙◌}
-use Prim.Native.Nat.{◌+◌, ◌≤◌, ◌<◌, ◌-◌}
+use Prim.Native.Nat.{◌+◌, ◌≤◌, ◌<◌}
 use lib.ListN.{length}
-use borrow.Author.Tests.{not-true, not-false}
-use borrow.Author.Rules.{rules}
 use native.Mathlib.Omega.{arith}
-use Rattle.lists.specs.Walk.{all, rest}
+use Rattle.lists.specs.Walk.{rest}
 use Rattle.lists.specs.WalkLaws.{all_yes, all-no}
 use Rattle.records.specs.Empty.{no_lock}
 use Rattle.locks.specs.Answer.{file_in}

@@ -1,6 +1,5 @@
 -- `soundness::lock_words::both_shared` meets its contract: the tests are those of the definition, in its order.
 -- Assumes nothing.
-use borrow.Author.Tests.{not-true, not-false}
 use Rattle.soundness.proofs.lock_words.both_shared.Goals as goal
 
 pub returns-then-not-shared : goal.returns-then-not-shared

@@ -1,17 +1,16 @@
 -- `soundness::lock_words::exclusives_end` meets its contract: each turn finds one shared lock more, in front of those found.
 -- Assumes nothing.
-use mathlib.Core.Path.{◌≡◌, ap, ◌∙◌}
-use Prim.Native.Nat.{ℕ, ◌+◌, ◌-◌, ◌*◌, ◌%◌, ◌≤◌}
+use mathlib.Core.Path.{◌≡◌}
+use Prim.Native.Nat.{◌+◌, ◌-◌, ◌*◌, ◌%◌, ◌≤◌}
 use mathlib.Core.Bool.{true}
 use lib.ListN.{length, get_or}
-use lib.Dec.{eqb}
 use borrow.Author.Tests.{eq-eqb}
 use native.Mathlib.Omega.{arith}
 use Rattle.records.specs.Empty.{no_lock}
 use Rattle.tables.specs.Words.{word, lock_of, lock_array}
 use Rattle.tables.specs.ChangeLaws.{length-lock_array}
 use Rattle.soundness.specs.InWordsLaws.{lock-row}
-use Rattle.soundness.specs.AgreeLaws.{SharedFrom, shared-none, shared-more}
+use Rattle.soundness.specs.AgreeLaws.{shared-none, shared-more}
 use Rattle.soundness.proofs.lock_words.exclusives_end.Goals as goal
 
 pub bounds-words-0 : goal.bounds-words-0

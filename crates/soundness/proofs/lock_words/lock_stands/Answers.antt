@@ -9,7 +9,6 @@ use borrow.Author.Tests.{lt-leb, le-leb, lt-ltb, le-ltb}
 use Rattle.lists.specs.Places.{get_d-within}
 use Rattle.tables.specs.PartLaws.{part-row}
 use Rattle.soundness.specs.InWords.{lock_stands}
-use borrow.Author.Rules.{rules}
 use Rattle.soundness.proofs.lock_words.lock_stands.Goals as goal
 
 pub returns-then-words-at-gt1 : goal.returns-then-words-at-gt1

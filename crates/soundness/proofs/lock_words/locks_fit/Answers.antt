@@ -1,18 +1,14 @@
 -- `soundness::lock_words::locks_fit` meets its contract: what the walk has left says the same as the whole.
 -- Assumes nothing.
 use mathlib.Core.Path.{◌≡◌, refl, sym, ap, ◌∙◌}
-use Prim.Native.Nat.{◌≤◌, ◌-◌}
 use mathlib.Core.Bool.{true, false}
 use mathlib.Core.List.{[]}
-use lib.ListN.{length, take, get_or}
-use borrow.Author.Tests.{not-true, not-false}
-use Rattle.lists.specs.Walk.{all, rest}
+use lib.ListN.{length, get_or}
 use Rattle.lists.specs.WalkLaws.{all_end, all_yes, all-no}
 use Rattle.tables.specs.Words.{word, record_at}
 use Rattle.tables.specs.ArrayLaws.{length-up_to, get_d-up_to}
 use Rattle.soundness.specs.InWords.{rows}
 use Rattle.soundness.specs.InWordsLaws.{lock_rule, lock-stands, locks-stand}
-use borrow.Author.Rules.{rules}
 use native.Mathlib.Omega.{arith}
 use Rattle.soundness.proofs.lock_words.locks_fit.Goals as goal
 

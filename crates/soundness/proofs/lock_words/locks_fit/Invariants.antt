@@ -1,17 +1,10 @@
-use mathlib.Core.Path.{◌≡◌, refl, sym, ap, ◌∙◌}
+use mathlib.Core.Path.{◌≡◌}
 use Prim.Native.Nat.{◌≤◌, ◌-◌}
-use mathlib.Core.Bool.{true, false}
-use mathlib.Core.List.{[]}
-use lib.ListN.{length, take, get_or}
-use borrow.Author.Tests.{not-true, not-false}
+use lib.ListN.{take}
 use Rattle.lists.specs.Walk.{all, rest}
-use Rattle.lists.specs.WalkLaws.{all_end, all_yes, all-no}
-use Rattle.tables.specs.Words.{word, record_at}
-use Rattle.tables.specs.ArrayLaws.{length-up_to, get_d-up_to}
+use Rattle.tables.specs.Words.{word}
 use Rattle.soundness.specs.InWords.{rows}
-use Rattle.soundness.specs.InWordsLaws.{lock_rule, lock-stands, locks-stand}
-use borrow.Author.Rules.{rules}
-use native.Mathlib.Omega.{arith}
+use Rattle.soundness.specs.InWordsLaws.{lock_rule}
 use Rattle.soundness.proofs.lock_words.locks_fit.Given as goal
 
 abbrev pub invariant-loop-i : goal.invariant-loop-i

@@ -1,7 +1,6 @@
 -- `soundness::open_words::file_table` meets its contract: each turn puts one open more in front of those the table is made of.
 -- Assumes nothing.
 use mathlib.Core.Path.{◌≡◌, sym, ◌∙◌}
-use Prim.Native.Nat.{min, ◌≤◌}
 use lib.ListN.{length}
 use lib.Seq.{set_out}
 use Rattle.lists.specs.Walk.{rest, rest-most}
@@ -9,7 +8,6 @@ use Rattle.records.specs.Empty.{no_open}
 use Rattle.tables.specs.Words.{word, open_array}
 use Rattle.tables.specs.ChangeLaws.{length-open_array}
 use Rattle.soundness.specs.File.{file_of, tabulate, file_table, length-file_table, file_table-turn}
-use borrow.Author.Rules.{rules}
 use native.Mathlib.Omega.{arith}
 use Rattle.soundness.proofs.open_words.file_table.Goals as goal
 

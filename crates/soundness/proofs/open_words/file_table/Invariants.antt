@@ -1,14 +1,8 @@
-use mathlib.Core.Path.{◌≡◌, sym, ◌∙◌}
+use mathlib.Core.Path.{◌≡◌}
 use Prim.Native.Nat.{min, ◌≤◌}
-use lib.ListN.{length}
-use lib.Seq.{set_out}
-use Rattle.lists.specs.Walk.{rest, rest-most}
-use Rattle.records.specs.Empty.{no_open}
+use Rattle.lists.specs.Walk.{rest}
 use Rattle.tables.specs.Words.{word, open_array}
-use Rattle.tables.specs.ChangeLaws.{length-open_array}
-use Rattle.soundness.specs.File.{file_of, tabulate, file_table, length-file_table, file_table-turn}
-use borrow.Author.Rules.{rules}
-use native.Mathlib.Omega.{arith}
+use Rattle.soundness.specs.File.{file_table}
 use Rattle.soundness.proofs.open_words.file_table.Given as goal
 
 abbrev pub invariant-loop-i : goal.invariant-loop-i

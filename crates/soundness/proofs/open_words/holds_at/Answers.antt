@@ -3,7 +3,6 @@
 use native.Mathlib.Omega.{arith}
 use borrow.Author.Tests.{lt-leb, le-leb, lt-ltb, le-ltb, eq-eqb, ne_eqb}
 use Rattle.soundness.specs.InWords.{code_holds, holds_at}
-use borrow.Author.Rules.{rules}
 use Rattle.soundness.proofs.open_words.holds_at.Goals as goal
 
 pub returns-then-uid-gt65535 : goal.returns-then-uid-gt65535

@@ -3,11 +3,10 @@
 use mathlib.Core.Path.{sym, ◌∙◌}
 use Prim.Native.Nat.{◌+◌, ◌*◌}
 use native.Mathlib.Omega.{arith}
-use borrow.Author.Tests.{not-true, not-false, lt-leb, le-leb}
+use borrow.Author.Tests.{lt-leb, le-leb}
 use Rattle.tables.specs.PartLaws.{part-row}
 use Rattle.soundness.specs.Sound.{sharing_ok}
 use Rattle.soundness.specs.InWords.{open_stands}
-use borrow.Author.Rules.{rules}
 use Rattle.soundness.proofs.open_words.open_stands.Goals as goal
 
 pub returns-then-not-number_free : goal.returns-then-not-number_free

@@ -1,21 +1,8 @@
-use mathlib.Core.Path.{◌≡◌, refl, sym, ◌∙◌}
-use Prim.Native.Nat.{ℕ, ◌+◌, ◌*◌, ◌-◌, ◌≤◌, ◌<◌}
-use mathlib.Core.Bool.{true}
-use mathlib.Core.List.{List}
-use lib.ListN.{length}
-use lib.Dec.{leb}
-use borrow.Author.Tests.{not-true, not-false, leb-true}
-use Rattle.lists.specs.Truth.{both_hold}
-use Rattle.lists.specs.Walk.{rest}
-use Rattle.numbers.specs.Column.{fid_of}
-use Rattle.tables.specs.Words.{word, up_to, record_at, open_of, open_array, open_limits}
-use Rattle.tables.specs.PartLaws.{part-row}
-use Rattle.numbers.specs.ByNumber.{entry, by_number, number_free, uncut, Marked, marked_start}
-use Rattle.soundness.specs.InWords.{rows, open_in, open_stands}
-use Rattle.soundness.specs.InWordsLaws.{row_fid, row_file, open_rule, open-stands}
-use Rattle.soundness.specs.RowWalk.{free-inside, marked-length, row-yes, row-no, told-yes, told-no}
-use borrow.Author.Rules.{rules}
-use native.Mathlib.Omega.{arith}
+use Prim.Native.Nat.{◌≤◌}
+use Rattle.tables.specs.Words.{word}
+use Rattle.numbers.specs.ByNumber.{Marked}
+use Rattle.soundness.specs.InWords.{rows}
+use Rattle.soundness.specs.InWordsLaws.{row_fid, row_file, open_rule}
 use Rattle.soundness.proofs.open_words.opens_marked.Given as goal
 
 abbrev pub invariant-loop-i : goal.invariant-loop-i

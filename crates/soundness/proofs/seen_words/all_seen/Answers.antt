@@ -1,15 +1,13 @@
 -- `soundness::seen_words::all_seen` meets its contract: what the walk has left says the same as the whole. Assumes nothing.
 use mathlib.Core.Path.{◌≡◌, refl, sym, ◌∙◌}
-use Prim.Native.Nat.{◌-◌, ◌<◌, ◌≤◌}
+use Prim.Native.Nat.{◌<◌, ◌≤◌}
 use mathlib.Core.Bool.{true, false}
 use native.Mathlib.Omega.{arith}
 use lib.ListN.{length, get_or}
 use borrow.Author.Tests.{le-leb, lt-leb}
-use Rattle.lists.specs.Walk.{all, rest}
 use Rattle.lists.specs.WalkLaws.{all_end, all_yes, all-no}
 use Rattle.records.specs.Empty.{no_open, no_file}
 use Rattle.tables.specs.Words.{word, open_array, file_array}
-use Rattle.tables.specs.Written.{opens_in}
 use Rattle.tables.specs.ChangeLaws.{length-open_array}
 use Rattle.soundness.specs.Sound.{seen_ok}
 use Rattle.soundness.proofs.seen_words.all_seen.Goals as goal

@@ -3,10 +3,8 @@
 use mathlib.Core.Path.{sym, ◌∙◌}
 use Prim.Native.Nat.{◌+◌, ◌*◌}
 use native.Mathlib.Omega.{arith}
-use borrow.Author.Tests.{not-true, not-false}
 use Rattle.tables.specs.PartLaws.{part-row}
 use Rattle.soundness.specs.InWords.{session_stands}
-use borrow.Author.Rules.{rules}
 use Rattle.soundness.proofs.session_words.session_stands.Goals as goal
 
 pub returns-then-not-number_free : goal.returns-then-not-number_free

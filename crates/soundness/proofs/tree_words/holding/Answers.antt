@@ -2,7 +2,6 @@
 -- Assumes nothing.
 use borrow.Author.Tests.{eq-eqb, ne_eqb}
 use Rattle.soundness.specs.Sound.{holds_open}
-use borrow.Author.Rules.{rules}
 use Rattle.soundness.proofs.tree_words.holding.Goals as goal
 
 pub returns-then-t-o : goal.returns-then-t-o

@@ -1,16 +1,14 @@
 -- `soundness::tree_words::some_tree_holds` meets its contract: what the walk has left says the same as the whole.
 -- Assumes nothing.
 use mathlib.Core.Path.{◌≡◌, refl, sym, ap, ◌∙◌}
-use Prim.Native.Nat.{◌-◌, ◌≤◌}
-use lib.ListN.{length, take}
-use Rattle.lists.specs.Walk.{any, rest}
+use lib.ListN.{length}
+use Rattle.lists.specs.Walk.{any}
 use Rattle.lists.specs.WalkLaws.{any-end, any-yes, any-no}
 use Rattle.records.specs.Empty.{no_tree}
 use Rattle.tables.specs.Words.{tree_array}
 use Rattle.tables.specs.ChangeLaws.{length-tree_array}
 use Rattle.soundness.specs.InWordsLaws.{trees-in-use}
 use Rattle.soundness.specs.Sound.{holds_open}
-use borrow.Author.Rules.{rules}
 use native.Mathlib.Omega.{arith}
 use Rattle.soundness.proofs.tree_words.some_tree_holds.Goals as goal
 

@@ -3,10 +3,9 @@
 use mathlib.Core.Path.{sym, ◌∙◌}
 use Prim.Native.Nat.{◌+◌, ◌*◌}
 use native.Mathlib.Omega.{arith}
-use borrow.Author.Tests.{not-true, not-false, lt-leb, le-leb}
+use borrow.Author.Tests.{lt-leb, le-leb}
 use Rattle.tables.specs.PartLaws.{part-row}
 use Rattle.soundness.specs.InWords.{tree_stands}
-use borrow.Author.Rules.{rules}
 use Rattle.soundness.proofs.tree_words.tree_stands.Goals as goal
 
 pub returns-then-not-number_free : goal.returns-then-not-number_free

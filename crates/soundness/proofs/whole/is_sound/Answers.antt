@@ -13,7 +13,6 @@ use Rattle.soundness.specs.SoundLaws.{room as room_of}
 use Rattle.numbers.specs.ByNumber.{length-by_number}
 use Rattle.soundness.specs.InWords.{tree_code}
 use Rattle.soundness.specs.WholeLaws.{counts, sound-words, trees-judged, opens-judged, locks-judged}
-use borrow.Author.Rules.{rules}
 use Rattle.soundness.proofs.whole.is_sound.Goals as goal
 
 pub returns-then-not-within_room : goal.returns-then-not-within_room

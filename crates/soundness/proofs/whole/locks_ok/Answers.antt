@@ -1,13 +1,11 @@
 -- `soundness::whole::locks_ok` meets its contract: locks that fit end within bounds, as the test of the pairs asks.
 -- Assumes nothing.
 use mathlib.Core.Path.{sym, ◌∙◌}
-use borrow.Author.Tests.{not-true, not-false}
 use Rattle.lists.specs.Truth.{both_hold}
 use Rattle.locks.specs.Answer.{file_in}
 use Rattle.tables.specs.Words.{table_fits, lock_limits}
 use Rattle.tables.specs.Written.{locks_in}
 use Rattle.soundness.specs.WholeLaws.{fits-in-bounds}
-use borrow.Author.Rules.{rules}
 use Rattle.soundness.proofs.whole.locks_ok.Goals as goal
 
 pub returns-then-not-locks_fit : goal.returns-then-not-locks_fit

@@ -2,7 +2,6 @@
 -- Assumes nothing.
 use borrow.Author.Tests.{lt-leb, le-leb}
 use Rattle.soundness.specs.Sound.{within_room}
-use borrow.Author.Rules.{rules}
 use Rattle.soundness.proofs.whole.within_room.Goals as goal
 
 pub returns-then-words-gt16 : goal.returns-then-words-gt16

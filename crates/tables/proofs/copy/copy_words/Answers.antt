@@ -1,9 +1,8 @@
 -- `tables::copy::copy_words` meets its contract: each turn copies one word more.
 -- Assumes nothing.
-use mathlib.Core.Path.{◌≡◌, refl, sym, ◌∙◌}
-use Prim.Native.Nat.{◌-◌, ◌≤◌}
-use lib.ListN.{length, length-set}
-use Rattle.tables.proofs.Copied.{copied, copied_more, copied_all}
+use mathlib.Core.Path.{refl, sym, ◌∙◌}
+use lib.ListN.{length-set}
+use Rattle.tables.proofs.Copied.{copied_more, copied_all}
 use native.Mathlib.Omega.{arith}
 use Rattle.tables.proofs.copy.copy_words.Goals as goal
 

@@ -1,6 +1,6 @@
 -- `tables::open::put_read` meets its contract: two words stored are nine, of which seven are those that stood there. Assumes nothing.
 -- the words of an open at `at`, with the last two of another kind
-use mathlib.Core.Path.{◌≡◌, refl, sym, ap, ◌∙◌}
+use mathlib.Core.Path.{◌≡◌, refl, sym, ap}
 use Prim.Native.Nat.{ℕ, ◌+◌, ◌*◌, ◌≤◌, ◌<◌}
 use native.Mathlib.Omega.{arith}
 use mathlib.Core.Bool.{true}
@@ -10,7 +10,7 @@ use lib.Seq.{set-get_or}
 use Rattle.records.specs.declared.Open.{Open}
 use Rattle.records.specs.Change.{open_after}
 use Rattle.records.specs.Empty.{no_open}
-use Rattle.tables.specs.Words.{word, record_at, within, open_of, open_array, open_limits}
+use Rattle.tables.specs.Words.{word, within, open_of, open_array, open_limits}
 use Rattle.tables.specs.Written.{Renewed}
 use Rattle.tables.specs.ArrayLaws.{record-at, renewed}
 use Rattle.tables.specs.PartLaws.{row, part-row, stores}

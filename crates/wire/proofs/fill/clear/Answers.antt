@@ -2,9 +2,7 @@
 -- Assumes nothing.
 use Rattle.wire.proofs.Cleared.{filled-length, all-filled}
 use mathlib.Core.Path.{◌≡◌, refl}
-use Prim.Native.Nat.{◌≤◌, ◌-◌}
-use lib.ListN.{length, drop, replicate}
-use mathlib.Core.List.{◌++◌}
+use lib.ListN.{length}
 use borrow.Author.Fill.{fill_more}
 use native.Mathlib.Omega.{arith}
 use Rattle.wire.proofs.fill.clear.Goals as goal

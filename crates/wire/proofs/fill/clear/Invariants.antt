@@ -1,10 +1,7 @@
-use Rattle.wire.proofs.Cleared.{filled-length, all-filled}
-use mathlib.Core.Path.{◌≡◌, refl}
+use mathlib.Core.Path.{◌≡◌}
 use Prim.Native.Nat.{◌≤◌, ◌-◌}
 use lib.ListN.{length, drop, replicate}
 use mathlib.Core.List.{◌++◌}
-use borrow.Author.Fill.{fill_more}
-use native.Mathlib.Omega.{arith}
 use Rattle.wire.proofs.fill.clear.Given as goal
 
 abbrev pub invariant-loop-i : goal.invariant-loop-i
