@@ -72,25 +72,6 @@ pub record Leaves (w : List ℕ) (id : ℕ) (a : Returned) (r : ℕ) (out : List
   pub given : after ≡ id_after id w a
   pub next : ForNext w out r a.tables
 
-module _ (w : List ℕ) (id : ℕ) (a : Returned) where
-  pub unfit : in_use_fit w ≡ false → Leaves w id a 4 w id
-  unfolding number_of id_after is_done
-  unfit e = record { number = rw e; given = rw e; next = undone-next w 4 a.tables (λ z. omega arith) }
-
-  module _ (e : in_use_fit w ≡ true) where
-    pub refused-leaves : (r : ℕ) → r ≡ a.number → (r ≡ 0 → ⊥) → Leaves w id a r w id
-    unfolding number_of id_after is_done
-    refused-leaves r same n =
-        let f : eqb a.number 0 ≡ false = ne_eqb a.number 0 (λ z. n (same ∙ z)) in
-        record { number = rw (e, same); given = rw (e, f); next = undone-next w r a.tables n }
-
-    -- the words out fit, and hold the tables that the core left
-    pub done-leaves : (sound (tables_of w) ≡ true → sound a.tables ≡ true) → a.number ≡ 0 → (out : List ℕ) (after : ℕ)
-        → after ≡ a.id → in_use_fit out ≡ true → tables_of out ≡ a.tables → Leaves w id a 0 out after
-    unfolding number_of id_after is_done
-    done-leaves keeps z out after given f t =
-        record { number = rw (e, z); given = rw (e, z) given; next = done_next w out a.tables (λ _. f) t keeps }
-
 -- ---- a load
 
 and-false : (b c : Bool) → c ≡ false → (b && c) ≡ false
@@ -99,17 +80,13 @@ and-false false c e = refl
 
 module _ (w : List ℕ) (file : ℕ) (contents memory : List ℕ) where
   -- file memory of another length
-  wrong-undone : (length memory ≡ 65536 → ⊥) → is_done w (file_loaded w file contents memory) ≡ false
+  pub wrong-undone : (length memory ≡ 65536 → ⊥) → is_done w (file_loaded w file contents memory) ≡ false
   unfolding is_done file_loaded load_file load_number refused
   wrong-undone n = and-false (in_use_fit w) _ (rw (ne_eqb (length memory) 65536 n))
 
   pub wrong-number : (length memory ≡ 65536 → ⊥) → 2 ≡ load_number_of w file contents memory
   unfolding load_number_of
   wrong-number n = rw (ne_eqb (length memory) 65536 n)
-
-  pub wrong-memory : (length memory ≡ 65536 → ⊥) → memory ≡ memory_after w file contents memory
-  unfolding memory_after
-  wrong-memory n = rw (wrong-undone n)
 
   -- file memory of the right one
   pub right-number : (r : ℕ) → length memory ≡ 65536 → r ≡ number_of w (file_loaded w file contents memory) → r ≡ load_number_of w file contents memory
@@ -120,26 +97,21 @@ module _ (w : List ℕ) (file : ℕ) (contents memory : List ℕ) where
   unfolding memory_after is_done
   unfit-memory e = rw e
 
-  done-memory : in_use_fit w ≡ true → eqb (load_file (tables_of w) file contents memory).number 0 ≡ true
+  pub done-memory : in_use_fit w ≡ true → eqb (load_file (tables_of w) file contents memory).number 0 ≡ true
       → load_memory (tables_of w) file contents memory ≡ memory_after w file contents memory
   unfolding memory_after is_done file_loaded
   done-memory e f = rw (e, f)
 
-  refused-memory : in_use_fit w ≡ true → eqb (load_file (tables_of w) file contents memory).number 0 ≡ false → memory ≡ memory_after w file contents memory
+  pub refused-memory : in_use_fit w ≡ true → eqb (load_file (tables_of w) file contents memory).number 0 ≡ false → memory ≡ memory_after w file contents memory
   unfolding memory_after is_done file_loaded
   refused-memory e f = rw (e, f)
 
   -- the core leaves the file memory where it refuses
-  core-refuses : eqb (load_file (tables_of w) file contents memory).number 0 ≡ false → load_memory (tables_of w) file contents memory ≡ memory
+  pub core-refuses : eqb (load_file (tables_of w) file contents memory).number 0 ≡ false → load_memory (tables_of w) file contents memory ≡ memory
   unfolding load_file load_memory done
   core-refuses f =
       ⊎_elim (λ q. absurd (false≢true (sym f ∙ rw q))) (λ q. rw q)
       (decided (eqb (load_number (tables_of w) file (length contents) (length memory)) 0))
-
-  pub fit-memory : in_use_fit w ≡ true → load_memory (tables_of w) file contents memory ≡ memory_after w file contents memory
-  fit-memory e =
-      ⊎_elim (λ q. done-memory e q) (λ q. core-refuses q ∙ refused-memory e q)
-      (decided (eqb (load_file (tables_of w) file contents memory).number 0))
 
 -- ---- a catalogue
 
@@ -158,31 +130,14 @@ module _ (w given : List ℕ) where
   unfolding catalogue_set set_on_sound
   set-no-bytes e fit = rw (e, fit)
 
-  core-unsound : sound (tables_of w) ≡ false → set_catalogue (tables_of w) (name_array given) (word given 0) ≡ refused 4 (tables_of w)
+  pub core-unsound : sound (tables_of w) ≡ false → set_catalogue (tables_of w) (name_array given) (word given 0) ≡ refused 4 (tables_of w)
   unfolding set_catalogue
   core-unsound e = rw e
 
-  core-sound : sound (tables_of w) ≡ true → table_fits name_limits 16 given ≡ true
+  pub core-sound : sound (tables_of w) ≡ true → table_fits name_limits 16 given ≡ true
       → catalogue_set w given ≡ set_catalogue (tables_of w) (name_array given) (word given 0)
   unfolding catalogue_set set_on_sound
   core-sound e fit = rw (e, fit)
-
-  -- the core's own, where the words of the names in use are bytes
-  pub set-core : table_fits name_limits 16 given ≡ true → catalogue_set w given ≡ set_catalogue (tables_of w) (name_array given) (word given 0)
-  set-core fit = ⊎_elim (λ e. core-sound e fit) (λ e. set-unsound e ∙ sym (core-unsound e)) (decided (sound (tables_of w)))
-
-  -- done, it is the core's, of names whose words are bytes
-  pub set-done-fits : (catalogue_set w given).number ≡ 0 → table_fits name_limits 16 given ≡ true
-  unfolding refused
-  set-done-fits z =
-      ⊎_elim (λ fit. fit)
-      (λ fit.
-      absurd
-      (⊎_elim
-      (λ e. let seven : (catalogue_set w given).number ≡ 7 = ap (λ (a : Returned). a.number) (set-no-bytes e fit) in let no : ⊥ = omega arith in no)
-      (λ e. let four : (catalogue_set w given).number ≡ 4 = ap (λ (a : Returned). a.number) (set-unsound e) in let no : ⊥ = omega arith in no)
-      (decided (sound (tables_of w)))))
-      (decided (table_fits name_limits 16 given))
 
   -- what holds of a refusal and of the core's answer holds of the call's
   pub set-either : (P : Returned → Type 0) → ((n : ℕ) → 1 ≤ n → P (refused n (tables_of w)))
@@ -193,26 +148,9 @@ module _ (w given : List ℕ) where
       by-test P (table_fits name_limits 16 given) (set_catalogue (tables_of w) (name_array given) (word given 0)) (refused 7 (tables_of w)) (λ _. core)
       (λ _. turned 7 (omega arith))
 
-  -- "Every call on sound tables leaves sound tables"
-  pub set-sound : sound (tables_of w) ≡ true → sound (catalogue_set w given).tables ≡ true
-  unfolding refused
-  set-sound e =
-      set-either (λ a. sound a.tables ≡ true) (λ n some. e) (set_catalogue-sound (tables_of w) e (name_array given) (word given 0))
-
-  -- no number is given out
-  pub set-no-number : (catalogue_set w given).id ≡ 0
-  unfolding refused done
-  set-no-number =
-      set-either (λ a. a.id ≡ 0) (λ n some. refl)
-      (set_catalogue-either (tables_of w) (λ a. a.id ≡ 0) (λ n some. refl) (name_array given) (word given 0) (λ _ _. refl))
-
 -- ---- tables to start from
 
 -- every word is 0
 pub empty-tables : tables_of (replicate 1605 0) ≡ no_tables
 unfolding tables_of session_array tree_array open_array lock_array file_array name_array array_of up_to session_of tree_of open_of lock_of name_of no_tables
 empty-tables = refl
-
-pub empty-ready : ready (replicate 1605 0) ≡ true
-unfolding in_use_fit records_fit all up_to
-empty-ready = ready_of (replicate 1605 0) no_tables refl empty-tables start-sound

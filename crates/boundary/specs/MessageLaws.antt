@@ -36,14 +36,11 @@ module _ (connection : ℕ) (s w memory room : List ℕ) where
 
   module _ (right : wrong_room memory room ≡ false) where
     -- "tables not sound"
-    unsound-by : (fit : Bool) → in_use_fit w ≡ fit → (fit && sound (tables_of w)) ≡ false
+    pub unsound-by : (fit : Bool) → in_use_fit w ≡ fit → (fit && sound (tables_of w)) ≡ false
         → not_taken 4 (tables_of w) memory room ≡ message_taken connection s w memory room
     unfolding message_taken take-message wrong_room
     unsound-by true f e = rw (right, f, e)
     unsound-by false f e = rw (right, f)
-
-    pub row-sound : (in_use_fit w && sound (tables_of w)) ≡ false → not_taken 4 (tables_of w) memory room ≡ message_taken connection s w memory room
-    row-sound e = unsound-by (in_use_fit w) refl e
 
     module _ (fit : (in_use_fit w && sound (tables_of w)) ≡ true) where
       -- "message dropped"
@@ -97,26 +94,8 @@ module _ (before : List ℕ) (k : Taken) where
 
 -- ---- for the next call
 
-unfit-tables : (w memory room : List ℕ) (row : Bool) → sound (tables_of w) ≡ true
+pub unfit-tables : (w memory room : List ℕ) (row : Bool) → sound (tables_of w) ≡ true
     → sound (cond row (not_taken 2 (tables_of w) memory room) (not_taken 4 (tables_of w) memory room)).tables ≡ true
 unfolding not_taken
 unfit-tables w memory room true e = e
 unfit-tables w memory room false e = e
-
-module _ (connection : ℕ) (s w memory room : List ℕ) where
-  keeps-by : (fit : Bool) → in_use_fit w ≡ fit → sound (tables_of w) ≡ true → sound (message_taken connection s w memory room).tables ≡ true
-  keeps-by true f e = rw (message-fit connection s w memory room f) (take-message-good connection s (tables_of w) memory room (words-good w e)).sound
-  keeps-by false f e = rw (message-unfit connection s w memory room f) (unfit-tables w memory room (wrong_room memory room) e)
-
-  -- the words out, as the call leaves them
-  pub message-next : (out : List ℕ) (r : ℕ) → tables_of out ≡ (message_taken connection s w memory room).tables → ((r ≡ 0 → ⊥) → out ≡ w)
-      → (in_use_fit w ≡ true → in_use_fit out ≡ true) → ForNext w out r (message_taken connection s w memory room).tables
-  unfolding ready
-  message-next out r t kept f =
-      record {
-        held = λ _. t;
-        kept = kept;
-        again = λ h.
-            let b = both_hold (in_use_fit w) (sound (tables_of w)) h in
-            ready_of out (message_taken connection s w memory room).tables (f b.0) t (keeps-by (in_use_fit w) refl b.1);
-      }

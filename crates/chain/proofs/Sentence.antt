@@ -10,9 +10,10 @@ use mathlib.Core.Option.{Option, none, some}
 use lib.ListN.{length}
 use Rattle.chain.specs.Layout.{block_end}
 use Rattle.chain.specs.Parse.{parse}
-use Rattle.chain.specs.ParseLaws.{placed}
+use Rattle.chain.proofs.ParseLaws.{placed}
 use Rattle.chain.specs.Chain.{before, blocks_from}
-use Rattle.chain.specs.ChainLaws.{chain-refused, chain-end, chain_more}
+use Rattle.chain.specs.ChainLaws.{chain-refused, chain-end}
+use Rattle.chain.proofs.ChainLaws.{chain_more}
 use Rattle.chain.specs.Judged.{judged, readable, judged-malformed, judged-stands, Stood}
 use Rattle.chain.specs.declared.block.Block.{Block}
 use Rattle.chain.specs.declared.block.Next.TheVariants.{End, Follow}

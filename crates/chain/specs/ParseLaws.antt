@@ -102,19 +102,13 @@ pub record Placed (s : List ℕ) (at : ℕ) (b : Block) : Type 0 where
   pub ahead : (c a : ℕ) → b.next ≡ Follow c a → block_end s at ≤ a
 
 -- a block is yielded only where it fits, with the follower given
-answer-whole : (s : List ℕ) (command at : ℕ) (fits : Bool) (body : Body) (next : Next) (b : Block) → answer s command at fits body next ≡ Whole b
+pub answer-whole : (s : List ℕ) (command at : ℕ) (fits : Bool) (body : Body) (next : Next) (b : Block) → answer s command at fits body next ≡ Whole b
     → (fits ≡ true) × (b.next ≡ next)
 unfolding answer
 answer-whole s command at true body next b e = (refl, cc)
 answer-whole s command at false body next b e = let never : ◌≡◌ {A = ℕ} 0 1 = cc in absurd (omega arith)
 
 module _ (s : List ℕ) (command at : ℕ) (fits : Bool) (body : Body) (b : Block) (inside : fits ≡ true → block_end s at ≤ length s) where
-  -- a block with AndX words, both of them fitting
-  placed-link : answer s command at (fits && link_fits s command at) body (link_at s at) ≡ Whole b → Placed s at b
-  placed-link e =
-      let told = answer-whole s command at (fits && link_fits s command at) body (link_at s at) b e in
-      let both = both_hold fits (link_fits s command at) told.0 in
-      record { inside = inside both.0; ahead = λ c a f. link-ahead s command at c a both.1 (sym told.1 ∙ f) }
 
   -- one that nothing follows
   placed_end : answer s command at fits body End ≡ Whole b → Placed s at b
@@ -123,51 +117,14 @@ module _ (s : List ℕ) (command at : ℕ) (fits : Bool) (body : Body) (b : Bloc
       record { inside = inside told.0; ahead = λ c a f. let never : ◌≡◌ {A = ℕ} 0 1 = cc told.1 in absurd (omega arith) }
 
 module _ (s : List ℕ) (at : ℕ) (b : Block) where
-  placed-locking : parse_locking s at ≡ Whole b → Placed s at b
-  unfolding parse_locking
-  placed-locking e = placed-link s LOCKING at (locking_fits s at) _ b (locking-inside s at) e
 
-  placed-read : parse_read s at ≡ Whole b → Placed s at b
-  unfolding parse_read
-  placed-read e = placed-link s READ at (read_fits s at) _ b (read-inside s at) e
-
-  placed-write : parse_write s at ≡ Whole b → Placed s at b
-  unfolding parse_write
-  placed-write e = placed-link s WRITE at (write_fits s at) _ b (write-inside s at) e
-
-  placed-open : parse_open s at ≡ Whole b → Placed s at b
-  unfolding parse_open
-  placed-open e = placed-link s OPEN at (open_fits s at) _ b (open-inside s at) e
-
-  placed-logoff : parse_logoff s at ≡ Whole b → Placed s at b
-  unfolding parse_logoff
-  placed-logoff e = placed-link s LOGOFF at (bare s at 2) Logoff b (bare-inside s at 2) e
-
-  placed-bare : (command words : ℕ) (body : Body) → parse_bare s command at words body ≡ Whole b → Placed s at b
+  pub placed-bare : (command words : ℕ) (body : Body) → parse_bare s command at words body ≡ Whole b → Placed s at b
   unfolding parse_bare
   placed-bare command words body e = placed_end s command at (bare s at words) body b (bare-inside s at words) e
 
-  placed-core-write : parse_core_write s at ≡ Whole b → Placed s at b
+  pub placed-core-write : parse_core_write s at ≡ Whole b → Placed s at b
   unfolding parse_core_write
   placed-core-write e = placed_end s CORE-WRITE at (core_write_fits s at) _ b (core-write-inside s at) e
 
-  unserved : Malformed ≡ Whole b → Placed s at b
+  pub unserved : Malformed ≡ Whole b → Placed s at b
   unserved e = let never : ◌≡◌ {A = ℕ} 0 1 = cc in absurd (omega arith)
-
-  -- whatever its command
-  pub placed : (command : ℕ) → parse s command at ≡ Whole b → Placed s at b
-  unfolding parse
-  placed command e =
-      chosen (eqb command LOCKING) (parse_locking s at) _ (Whole b) placed-locking
-      (chosen (eqb command READ) (parse_read s at) _ (Whole b) placed-read
-      (chosen (eqb command WRITE) (parse_write s at) _ (Whole b) placed-write
-      (chosen (eqb command CLOSE) (parse_bare s CLOSE at 3 (Close (first_fid s at))) _ (Whole b) (placed-bare CLOSE 3 _)
-      (chosen (eqb command LOGOFF) (parse_logoff s at) _ (Whole b) placed-logoff
-      (chosen (eqb command TREE_DISCONNECT) (parse_bare s TREE_DISCONNECT at 0 TreeDisconnect) _ (Whole b) (placed-bare TREE_DISCONNECT 0 _)
-      (chosen (eqb command PROCESS_EXIT) (parse_bare s PROCESS_EXIT at 0 ProcessExit) _ (Whole b) (placed-bare PROCESS_EXIT 0 _)
-      (chosen (eqb command CORE-READ) (parse_bare s CORE-READ at 5 (core_read_at s at)) _ (Whole b) (placed-bare CORE-READ 5 _)
-      (chosen (eqb command CORE-WRITE) (parse_core_write s at) _ (Whole b) placed-core-write
-      (chosen (eqb command LOCK_BYTE_RANGE) (parse_bare s LOCK_BYTE_RANGE at 5 (LockByteRange (range_fields s at))) _ (Whole b) (placed-bare LOCK_BYTE_RANGE 5 _)
-      (chosen (eqb command UNLOCK_BYTE_RANGE) (parse_bare s UNLOCK_BYTE_RANGE at 5 (UnlockByteRange (range_fields s at))) _ (Whole b) (placed-bare UNLOCK_BYTE_RANGE 5 _)
-      (chosen (eqb command OPEN) (parse_open s at) Malformed (Whole b) placed-open unserved)))))))))))
-      e

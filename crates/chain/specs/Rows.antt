@@ -54,30 +54,30 @@ pub record HasBody (s : List ℕ) (command at : ℕ) (body : Body) : Type 0 wher
   pub is : parse s command at ≡ answer s command at (fits s command at) body (next_at s command at)
 
 module _ (s : List ℕ) (at : ℕ) where
-  abbrev Row : ℕ → Type 0
+  abbrev pub Row : ℕ → Type 0
   Row command = (body : Body) × HasBody s command at body
 
-  row-locking : Row LOCKING
+  pub row-locking : Row LOCKING
   unfolding parse parse_locking fits row_fits is_andx request_named next_at
   row-locking = (_, record { is = refl })
 
-  row_read : Row READ
+  pub row_read : Row READ
   unfolding parse parse_read fits row_fits is_andx request_named next_at
   row_read = (_, record { is = refl })
 
-  row_write : Row WRITE
+  pub row_write : Row WRITE
   unfolding parse parse_write fits row_fits is_andx request_named next_at
   row_write = (_, record { is = refl })
 
-  row-close : Row CLOSE
+  pub row-close : Row CLOSE
   unfolding parse parse_bare fits row_fits is_andx request_named next_at
   row-close = (_, record { is = refl })
 
-  row-logoff : Row LOGOFF
+  pub row-logoff : Row LOGOFF
   unfolding parse parse_logoff fits row_fits is_andx request_named next_at
   row-logoff = (_, record { is = refl })
 
-  row-tree-disconnect : Row TREE_DISCONNECT
+  pub row-tree-disconnect : Row TREE_DISCONNECT
   unfolding parse parse_bare fits row_fits is_andx request_named next_at
   row-tree-disconnect = (_, record { is = refl })
 
@@ -85,23 +85,23 @@ module _ (s : List ℕ) (at : ℕ) where
   unfolding parse parse_bare fits row_fits is_andx request_named next_at
   row-process-exit = record { is = refl }
 
-  row-core-read : Row CORE-READ
+  pub row-core-read : Row CORE-READ
   unfolding parse parse_bare fits row_fits is_andx request_named next_at
   row-core-read = (_, record { is = refl })
 
-  row-core-write : Row CORE-WRITE
+  pub row-core-write : Row CORE-WRITE
   unfolding parse parse_core_write fits row_fits is_andx request_named next_at
   row-core-write = (_, record { is = refl })
 
-  row-lock-byte-range : Row LOCK_BYTE_RANGE
+  pub row-lock-byte-range : Row LOCK_BYTE_RANGE
   unfolding parse parse_bare fits row_fits is_andx request_named next_at
   row-lock-byte-range = (_, record { is = refl })
 
-  row-unlock-byte-range : Row UNLOCK_BYTE_RANGE
+  pub row-unlock-byte-range : Row UNLOCK_BYTE_RANGE
   unfolding parse parse_bare fits row_fits is_andx request_named next_at
   row-unlock-byte-range = (_, record { is = refl })
 
-  row_open : Row OPEN
+  pub row_open : Row OPEN
   unfolding parse parse_open fits row_fits is_andx request_named next_at
   row_open = (_, record { is = refl })
 
@@ -112,11 +112,6 @@ module _ (s : List ℕ) (at : ℕ) where
       record {
         is = rw (u.no-locking, u.no_read, u.no_write, u.no-close, u.no-logoff, u.no-tree-disconnect, u.no-process-exit, u.no-core-read, u.no-core-write, u.no-lock-byte-range, u.no-unlock-byte-range, u.no-open);
       }
-
-  pub parse-row : (command : ℕ) → Row command
-  parse-row command =
-      by-request (λ (request : ServedRequest) (command : ℕ). Row command) command row-locking row_read row_write row-close row-logoff row-tree-disconnect
-      (ProcessExit, row-process-exit) row-core-read row-core-write row-lock-byte-range row-unlock-byte-range row_open (λ u. (ProcessExit, row-none command u))
 
 -- ---- a block judged
 
@@ -164,39 +159,20 @@ andx-inside s request at a e =
     let h : block_end s at ≤ length s = row_inside s request at e in
     omega arith
 
-judged-answer : (s : List ℕ) (command at : ℕ) (t : Bool) (body : Body) (next : Next) → judged (answer s command at t body next) ≡ cond t (judge.Fits next) judge.Malformed
+pub judged-answer : (s : List ℕ) (command at : ℕ) (t : Bool) (body : Body) (next : Next) → judged (answer s command at t body next) ≡ cond t (judge.Fits next) judge.Malformed
 unfolding judged answer
 judged-answer s command at true body next = refl
 judged-answer s command at false body next = refl
 
 module _ (s : List ℕ) (command at : ℕ) where
-  -- judging needs no fields
-  pub judged-row : judged (parse s command at) ≡ cond (fits s command at) (judge.Fits (next_at s command at)) judge.Malformed
-  judged-row =
-      let row = parse-row s at command in
-      ap judged row.1.is ∙ judged-answer s command at (fits s command at) row.0 (next_at s command at)
 
-  neither : (t u : Bool) → cond t (false && u) false ≡ false
+  pub neither : (t u : Bool) → cond t (false && u) false ≡ false
   neither true u = refl
   neither false u = refl
 
-  module _ (row : row_fits s (request_named command) at ≡ false) where
-    pub judged-misfit : judged (parse s command at) ≡ judge.Malformed
-    unfolding fits
-    judged-misfit = rw (judged-row, row, neither (is_andx (request_named command)) (link_fits s command at))
-
-  module _ (row : row_fits s (request_named command) at ≡ true) where
-    pub judged-plain : is_andx (request_named command) ≡ false → judged (parse s command at) ≡ judge.Fits End
-    unfolding fits next_at
-    judged-plain plain = rw (judged-row, plain, row)
-
-    pub judged-link : is_andx (request_named command) ≡ true → judged (parse s command at) ≡ link_judged s command at
-    unfolding fits next_at link_judged
-    judged-link andx = rw (judged-row, andx, row)
-
 -- ---- a block taken apart
 
-whole-fits : (s : List ℕ) (command at : ℕ) (t : Bool) (body : Body) (next : Next) → is_whole (answer s command at t body next) ≡ true → t ≡ true
+pub whole-fits : (s : List ℕ) (command at : ℕ) (t : Bool) (body : Body) (next : Next) → is_whole (answer s command at t body next) ≡ true → t ≡ true
 unfolding is_whole answer
 whole-fits s command at true body next e = refl
 whole-fits s command at false body next e = absurd (false≢true e)
@@ -207,11 +183,3 @@ pub taken-apart : (s : List ℕ) (command at : ℕ) (body : Body) → HasBody s 
 taken-apart s command at body h e =
     let t = whole-fits s command at (fits s command at) body (next_at s command at) (sym (ap is_whole h.is) ∙ e) in
     h.is ∙ ap (λ (x : Bool). answer s command at x body (next_at s command at)) t
-
--- its AndX words stand inside the message, where it has any
-pub whole-andx : (s : List ℕ) (command at : ℕ) → is_whole (parse s command at) ≡ true → is_andx (request_named command) ≡ true → at + 5 ≤ length s
-unfolding fits
-whole-andx s command at e a =
-    let row = parse-row s at command in
-    let t : fits s command at ≡ true = whole-fits s command at (fits s command at) row.0 (next_at s command at) (sym (ap is_whole row.1.is) ∙ e) in
-    andx-inside s (request_named command) at a (both_hold (row_fits s (request_named command) at) (link_fits s command at) (rw a at t)).0

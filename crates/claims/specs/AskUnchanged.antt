@@ -46,23 +46,13 @@ up-to-date t o = (
 )
 
 module _ (t : Tables) (fid : ℕ) where
-  has-fid : Open → Bool
+  unfoldable pub has-fid : Open → Bool
   has-fid o = eqb o.fid fid
 
-  asked_of : (f : Found) → found has-fid (opens_of t) ≡ f → sound t ≡ true → AskReason t fid (unchanged_at t f).number
+  pub asked_of : (f : Found) → found has-fid (opens_of t) ≡ f → sound t ≡ true → AskReason t fid (unchanged_at t f).number
   unfolding unchanged_at refused done has-fid
   asked_of (At k) e s = let h = found-hit has-fid (opens_of t) k no_open e in ask-done s (get_or (opens_of t) k no_open) h.listed (eqb-true (get_or (opens_of t) k no_open).fid fid h.passes)
   asked_of Nothing e s = ask-unknown s (λ o m q. not-decided-twice (eqb o.fid fid) (eq-eqb o.fid fid q) (found-miss has-fid m e))
-
-  by-sound : (b : Bool) → sound t ≡ b → AskReason t fid (cond (not b) (refused 4 t) (unchanged_at t (found has-fid (opens_of t)))).number
-  unfolding refused
-  by-sound true e = asked_of (found has-fid (opens_of t)) refl e
-  by-sound false e = ask-unsound e
-
-  -- each number for its reason
-  pub ask-reason : AskReason t fid (ask_unchanged t fid).number
-  unfolding ask_unchanged has-fid
-  ask-reason = by-sound (sound t) refl
 
   -- it changes nothing
   at-stands : (f : Found) → (unchanged_at t f).tables ≡ t
@@ -122,27 +112,6 @@ unfolding ask_unchanged refused done
 ask-given t fid (ask-unsound e) = rw e
 ask-given t fid (ask-unknown e none) = rw e (at_none t fid (found (λ o. eqb o.fid fid) (opens_of t)) refl none)
 ask-given t fid (ask-done e o m q) = ap (λ (a : Returned). a.number) (ask-open t fid e o m q)
-
--- the answer about an open: "unchanged" exactly if it is up to date, otherwise "changed"
-pub answer-of : (t : Tables) (o : Open) → sound t ≡ true → In o (opens_of t) → ((ask_unchanged t o.fid).id ≡ 1) ↔ UpToDate t o
-unfolding done
-answer-of t o s m =
-    let same = ap (λ (a : Returned). a.id) (ask-open t o.fid s o m refl) in (
-      λ e. (up-to-date t o).0 (chosen-one (is_unchanged t o) (sym same ∙ e)),
-      λ u. same ∙ ap (λ (b : Bool). cond b 1 0) ((up-to-date t o).1 u),
-    )
-  where
-    chosen-one : (b : Bool) → ◌≡◌ {A = ℕ} (cond b 1 0) 1 → b ≡ true
-    chosen-one true e = refl
-    chosen-one false e = absurd (let z : ⊥ = omega arith in z)
-
-pub other-answer : (t : Tables) (o : Open) → sound t ≡ true → In o (opens_of t) → ((ask_unchanged t o.fid).id ≡ 0) ↔ (UpToDate t o → ⊥)
-unfolding done
-other-answer t o s m =
-    let same = ap (λ (a : Returned). a.id) (ask-open t o.fid s o m refl) in (
-      λ e u. let one = (answer-of t o s m).1 u in omega arith,
-      λ n. same ∙ ap (λ (b : Bool). cond b 1 0) (fails (is_unchanged t o) (λ e. n ((up-to-date t o).0 e))),
-    )
 
 -- it is answered on sound tables alone
 pub ask-sound : (t : Tables) (fid : ℕ) → (ask_unchanged t fid).number ≡ 0 → sound t ≡ true

@@ -45,7 +45,7 @@ use Rattle.message.specs.JustOpened.{NOBODY, opened_by, body_meant}
 use Rattle.message.specs.Message.{area_of, data_of, link_to, Ran, after, after_given, run, served, only_status, run_chain, answered, reply_of, Taken, not_taken, replied, take-message}
 use Rattle.message.specs.Reply.{two, four, nt_bit, status_number, reply_header, reply_block, reply_size}
 use Rattle.message.specs.declared.refusal.Forms.{Forms}
-use Rattle.claims.specs.StatusList.{smb-bytes, answered-ended, ended-says}
+use Rattle.claims.specs.StatusList.{smb-bytes, answered-ended}
 use Rattle.claims.specs.YesOrNo.{Gave, refused_with, onward, plainly, open_in, opened, grants_before, after_releases_before, request_before, locking_before, unless_conflict, read_before, writing_before, write_before, core_gave, range_before, set_size_before, core_write_before, perform_before, RanBefore, refused_before, in_front, after_gave, run_before, chain_before, answered_before, TakenBefore, header01, untaken, replied_before, take_before}
 
 -- what the call gives back, the holder left out
@@ -62,13 +62,13 @@ both-chosen f g true p q = p
 both-chosen f g false p q = q
 
 -- and before a function and behind it
-chosen : {A B : Type 0} (f : A → B) (b : Bool) {x y : B} {u v : A} → x ≡ f u → y ≡ f v → cond b x y ≡ f (cond b u v)
+pub chosen : {A B : Type 0} (f : A → B) (b : Bool) {x y : B} {u v : A} → x ≡ f u → y ≡ f v → cond b x y ≡ f (cond b u v)
 chosen f b p q = both-chosen (λ x. x) f b p q
 
 -- ---- a conflict
 
 -- whether a place is given
-unfoldable is_at : Found → Bool
+unfoldable pub is_at : Found → Bool
 is_at (At k) = true
 is_at Nothing = false
 
@@ -105,11 +105,11 @@ conflict-before t q list x f there clear =
 
 module _ (t : Tables) (memory : List ℕ) where
   -- what a request's result gives
-  unfoldable result_gives : Result → Gave
+  unfoldable pub result_gives : Result → Gave
   result_gives r = plainly (locking_after t memory (settle t.locks t.nlocks r))
 
   -- its ranges, one after the other
-  grants-before : (fid : ℕ) (shared : Bool) (rs : List LockRange) (list : List Lock)
+  pub grants-before : (fid : ℕ) (shared : Bool) (rs : List LockRange) (list : List Lock)
       → grants_before t memory fid shared rs list ≡ result_gives (after_grants (grant_all (file_of (opens_of t)) fid shared rs list))
   unfolding grants_before grant_all after_grants after_walk result_gives plainly onward locking_after settle locking_end with_lock_list with_locks forms_of
   grants-before fid shared [] list = chosen result_gives (leb (length list) 128) refl refl
@@ -117,23 +117,6 @@ module _ (t : Tables) (memory : List ℕ) where
       conflict-before t (ask_of fid (Grant shared) r) list _
       (λ (f : Found). result_gives (after_grants (after_walk f list (grant_all (file_of (opens_of t)) fid shared rs (list ++ (lock_of fid shared r ∷ []))))))
       (λ k. refl) (grants-before fid shared rs (list ++ (lock_of fid shared r ∷ [])))
-
-  -- behind its unlocks
-  releases-before : (fid : ℕ) (shared : Bool) (locks : List LockRange) (o : Option (List Lock))
-      → after_releases_before t memory fid shared locks o ≡ result_gives (after_releases (file_of (opens_of t)) fid shared locks o)
-  unfolding after_releases_before after_releases result_gives plainly onward locking_after settle locking_end forms_of
-  releases-before fid shared locks none = refl
-  releases-before fid shared locks (some list) = chosen result_gives (any range_passes locks) refl (grants-before fid shared locks list)
-
-  -- the request as a whole
-  request-before : (q : Request) (area : List ℕ)
-      → request_before t memory q area ≡ plainly (locking_after t memory (locking (file_of (opens_of t)) t.locks t.nlocks q area))
-  unfolding request_before locking request result_gives plainly onward locking_after settle locking_end forms_of
-  request-before q area =
-      chosen result_gives (eqb (length area) ((q.unlocks + q.locks) * range_size q.large))
-      (releases-before q.fid q.shared (ranges_of q area q.unlocks q.locks)
-      (release_all (file_of (opens_of t)) q.fid (ranges_of q area 0 q.unlocks) (locks_of t)))
-      refl
 
 -- ---- who may ask
 
@@ -151,7 +134,7 @@ on-choice k false u v x y p q = q
 
 module _ (c : Caller) (t : Tables) where
   -- the tests of a command on an open, before what follows
-  open-before : (fid : ℕ) (x : Open → Gave) (y : Open → Given) → ((o : Open) → x o ≡ plainly (y o)) → opened c t fid x ≡ plainly (with_open c t fid y)
+  pub open-before : (fid : ℕ) (x : Open → Gave) (y : Open → Given) → ((o : Open) → x o ≡ plainly (y o)) → opened c t fid x ≡ plainly (with_open c t fid y)
   unfolding opened with_open with_tree with_session onward plainly
   open-before fid x y e =
       on-choice _ (any (is_session c) (sessions_of t)) _ _ _ _
@@ -163,7 +146,7 @@ module _ (c : Caller) (t : Tables) where
   transfer-before q x y h = conflict-before t q (locks_of t) x (λ (f : Found). plainly (unless_barred t f y)) (λ k. refl) h
 
   -- every write, whatever it asks of the locks and leaves
-  writing-before : (fid : ℕ) (ask : Open → Ask) (past : Bool) (x : Open → Gave) (y : Open → Given) → ((o : Open) → x o ≡ plainly (y o))
+  pub writing-before : (fid : ℕ) (ask : Open → Ask) (past : Bool) (x : Open → Gave) (y : Open → Given) → ((o : Open) → x o ≡ plainly (y o))
       → writing_before c t fid ask past x ≡ plainly (writing c t fid ask past y)
   unfolding writing_before plainly onward forms_of
   writing-before fid ask past x y e =
@@ -171,61 +154,23 @@ module _ (c : Caller) (t : Tables) where
       (λ o. chosen plainly (eqb o.access 0) refl (transfer-before (ask o) _ _ (chosen plainly past refl (e o))))
 
 -- a command in its counterpart's way
-core-before : (x : Gave) (g : Given) → x ≡ plainly g → core_gave x ≡ plainly (as_core g)
+pub core-before : (x : Gave) (g : Given) → x ≡ plainly g → core_gave x ≡ plainly (as_core g)
 unfolding core_gave as_core plainly onward
 core-before x (refused why) e = ap core_gave e
 core-before x (done t memory said) e = ap core_gave e
 
 module _ (c : Caller) (t : Tables) (memory : List ℕ) where
-  locking-before : (f : LockingFields) (area : List ℕ) → locking_before c t memory f area ≡ plainly (do_locking c t memory f area)
-  unfolding locking_before do_locking plainly onward forms_of
-  locking-before f area =
-      open-before c t f.fid _ _ (λ o. chosen plainly (served_type f.kind) (request-before t memory (request_of c f) area) refl)
 
-  read-before : (f : ReadFields) → read_before c t memory f ≡ plainly (do_read c t memory f)
+  pub read-before : (f : ReadFields) → read_before c t memory f ≡ plainly (do_read c t memory f)
   unfolding read_before do_read plainly onward forms_of
   read-before f =
       open-before c t f.fid _ _
       (λ o. chosen plainly (eqb o.access 1) refl (transfer-before c t (ask_by c f.fid f.offset f.max Reading) _ _ refl))
 
-  write-before : (f : WriteFields) (bytes : List ℕ) → write_before c t memory f bytes ≡ plainly (do_write c t memory f bytes)
-  unfolding write_before do_write plainly onward
-  write-before f bytes =
-      writing-before c t f.fid (λ o. ask_by c f.fid f.offset f.count Writing) (ends_past f.offset f.count) _ _ (λ o. refl)
-
-  set-size-before : (f : WriteFields) → set_size_before c t memory f ≡ plainly (do_set_size c t memory f)
-  unfolding set_size_before do_set_size plainly onward
-  set-size-before f =
-      writing-before c t f.fid (λ o. between_sizes c f.fid (size_of t o.file) f.offset) (ltb 4096 f.offset) _ _ (λ o. refl)
-
-  core-write-before : (f : WriteFields) (bytes : List ℕ) → core_write_before c t memory f bytes ≡ plainly (do_core_write c t memory f bytes)
-  unfolding core_write_before do_core_write
-  core-write-before f bytes = chosen plainly (eqb f.count 0) (set-size-before f) (core-before _ _ (write-before f bytes))
-
-  range-before : (f : RangeFields) (unlocks locks : ℕ) → range_before c t memory f unlocks locks ≡ plainly (do_range c t memory f unlocks locks)
-  unfolding range_before do_range
-  range-before f unlocks locks = core-before _ _ (locking-before (one_range f unlocks locks) (small_form (range_by c f)))
-
-  -- every command
-  perform-before : (b : Body) (area bytes : List ℕ) → perform_before c t memory b area bytes ≡ plainly (perform c t memory b area bytes)
-  unfolding perform_before perform
-  perform-before (LockingBody f) area bytes = locking-before f area
-  perform-before (ReadBody f) area bytes = read-before f
-  perform-before (WriteBody f) area bytes = write-before f bytes
-  perform-before (Close fid) area bytes = refl
-  perform-before Logoff area bytes = refl
-  perform-before TreeDisconnect area bytes = refl
-  perform-before ProcessExit area bytes = refl
-  perform-before (CoreReadBody f) area bytes = core-before _ _ (read-before f)
-  perform-before (CoreWriteBody f) area bytes = core-write-before f (drop 3 area)
-  perform-before (LockByteRange f) area bytes = range-before f 0 1
-  perform-before (UnlockByteRange f) area bytes = range-before f 1 0
-  perform-before (OpenBody f) area bytes = refl
-
 -- ---- a message
 
 -- a command's end, and the commands behind it
-given-before : (g : Given) (bs : List Block) (place : ℕ) (t : Tables) (memory : List ℕ) (x : ℕ → ℕ → Tables → List ℕ → RanBefore)
+pub given-before : (g : Given) (bs : List Block) (place : ℕ) (t : Tables) (memory : List ℕ) (x : ℕ → ℕ → Tables → List ℕ → RanBefore)
     (y : ℕ → ℕ → Tables → List ℕ → Ran) → ((j p : ℕ) (u : Tables) (m : List ℕ) → x j p u m ≡ ran_without (y j p u m))
     → after_gave (plainly g) bs place t memory x ≡ ran_without (after_given g bs place t memory y)
 unfolding after_gave after_given plainly onward ran_without refused_before in_front after forms_of
@@ -233,52 +178,9 @@ given-before (refused why) bs place t memory x y e = refl
 given-before (done u m said) bs place t memory x y e =
     ap (in_front (reply_block said place (link_to bs (place + reply_size said)))) (e (opened_by said) (place + reply_size said) u m)
 
--- "command by command"
-run-before : (c : Caller) (s : List ℕ) (just : ℕ) (bs : List Block) (place : ℕ) (t : Tables) (memory : List ℕ)
-    → run_before c s just bs place t memory ≡ ran_without (run c s just bs place t memory)
-unfolding run_before run ran_without status
-run-before c s just [] place t memory = refl
-run-before c s just (b ∷ bs) place t memory =
-    rw (perform-before c t memory (body_meant just b.body) (area_of s b) (data_of s b))
-    (given-before (perform c t memory (body_meant just b.body) (area_of s b) (data_of s b)) bs place t memory _ _ (λ j p u m. run-before c s j bs p u m))
-
-chain-before : (c : Caller) (s : List ℕ) (o : Option (List Block)) (t : Tables) (memory : List ℕ)
-    → chain_before c s o t memory ≡ ran_without (run_chain c s o t memory)
-unfolding chain_before run_chain only_status refused_before ran_without forms_of
-chain-before c s none t memory = refl
-chain-before c s (some bs) t memory = run-before c s NOBODY bs FIRST t memory
-
-pub answered-before : (connection : ℕ) (s : List ℕ) (t : Tables) (memory : List ℕ)
-    → answered_before connection s t memory ≡ ran_without (answered connection s t memory)
-unfolding answered_before answered only_status refused_before ran_without forms_of
-answered-before connection s t memory = chosen ran_without (served (header_command s)) (chain-before (caller_of connection s) s (blocks s) t memory) refl
-
-bit-clear : (b : ℕ) → b < 2 → eqb b 1 ≡ false → b ≡ 0
+pub bit-clear : (b : ℕ) → b < 2 → eqb b 1 ≡ false → b ≡ 0
 bit-clear zero h e = refl
 bit-clear (suc n) h e = absurd (eqb-false (suc n) 1 e (omega arith))
-
--- the header is document 01's where the bit is not set
-header-before : (s : List ℕ) (f : Forms) → f.status.class < 256 → nt_bit s ≡ false → reply_header s f ≡ header01 s f.status
-unfolding reply_header header01 two four status_number nt_bit
-header-before s f small clear =
-    let b : byte_at s 11 / 64 % 2 ≡ 0 = bit-clear (byte_at s 11 / 64 % 2) (omega arith) clear in
-    let q = smb-bytes f.status small in
-    rw (clear, q.0, q.1, q.2, b)
-
-replied-before : (s room : List ℕ) (r : Ran) → r.forms.status.class < 256 → nt_bit s ≡ false → replied_before s room (ran_without r) ≡ without_holder (replied s room r)
-unfolding replied_before ran_without without_holder replied reply_of
-replied-before s room r small clear = rw (header-before s r.forms small clear)
-
--- CR 2: "The reply bytes do not change": nor do the number, the tables and the files. CR 7: without the bit everything is as before, every byte
-pub before-holder : (connection : ℕ) (s : List ℕ) (t : Tables) (memory room : List ℕ) → nt_bit s ≡ false
-    → take_before connection s t memory room ≡ without_holder (take-message connection s t memory room)
-unfolding take_before take-message untaken not_taken without_holder
-before-holder connection s t memory room clear =
-    chosen without_holder (ltb (length room) 12292 || not (eqb (length memory) 65536)) refl
-    (chosen without_holder (not (sound t)) refl
-    (chosen without_holder (dropped s) refl
-    (ap (replied_before s room) (answered-before connection s t memory)
-    ∙ replied-before s room (answered connection s t memory) (ended-says (answered-ended connection s t memory)).class clear)))
 
 -- a reply but for Status and the upper byte of Flags2, bytes 5 to 8 and 11
 unfoldable pub blank : List ℕ → List ℕ
@@ -288,16 +190,6 @@ blank reply = set (put reply 5 (0 ∷ 0 ∷ 0 ∷ 0 ∷ [])) 11 0
 unfoldable pub but_status : TakenBefore → TakenBefore
 but_status k = record { number = k.number; length = k.length; tables = k.tables; memory = k.memory; room = blank k.room }
 
-status-before : (s room : List ℕ) (r : Ran) → but_status (replied_before s room (ran_without r)) ≡ but_status (without_holder (replied s room r))
+pub status-before : (s room : List ℕ) (r : Ran) → but_status (replied_before s room (ran_without r)) ≡ but_status (without_holder (replied s room r))
 unfolding but_status blank replied_before ran_without without_holder replied reply_of reply_header header01 two four put
 status-before s room r = refl
-
-pub before-status : (connection : ℕ) (s : List ℕ) (t : Tables) (memory room : List ℕ)
-    → but_status (take_before connection s t memory room) ≡ but_status (without_holder (take-message connection s t memory room))
-unfolding take_before take-message untaken not_taken without_holder
-before-status connection s t memory room =
-    let now : Taken → TakenBefore = λ k. but_status (without_holder k) in
-    both-chosen but_status now (ltb (length room) 12292 || not (eqb (length memory) 65536)) refl
-    (both-chosen but_status now (not (sound t)) refl
-    (both-chosen but_status now (dropped s) refl
-    (ap (λ (r : RanBefore). but_status (replied_before s room r)) (answered-before connection s t memory) ∙ status-before s room (answered connection s t memory))))

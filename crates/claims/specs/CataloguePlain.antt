@@ -95,7 +95,7 @@ folding a =
           ]
     ]
 
-byte-says : (a b : ℕ) → folded a ≡ folded b → SameByte a b
+pub byte-says : (a b : ℕ) → folded a ≡ folded b → SameByte a b
 unfolding Folding
 byte-says a b e =
     elim (folding a) [
@@ -111,7 +111,7 @@ byte-says a b e =
           ]
     ]
 
-byte-ok : (a b : ℕ) → SameByte a b → folded a ≡ folded b
+pub byte-ok : (a b : ℕ) → SameByte a b → folded a ≡ folded b
 byte-ok a b (one_byte e) = ap folded e
 byte-ok a b (large-small h k e) =
     let past : 90 < b = omega arith in
@@ -120,60 +120,23 @@ byte-ok a b (small-large h k e) =
     let past : 90 < a = omega arith in
     folded-above a past ∙ e ∙ sym (folded-large b h k)
 
-byte-back : {a b : ℕ} → SameByte a b → SameByte b a
+pub byte-back : {a b : ℕ} → SameByte a b → SameByte b a
 byte-back (one_byte e) = one_byte (sym e)
 byte-back (large-small h k e) = small-large h k e
 byte-back (small-large h k e) = large-small h k e
 
 -- ---- two names
 
-name_back : (xs ys : List ℕ) → SameName xs ys → SameName ys xs
-name_back xs ys s =
-    let long = s.as_long in
-    record { as_long = sym long; each-byte = λ i h. let k : i < length xs = omega arith in byte-back (s.each-byte i k) }
-
-name-says : (xs ys : List ℕ) → same_name xs ys ≡ true → SameName xs ys
-unfolding same_name
-name-says [] [] e = record { as_long = refl; each-byte = λ i h. absurd (let z : ⊥ = omega arith in z) }
-name-says [] (b ∷ bs) e = absurd (false≢true e)
-name-says (a ∷ rest) [] e = absurd (false≢true e)
-name-says (a ∷ rest) (b ∷ bs) e =
-    let both = both_hold (eqb (folded a) (folded b)) (same_name rest bs) e in
-    let later = name-says rest bs both.1 in
-    record {
-      as_long = ap suc later.as_long;
-      each-byte = places (byte-says a b (eqb-true (folded a) (folded b) both.0)) later;
-    }
-  where
-    places : SameByte a b → SameName rest bs → (i : ℕ) → i < length (a ∷ rest) → SameByte (get_or (a ∷ rest) i 0) (get_or (b ∷ bs) i 0)
-    places s later zero h = s
-    places s later (suc i) h = let k : i < length rest = omega arith in later.each-byte i k
-
-name-ok : (xs ys : List ℕ) → SameName xs ys → same_name xs ys ≡ true
-unfolding same_name
-name-ok [] [] s = refl
-name-ok [] (b ∷ bs) s = absurd (let long : 0 ≡ suc (length bs) = s.as_long in let z : ⊥ = omega arith in z)
-name-ok (a ∷ rest) [] s = absurd (let long : suc (length rest) ≡ 0 = s.as_long in let z : ⊥ = omega arith in z)
-name-ok (a ∷ rest) (b ∷ bs) s =
-    let long : suc (length rest) ≡ suc (length bs) = s.as_long in
-    hold-both (eqb (folded a) (folded b)) (same_name rest bs)
-    (eq-eqb (folded a) (folded b) (byte-ok a b (s.each-byte 0 (omega arith))))
-    (name-ok rest bs (record { as_long = omega arith; each-byte = λ i h. let k : suc i < suc (length rest) = omega arith in s.each-byte (suc i) k }))
-
--- "compared with ASCII letters caseless": the computed test holds of just the names that the words describe
-pub same-name-plain : (xs ys : List ℕ) → (same_name xs ys ≡ true) ↔ SameName xs ys
-same-name-plain xs ys = (name-says xs ys, name-ok xs ys)
-
 -- ---- which element, which pair
 
 -- a conjunction that fails: the first test fails, or it holds and the second fails
-one-fails : (t u : Bool) → (t && u) ≡ false → (t ≡ false) ⊎ ((t ≡ true) × (u ≡ false))
+pub one-fails : (t u : Bool) → (t && u) ≡ false → (t ≡ false) ⊎ ((t ≡ true) × (u ≡ false))
 one-fails true u e = inr (refl, e)
 one-fails false u e = inl refl
 
 module _ {A : Type 0} where
   -- where not all pass, there is one that fails
-  not-all : (p : A → Bool) (xs : List A) → all p xs ≡ false → (x : A) × In x xs × (p x ≡ false)
+  pub not-all : (p : A → Bool) (xs : List A) → all p xs ≡ false → (x : A) × In x xs × (p x ≡ false)
   unfolding all
   not-all p [] e = absurd (false≢true (sym e))
   not-all p (x ∷ xs) e =
@@ -183,7 +146,7 @@ module _ {A : Type 0} where
       ]
 
   -- where a rule for each element and every later one fails, there are two places that break it
-  not-pairs : (d : A) (r : A → A → Bool) (xs : List A) → all_tails (λ x later. all (r x) later) xs ≡ false
+  pub not-pairs : (d : A) (r : A → A → Bool) (xs : List A) → all_tails (λ x later. all (r x) later) xs ≡ false
       → (i : ℕ) × (j : ℕ) × (i < j) × (j < length xs) × (r (get_or xs i d) (get_or xs j d) ≡ false)
   unfolding all_tails
   not-pairs d r [] e = absurd (false≢true (sym e))
@@ -215,7 +178,7 @@ zero_ok : (b : ℕ) → (b ≡ 0 → ⊥) → not_zero b ≡ true
 unfolding not_zero
 zero_ok b h = not-holds (eqb b 0) (ne_eqb b 0 h)
 
-plain-name : (n : Name) → name_ok n ≡ true → PlainName n
+pub plain-name : (n : Name) → name_ok n ≡ true → PlainName n
 unfolding name_ok
 plain-name n e =
     let a = both_hold (leb 1 n.length) (leb n.length 12 && (all not_zero (name_bytes n) && leb n.file 15)) e in
@@ -228,7 +191,7 @@ plain-name n e =
       its-file = leb-true n.file 15 c.1;
     }
 
-computed-name : (n : Name) → PlainName n → name_ok n ≡ true
+pub computed-name : (n : Name) → PlainName n → name_ok n ≡ true
 unfolding name_ok
 computed-name n p =
     hold-both (leb 1 n.length) (leb n.length 12 && (all not_zero (name_bytes n) && leb n.file 15)) (le-leb 1 n.length p.some_bytes)
@@ -236,58 +199,9 @@ computed-name n p =
     (hold-both (all not_zero (name_bytes n)) (leb n.file 15) (each_all not_zero (name_bytes n) (λ b m. zero_ok b (p.no_zero b m)))
     (le-leb n.file 15 p.its-file)))
 
-differ-says : (n m : Name) → differ n m ≡ true → SameName (name_bytes n) (name_bytes m) → ⊥
-unfolding differ is_named
-differ-says n m h s =
-    not-decided-twice (same_name (name_bytes m) (name_bytes n)) (name-ok (name_bytes m) (name_bytes n) (name_back (name_bytes n) (name_bytes m) s))
-    (not-true (same_name (name_bytes m) (name_bytes n)) h)
-
-differ-ok : (n m : Name) → (SameName (name_bytes n) (name_bytes m) → ⊥) → differ n m ≡ true
-unfolding differ is_named
-differ-ok n m h =
-    not-holds (same_name (name_bytes m) (name_bytes n))
-    (fails (same_name (name_bytes m) (name_bytes n)) (λ e. h (name_back (name_bytes m) (name_bytes n) (name-says (name_bytes m) (name_bytes n) e))))
-
 module _ (names : List Name) (count : ℕ) where
-  abbrev held : List Name
+  abbrev pub held : List Name
   held = take count names
-
-  doubled-says : none_doubled held ≡ true → (i j : ℕ) → i < length held → j < length held → (i ≡ j → ⊥)
-      → SameName (bytes_at names count i) (bytes_at names count j) → ⊥
-  unfolding none_doubled
-  doubled-says h i j a b different s =
-      elim (dec_lt i j) [
-        | yes k ↦ differ-says (get_or held i no_name) (get_or held j no_name) (tails-pairs no_name differ held h i j k b) s
-        | no k ↦
-            let later : j < i = omega arith in
-            differ-says (get_or held j no_name) (get_or held i no_name) (tails-pairs no_name differ held h j i later a)
-            (name_back (bytes_at names count i) (bytes_at names count j) s)
-      ]
-
-  doubled-ok : ((i j : ℕ) → i < length held → j < length held → (i ≡ j → ⊥) → SameName (bytes_at names count i) (bytes_at names count j) → ⊥)
-      → none_doubled held ≡ true
-  unfolding none_doubled
-  doubled-ok h =
-      pairs-tails no_name differ held λ i j a b.
-      let c : i < length held = omega arith in
-      differ-ok (get_or held i no_name) (get_or held j no_name) (h i j c b (λ e. let z : ⊥ = omega arith in z))
-
-  pub catalogue-says : catalogue_ok names count ≡ true → PlainCatalogue names count
-  unfolding catalogue_ok
-  catalogue-says e =
-      let a = both_hold (leb count 16) (all name_ok held && none_doubled held) e in
-      let b = both_hold (all name_ok held) (none_doubled held) a.1 in
-      record {
-        most = leb-true count 16 a.0;
-        each-name = λ n m. plain-name n (all-each name_ok m b.0);
-        different = doubled-says b.1;
-      }
-
-  pub catalogue-ok : PlainCatalogue names count → catalogue_ok names count ≡ true
-  unfolding catalogue_ok
-  catalogue-ok p =
-      hold-both (leb count 16) (all name_ok held && none_doubled held) (le-leb count 16 p.most)
-      (hold-both (all name_ok held) (none_doubled held) (each_all name_ok held (λ n m. computed-name n (p.each-name n m))) (doubled-ok p.different))
 
   -- a rule that is broken is none that holds
   pub broken-fails : BrokenRule names count → PlainCatalogue names count → ⊥
@@ -301,7 +215,7 @@ module _ (names : List Name) (count : ℕ) where
   broken-fails (file-above n m h) p = let k = (p.each-name n m).its-file in omega arith
 
   -- a name that breaks a rule
-  name-broken : (n : Name) → In n held → name_ok n ≡ false → BrokenRule names count
+  pub name-broken : (n : Name) → In n held → name_ok n ≡ false → BrokenRule names count
   unfolding name_ok not_zero
   name-broken n m e =
       elim (one-fails (leb 1 n.length) (leb n.length 12 && (all not_zero (name_bytes n) && leb n.file 15)) e) [
@@ -319,32 +233,3 @@ module _ (names : List Name) (count : ℕ) where
                   ]
             ]
       ]
-
-  names-doubled : none_doubled held ≡ false → BrokenRule names count
-  unfolding none_doubled differ is_named
-  names-doubled e =
-      let q = not-pairs no_name differ held e in
-      let first = bytes_at names count q.0 in
-      let second = bytes_at names count q.1 in
-      let k : q.0 < q.1 = q.2 in
-      let b : q.1 < length held = q.3 in
-      let a : q.0 < length held = omega arith in
-      doubled q.0 q.1 a b (λ z. let no : ⊥ = omega arith in no)
-      (name_back second first (name-says second first (not-false (same_name second first) q.4)))
-
-  -- where the test fails, a rule is broken
-  pub rule-broken : catalogue_ok names count ≡ false → BrokenRule names count
-  unfolding catalogue_ok
-  rule-broken e =
-      elim (one-fails (leb count 16) (all name_ok held && none_doubled held) e) [
-        | inl h ↦ over-16 (leb-false count 16 h)
-        | inr f ↦
-            elim (one-fails (all name_ok held) (none_doubled held) f.1) [
-              | inl h ↦ let n = not-all name_ok held h in name-broken n.0 n.1 n.2
-              | inr h ↦ names-doubled h.1
-            ]
-      ]
-
-  -- and the other way round
-  pub rule-fails : BrokenRule names count → catalogue_ok names count ≡ false
-  rule-fails b = fails (catalogue_ok names count) (λ e. broken-fails b (catalogue-says e))

@@ -18,7 +18,7 @@ use Rattle.invariants.specs.HostCases.{by-test, end_one-either}
 use Rattle.invariants.specs.Numbered.{contains-in, in-contains}
 use Rattle.claims.specs.HostAnswer.{refused-not-done}
 use Rattle.claims.specs.HostFrames.{Counted, removed-counts}
-use Rattle.claims.specs.RemovalPlain.{Closed, Disconnected, LoggedOff, close-plain, disconnect-plain, logoff-plain}
+use Rattle.claims.specs.RemovalPlain.{Closed, Disconnected, LoggedOff}
 
 -- a record in use has the number
 unfoldable pub InUse : One → Tables → Type 0
@@ -74,19 +74,3 @@ pub record OneEnded (t : Tables) (one : One) (a : Returned) : Type 0 where
   pub records : WithoutOne one t a.tables
   pub counts : Counted a.tables
   pub no_number : a.id ≡ 0
-
-without-one : (t : Tables) → sound t ≡ true → (one : One) → WithoutOne one t (remove (gone_with one) t)
-unfolding WithoutOne gone_with
-without-one t e (OneSession uid) = logoff-plain t e uid
-without-one t e (OneTree tid) = disconnect-plain t e tid
-without-one t e (OneOpen fid) = close-plain t e fid
-
-pub end_one-frame : (t : Tables) (one : One) → (end_one t one).number ≡ 0 → OneEnded t one (end_one t one)
-unfolding done
-end_one-frame t one =
-    end_one-either t (λ a. a.number ≡ 0 → OneEnded t one a) (refused-not-done (OneEnded t one) t) one
-    λ tables there e. record {
-      records = without-one t tables one;
-      counts = removed-counts t (gone_with one);
-      no_number = refl;
-    }

@@ -23,7 +23,7 @@ use Rattle.invariants.specs.HostCases.{add_session-either, add_tree-either, add_
 use Rattle.invariants.specs.RemovalSound.{left, remove-left, left-sessions, left-trees, left-opens, left-locks}
 use Rattle.claims.specs.HostAnswer.{NewNumber, smallest-new, refused-not-done}
 use Rattle.claims.specs.LoadBytes.{Loaded, load_memory-done, load_file-size, load_file-changes, load_file-others, load_file-records}
-use Rattle.claims.specs.RemovalPlain.{ConnectionGone, FilesStand, CatalogueStands, drop-plain}
+use Rattle.claims.specs.RemovalPlain.{ConnectionGone, FilesStand, CatalogueStands}
 
 -- ---- a table that stands: its count and its records, in use or not
 
@@ -212,19 +212,6 @@ module _ (t : Tables) where
         open-count = ap length (sym (left-opens gone t));
         lock-count = ap length (sym (left-locks gone t));
       })
-
-  -- "drop a connection"
-  pub drop_connection-frame : (connection : ℕ) → (drop_connection t connection).number ≡ 0
-      → ConnectionDropped t connection (drop_connection t connection)
-  unfolding done
-  drop_connection-frame connection =
-      drop_connection-either t (λ a. a.number ≡ 0 → ConnectionDropped t connection a)
-      (refused-not-done (ConnectionDropped t connection) t) connection
-      λ tables e. record {
-        records = drop-plain t tables connection;
-        counts = removed-counts (Connection connection);
-        no_number = refl;
-      }
 
   -- "a catalogue, set whole by the host"
   pub set_catalogue-frame : (given : List Name) (count : ℕ) → (set_catalogue t given count).number ≡ 0

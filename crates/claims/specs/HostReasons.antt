@@ -27,7 +27,7 @@ use Rattle.invariants.specs.SoundParts.{sound-says}
 use Rattle.invariants.specs.RuleLaws.{holds-says}
 use Rattle.claims.specs.SoundPlain.{holds-ok, permits-says}
 use Rattle.invariants.specs.HostCases.{by-test}
-use Rattle.claims.specs.CataloguePlain.{PlainCatalogue, BrokenRule, catalogue-says, catalogue-ok, rule-broken, rule-fails}
+use Rattle.claims.specs.CataloguePlain.{PlainCatalogue, BrokenRule}
 use Rattle.claims.specs.HostAnswer.{load_file-number}
 
 -- ---- the reasons
@@ -243,16 +243,6 @@ unfolding drop_connection refused done
 drop_connection-reason t c =
     by-test (λ a. DropReason t a.number) (not (sound t)) (refused 4 t) _ (λ u. drop-unsound (not-true (sound t) u)) (λ u. drop-done (not-false (sound t) u))
 
--- "each is given only for its reason": setting the catalogue
-pub set_catalogue-reason : (t : Tables) (names : List Name) (count : ℕ) → SetReason t names count (set_catalogue t names count).number
-unfolding set_catalogue refused done
-set_catalogue-reason t names count =
-    by-test (λ a. SetReason t names count a.number) (not (sound t)) (refused 4 t) _ (λ u. set-unsound (not-true (sound t) u)) λ u.
-    let e : sound t ≡ true = not-false (sound t) u in
-    by-test (λ a. SetReason t names count a.number) (not (catalogue_ok names count)) (refused 7 t) _
-    (λ v. set-broken e (rule-broken names count (not-true (catalogue_ok names count) v))) λ v.
-    set-done e (catalogue-says names count (not-false (catalogue_ok names count) v))
-
 -- ---- the other way round: where the reason holds, its number is given
 
 -- "Order: 2, 4, 7, 6, 8, 9, 5, 1": adding a session
@@ -381,10 +371,3 @@ pub drop_connection-given : (t : Tables) (connection : ℕ) {n : ℕ} → DropRe
 unfolding drop_connection refused done
 drop_connection-given t c (drop-unsound a) = rw a
 drop_connection-given t c (drop-done a) = rw a
-
--- "Order: 2, 4, 7, 6, 8, 9, 5, 1": setting the catalogue
-pub set_catalogue-given : (t : Tables) (names : List Name) (count : ℕ) {n : ℕ} → SetReason t names count n → (set_catalogue t names count).number ≡ n
-unfolding set_catalogue refused done
-set_catalogue-given t names count (set-unsound a) = rw a
-set_catalogue-given t names count (set-broken a b) = rw (a, rule-fails names count b)
-set_catalogue-given t names count (set-done a b) = rw (a, catalogue-ok names count b)

@@ -31,7 +31,7 @@ use Rattle.soundness.specs.SoundLaws.{Room}
 use Rattle.invariants.specs.SoundParts.{Sound, sound-says, sound-ok}
 use Rattle.invariants.specs.RuleLaws.{TreeOk, tree-says, tree-ok, holds-says, OpenOk, open-says, open-ok, LockOk, lock-says, lock-ok, file_of-here, file_of-other}
 use Rattle.claims.specs.Distinct.{Numbers, numbered-says, numbered-ok}
-use Rattle.claims.specs.CataloguePlain.{PlainCatalogue, catalogue-says, catalogue-ok}
+use Rattle.claims.specs.CataloguePlain.{PlainCatalogue}
 
 -- ---- the plain words
 
@@ -90,7 +90,7 @@ pub record PlainSound (t : Tables) : Type 0 where
 -- ---- the rules for one record
 
 -- "sharing codes 1 to 4"
-sharing-says : (sharing : ℕ) → sharing_ok sharing ≡ true → (1 ≤ sharing) × (sharing ≤ 4)
+pub sharing-says : (sharing : ℕ) → sharing_ok sharing ≡ true → (1 ≤ sharing) × (sharing ≤ 4)
 unfolding sharing_ok
 sharing-says sharing e = let b = both_hold (leb 1 sharing) (leb sharing 4) e in (leb-true 1 sharing b.0, leb-true sharing 4 b.1)
 
@@ -125,7 +125,7 @@ holds-ok o r a b c =
     hold-both (eqb r.tid o.tid) (eqb r.uid o.uid && permits r.right o.access) (eq-eqb r.tid o.tid a)
     (hold-both (eqb r.uid o.uid) (permits r.right o.access) (eq-eqb r.uid o.uid b) (permits-ok r.right o.access c))
 
-ends-says : (offset length : ℕ) → not (passes_end offset length) ≡ true → offset + length ≤ 2 ^ 64
+pub ends-says : (offset length : ℕ) → not (passes_end offset length) ≡ true → offset + length ≤ 2 ^ 64
 unfolding passes_end
 ends-says offset length h = ltb-false (2 ^ 64) (offset + length) (not-true (ltb (2 ^ 64) (offset + length)) h)
 
@@ -188,7 +188,7 @@ module _ (os : List Open) (n : numbered 64 (map fid_of os) ≡ true) where
       ap (file_of os) (sym f.first-is) ∙ file_of-one 64 os n f.first-in ∙ f.same-file ∙ sym (file_of-one 64 os n f.second-in) ∙ ap (file_of os) f.second_is
 
   -- and the other way round, where both have opens
-  one-file-ok : (l m : Lock) → ((o : Open) × In o os × (o.fid ≡ l.fid)) → ((o : Open) × In o os × (o.fid ≡ m.fid))
+  pub one-file-ok : (l m : Lock) → ((o : Open) × In o os × (o.fid ≡ l.fid)) → ((o : Open) × In o os × (o.fid ≡ m.fid))
       → file_of os l.fid ≡ file_of os m.fid → OneFile os l m
   one-file-ok l m o p e =
       record {
@@ -203,7 +203,7 @@ module _ (os : List Open) (n : numbered 64 (map fid_of os) ≡ true) where
       }
 
   -- two listed locks of one file that overlap are both shared
-  pairs-says : (ls : List Lock) → agree_all (file_of os) ls ≡ true → (i j : ℕ) → i < length ls → j < length ls → (i ≡ j → ⊥)
+  pub pairs-says : (ls : List Lock) → agree_all (file_of os) ls ≡ true → (i j : ℕ) → i < length ls → j < length ls → (i ≡ j → ⊥)
       → OneFile os (get_or ls i no_lock) (get_or ls j no_lock) → LocksOverlap (get_or ls i no_lock) (get_or ls j no_lock)
       → ((get_or ls i no_lock).shared ≡ true) × ((get_or ls j no_lock).shared ≡ true)
   unfolding agree_all
@@ -218,7 +218,7 @@ module _ (os : List Open) (n : numbered 64 (map fid_of os) ≡ true) where
             (both.1, both.0)
       ]
 
-  pairs-ok : (ls : List Lock) → ((l : Lock) → In l ls → (o : Open) × In o os × (o.fid ≡ l.fid))
+  pub pairs-ok : (ls : List Lock) → ((l : Lock) → In l ls → (o : Open) × In o os × (o.fid ≡ l.fid))
       → ((i j : ℕ) → i < length ls → j < length ls → (i ≡ j → ⊥)
       → OneFile os (get_or ls i no_lock) (get_or ls j no_lock) → LocksOverlap (get_or ls i no_lock) (get_or ls j no_lock)
       → ((get_or ls i no_lock).shared ≡ true) × ((get_or ls j no_lock).shared ≡ true))
@@ -235,62 +235,38 @@ module _ (os : List Open) (n : numbered 64 (map fid_of os) ≡ true) where
 -- ---- the whole
 
 module _ (t : Tables) (s : Sound t) where
-  plain-tree : (r : Tree) → In r (trees_of t) → TreeOk (map uid_of (sessions_of t)) r
+  pub plain-tree : (r : Tree) → In r (trees_of t) → TreeOk (map uid_of (sessions_of t)) r
   plain-tree r m = tree-says (map uid_of (sessions_of t)) r (all-each (tree_ok (map uid_of (sessions_of t))) m s.records.trees_ok)
 
-  plain-open : (o : Open) → In o (opens_of t) → OpenOk (trees_of t) o
+  pub plain-open : (o : Open) → In o (opens_of t) → OpenOk (trees_of t) o
   plain-open o m = open-says (trees_of t) o (all-each (open_ok (trees_of t)) m s.records.opens_ok)
 
-  plain-lock : (l : Lock) → In l (locks_of t) → LockOk (map fid_of (opens_of t)) l
+  pub plain-lock : (l : Lock) → In l (locks_of t) → LockOk (map fid_of (opens_of t)) l
   plain-lock l m = lock-says (map fid_of (opens_of t)) l (all-each (lock_ok (map fid_of (opens_of t))) m s.locks.owned)
 
-  plain-open-tree : (o : Open) → In o (opens_of t) → (r : Tree) × In r (trees_of t) × (r.tid ≡ o.tid) × (r.uid ≡ o.uid) × (r.right ≡ 0 → o.access ≡ 0)
+  pub plain-open-tree : (o : Open) → In o (opens_of t) → (r : Tree) × In r (trees_of t) × (r.tid ≡ o.tid) × (r.uid ≡ o.uid) × (r.right ≡ 0 → o.access ≡ 0)
   plain-open-tree o m =
       let r = any-one (holds_open o) (trees_of t) (plain-open o m).held in
       let h = holds-says o r.0 r.2 in
       (r.0, r.1, h.tid, h.uid, permits-says r.0.right o.access h.permitted)
 
-  plain-tree-session : (r : Tree) → In r (trees_of t) → (u : Session) × In u (sessions_of t) × (u.uid ≡ r.uid)
+  pub plain-tree-session : (r : Tree) → In r (trees_of t) → (u : Session) × In u (sessions_of t) × (u.uid ≡ r.uid)
   plain-tree-session r m = named-one uid_of r.uid (sessions_of t) (plain-tree r m).session
 
   -- an open's session exists because its tree's does
-  plain-open-session : (o : Open) → In o (opens_of t) → (u : Session) × In u (sessions_of t) × (u.uid ≡ o.uid)
+  pub plain-open-session : (o : Open) → In o (opens_of t) → (u : Session) × In u (sessions_of t) × (u.uid ≡ o.uid)
   plain-open-session o m =
       let r = plain-open-tree o m in
       let u = plain-tree-session r.0 r.1 in
       (u.0, u.1, u.2 ∙ r.3)
 
-  plain : PlainSound t
-  unfolding file_ok seen_ok changes_of
-  plain =
-      record {
-        counts = s.room;
-        sizes = λ f m. leb-true f.size 4096 (both_hold (leb f.size 4096) (leb f.changes LARGEST) (all-each file_ok m s.sizes)).0;
-        changes = λ f m. let most = leb-true f.changes LARGEST (both_hold (leb f.size 4096) (leb f.changes LARGEST) (all-each file_ok m s.sizes)).1 in omega arith;
-        uids = numbered-says 16 (map uid_of (sessions_of t)) s.records.uids;
-        tids = numbered-says 32 (map tid_of (trees_of t)) s.records.tids;
-        fids = numbered-says 64 (map fid_of (opens_of t)) s.records.fids;
-        tree-session = plain-tree-session;
-        open-session = plain-open-session;
-        open-tree = plain-open-tree;
-        lock-open = λ l m. named-one fid_of l.fid (opens_of t) (plain-lock l m).owner;
-        rights = λ r m. leb-true r.right 1 (plain-tree r m).right;
-        accesses = λ o m. leb-true o.access 2 (plain-open o m).access;
-        files = λ o m. leb-true o.file 15 (plain-open o m).file;
-        sharings = λ o m. sharing-says o.sharing (plain-open o m).sharing;
-        catalogue = catalogue-says t.names t.nnames s.catalogue;
-        seen = λ o m. leb-true o.seen (changes_of t o.file) (all-each (seen_ok t.files) m s.seen);
-        lock-ends = λ l m. ends-says l.offset l.length (plain-lock l m).ends;
-        lock-pairs = pairs-says (opens_of t) s.records.fids (locks_of t) s.locks.agreed;
-      }
-
 module _ (t : Tables) (p : PlainSound t) where
-  computed-tree : (r : Tree) → In r (trees_of t) → tree_ok (map uid_of (sessions_of t)) r ≡ true
+  pub computed-tree : (r : Tree) → In r (trees_of t) → tree_ok (map uid_of (sessions_of t)) r ≡ true
   computed-tree r m =
       let u = p.tree-session r m in
       tree-ok (map uid_of (sessions_of t)) r (record { right = le-leb r.right 1 (p.rights r m); session = one-named uid_of r.uid u.1 u.2 })
 
-  computed-open : (o : Open) → In o (opens_of t) → open_ok (trees_of t) o ≡ true
+  pub computed-open : (o : Open) → In o (opens_of t) → open_ok (trees_of t) o ≡ true
   computed-open o m =
       let r = p.open-tree o m in
       open-ok (trees_of t) o (record {
@@ -300,56 +276,10 @@ module _ (t : Tables) (p : PlainSound t) where
         held = one-any (holds_open o) r.1 (holds-ok o r.0 r.2 r.3 r.4);
       })
 
-  computed-lock : (l : Lock) → In l (locks_of t) → lock_ok (map fid_of (opens_of t)) l ≡ true
+  pub computed-lock : (l : Lock) → In l (locks_of t) → lock_ok (map fid_of (opens_of t)) l ≡ true
   computed-lock l m =
       let o = p.lock-open l m in
       lock-ok (map fid_of (opens_of t)) l (record { owner = one-named fid_of l.fid o.1 o.2; ends = ends-ok l.offset l.length (p.lock-ends l m) })
 
-  computed-fids : numbered 64 (map fid_of (opens_of t)) ≡ true
+  pub computed-fids : numbered 64 (map fid_of (opens_of t)) ≡ true
   computed-fids = numbered-ok 64 (map fid_of (opens_of t)) p.fids
-
-  computed : Sound t
-  unfolding file_ok seen_ok changes_of
-  computed =
-      record {
-        room = p.counts;
-        sizes = each_all file_ok t.files
-            (λ f m. let few = p.changes f m in
-            hold-both (leb f.size 4096) (leb f.changes LARGEST) (le-leb f.size 4096 (p.sizes f m)) (le-leb f.changes LARGEST (omega arith)));
-        records = record {
-          uids = numbered-ok 16 (map uid_of (sessions_of t)) p.uids;
-          tids = numbered-ok 32 (map tid_of (trees_of t)) p.tids;
-          fids = computed-fids;
-          trees_ok = each_all (tree_ok (map uid_of (sessions_of t))) (trees_of t) computed-tree;
-          opens_ok = each_all (open_ok (trees_of t)) (opens_of t) computed-open;
-        };
-        locks = record {
-          owned = each_all (lock_ok (map fid_of (opens_of t))) (locks_of t) computed-lock;
-          agreed = pairs-ok (opens_of t) computed-fids (locks_of t) p.lock-open p.lock-pairs;
-        };
-        catalogue = catalogue-ok t.names t.nnames p.catalogue;
-        seen = each_all (seen_ok t.files) (opens_of t) (λ o m. le-leb o.seen (changes_of t o.file) (p.seen o m));
-      }
-
--- "Tables are sound if ..": the computed test holds of just the tables that the words describe
-pub sound-plain : (t : Tables) → (sound t ≡ true) ↔ PlainSound t
-sound-plain t = (λ e. plain t (sound-says t e), λ p. sound-ok t (computed t p))
-
--- "each record names records that exist": an open's UID is among the sessions' UIDs
-pub open-uid-listed : (t : Tables) → sound t ≡ true → (o : Open) → In o (opens_of t) → contains o.uid (map uid_of (sessions_of t)) ≡ true
-open-uid-listed t e o m =
-    let u = ((sound-plain t).0 e).open-session o m in
-    one-named uid_of o.uid u.1 u.2
-
--- "two locks of one file that overlap are both shared", the files found through the opens
-pub overlapping-shared : (t : Tables) → sound t ≡ true → (i j : ℕ) → i < length (locks_of t) → j < length (locks_of t) → (i ≡ j → ⊥)
-    → file_of (opens_of t) (lock_at t i).fid ≡ file_of (opens_of t) (lock_at t j).fid → LocksOverlap (lock_at t i) (lock_at t j)
-    → ((lock_at t i).shared ≡ true) × ((lock_at t j).shared ≡ true)
-overlapping-shared t e i j a b different same over =
-    let s = sound-says t e in
-    let p = (sound-plain t).0 e in
-    p.lock-pairs i j a b different
-    (one-file-ok (opens_of t) s.records.fids (lock_at t i) (lock_at t j)
-    (p.lock-open (lock_at t i) (place_in no_lock (locks_of t) i a))
-    (p.lock-open (lock_at t j) (place_in no_lock (locks_of t) j b)) same)
-    over

@@ -10,7 +10,7 @@ use Rattle.stream.specs.State.{none_begun}
 use Rattle.stream.specs.Writer.{written_of, framed, write}
 use Rattle.stream.specs.BeginsLaws.{header-begins}
 use Rattle.claims.specs.StreamLaws.{carried_step}
-use Rattle.claims.specs.StreamCut.{Same, drained_all, reader-in-one, AllBytes}
+use Rattle.claims.specs.StreamCut.{Same, drained_all, AllBytes}
 
 -- ---- what the writer wrote
 
@@ -53,16 +53,3 @@ pub carried-back : {ms : List (List ℕ)} → AllShort ms → carried (flatten (
 unfolding flatten map with_message carried carried_within carried_by first first_of begins
 carried-back no-messages = refl
 carried-back (short-one {m} {ms} h more) = carried-framed m (flatten (map framed ms)) h ∙ ap (with_message m) (carried-back more)
-
--- and a reader that has nothing begun hands out these messages, however the bytes come
-pub read_back : {ms : List (List ℕ)} → AllShort ms → (pieces : List (List ℕ)) → AllBytes pieces → flatten pieces ≡ flatten (map framed ms)
-    → (buffer : List ℕ) → length buffer ≡ 8192 → Same (drained_all none_begun buffer pieces) (record { messages = ms; left = begun [] })
-read_back {ms} short pieces b same buffer room =
-    rw (← carried-back short, ← same) (reader-in-one pieces b buffer room)
-
--- one message, as the writer wrote it
-pub written_back : (m room : List ℕ) → length m ≤ 8192 → length m + 4 ≤ length room → (pieces : List (List ℕ)) → AllBytes pieces → flatten pieces ≡ written_in m room
-    → (buffer : List ℕ) → length buffer ≡ 8192 → Same (drained_all none_begun buffer pieces) (record { messages = m ∷ []; left = begun [] })
-unfolding flatten map
-written_back m room short fits pieces b same buffer size =
-    read_back (short-one short no-messages) pieces b (same ∙ written-framed m room (omega arith) fits ∙ sym (append-nil (framed m))) buffer size

@@ -256,11 +256,11 @@ left-stopped : (state : State) (buffer : List ℕ) → (state.stopped ≡ 0 → 
 unfolding left_of
 left-stopped state buffer h = rw (ne_eqb state.stopped 0 h)
 
-none-begun : (buffer : List ℕ) → (is_left none_begun ≡ true) × (left_of none_begun buffer ≡ begun [])
+pub none-begun : (buffer : List ℕ) → (is_left none_begun ≡ true) × (left_of none_begun buffer ≡ begun [])
 unfolding none_begun is_left left_of pending begun_bytes header_fits byte_fits
 none-begun buffer = (refl, refl)
 
-nothing-before : {d : Drained} (buffer rest : List ℕ) → Same d (fed (left_of none_begun buffer) rest) → Same d (carried rest)
+pub nothing-before : {d : Drained} (buffer rest : List ℕ) → Same d (fed (left_of none_begun buffer) rest) → Same d (carried rest)
 unfolding fed
 nothing-before buffer rest s = rw (none-begun buffer).1 at s
 
@@ -322,12 +322,6 @@ reader-however-cut (p ∷ ps) (one_more b bs) state buffer left room =
     let then = reader-however-cut ps bs (drained state buffer p).state (drained state buffer p).buffer now.test now.room in
     rw (fed-cut (left_of state buffer) p (flatten ps), ← now.messages, ← now.left)
     (same_after (drained state buffer p).messages _ _ then)
-
--- the same of a reader that has read nothing
-pub reader-in-one : (pieces : List (List ℕ)) → AllBytes pieces → (buffer : List ℕ) → length buffer ≡ 8192
-    → Same (drained_all none_begun buffer pieces) (carried (flatten pieces))
-reader-in-one pieces b buffer room =
-    nothing-before buffer (flatten pieces) (reader-however-cut pieces b none_begun buffer (none-begun buffer).0 room)
 
 -- "A stopped reader hands out nothing until reset and answers its number again", and nothing changes
 pub reader-stopped : (state : State) (buffer piece : List ℕ) → is_left state ≡ true → (state.stopped ≡ 0 → ⊥)

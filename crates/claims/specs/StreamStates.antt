@@ -16,7 +16,7 @@ use Rattle.stream.specs.StateLaws.{header-says, is-left-stopped, is-left-header,
 use Rattle.stream.specs.ReaderLaws.{read-not-left, read-stopped, read-going}
 use Rattle.claims.specs.StreamLaws.{carried_step}
 use Rattle.claims.specs.StreamKept.{Bytes, bytes-header, bytes_take, bytes-append, pending-header, pending-message, going-state, pending-wanted}
-use Rattle.claims.specs.StreamCut.{reader-in-one, no_pieces, one_more, stopped-words, stops-number}
+use Rattle.claims.specs.StreamCut.{no_pieces, one_more, stopped-words, stops-number}
 
 -- ---- a state that some stream leaves
 
@@ -27,10 +27,10 @@ pub record LeftBySome (state : State) : Type 0 where
   pub leaves : state_of (carried stream).left ≡ state
 
 -- a buffer of zeros
-zeros : List ℕ
+pub zeros : List ℕ
 zeros = replicate 8192 0
 
-zeros-room : length zeros ≡ 8192
+pub zeros-room : length zeros ≡ 8192
 unfolding zeros
 zeros-room = length-replicate {A = ℕ} 8192 0
 
@@ -48,18 +48,10 @@ zeros-bytes =
           omega arith);
     }
 
--- a state that a stream leaves passes the test
-pub left-passes : (stream : List ℕ) → Bytes stream → is_left (state_of (carried stream).left) ≡ true
-unfolding flatten
-left-passes stream b =
-    let s = reader-in-one (stream ∷ []) (one_more b no_pieces) zeros zeros-room in
-    let one : flatten (stream ∷ []) ≡ stream = append-nil stream in
-    ap (λ (l : List ℕ). is_left (state_of (carried l).left)) (sym one) ∙ ap is_left (sym s.state) ∙ s.test
-
 -- ---- a stream for each state
 
 -- each number stops the reader by one header: another type; a reserved flag; a keep-alive with length; 65,536 bytes
-unfoldable stopper : ℕ → List ℕ
+unfoldable pub stopper : ℕ → List ℕ
 stopper zero = []
 stopper (suc zero) = 1 ∷ 0 ∷ 0 ∷ 0 ∷ []
 stopper (suc (suc zero)) = 0 ∷ 2 ∷ 0 ∷ 0 ∷ []
@@ -76,7 +68,7 @@ four-small a b c d h i j k = record { small = at }
     at (suc (suc (suc zero))) = k
     at (suc (suc (suc (suc n)))) = omega arith
 
-stopper-bytes : (n : ℕ) → 1 ≤ n → Bytes (stopper n)
+pub stopper-bytes : (n : ℕ) → 1 ≤ n → Bytes (stopper n)
 unfolding stopper
 stopper-bytes zero h = absurd (let z : ⊥ = omega arith in z)
 stopper-bytes (suc zero) h = four-small 1 0 0 0 (omega arith) (omega arith) (omega arith) (omega arith)
@@ -84,7 +76,7 @@ stopper-bytes (suc (suc zero)) h = four-small 0 2 0 0 (omega arith) (omega arith
 stopper-bytes (suc (suc (suc zero))) h = four-small 133 0 0 1 (omega arith) (omega arith) (omega arith) (omega arith)
 stopper-bytes (suc (suc (suc (suc n)))) h = four-small 0 1 0 0 (omega arith) (omega arith) (omega arith) (omega arith)
 
-stopper-stops : (n : ℕ) → 1 ≤ n → n ≤ 4 → (carried (stopper n)).left ≡ stopped n
+pub stopper-stops : (n : ℕ) → 1 ≤ n → n ≤ 4 → (carried (stopper n)).left ≡ stopped n
 unfolding stopper carried carried_within carried_by first first_of begins begins_by judge judge_length known length_of
 stopper-stops zero h k = absurd (let z : ⊥ = omega arith in z)
 stopper-stops (suc zero) h k = refl
@@ -92,17 +84,6 @@ stopper-stops (suc (suc zero)) h k = refl
 stopper-stops (suc (suc (suc zero))) h k = refl
 stopper-stops (suc (suc (suc (suc zero)))) h k = refl
 stopper-stops (suc (suc (suc (suc (suc n))))) h k = absurd (let z : ⊥ = omega arith in z)
-
-stopped-left : (state : State) → is_left state ≡ true → (state.stopped ≡ 0 → ⊥) → LeftBySome state
-unfolding state_of
-stopped-left state left h =
-    let w = is-left-stopped state left h in
-    let low : 1 ≤ state.stopped = omega arith in
-    record {
-      stream = stopper state.stopped;
-      bytes = stopper-bytes state.stopped low;
-      leaves = rw (stopper-stops state.stopped low w.limit) (sym (stopped-words state w));
-    }
 
 pending-bytes : (state : State) → is_left state ≡ true → state.stopped ≡ 0 → Bytes (pending state zeros)
 unfolding header_of
@@ -118,7 +99,7 @@ pending-bytes state left going =
     (four-small 0 0 (state.length / 256) (state.length % 256) (omega arith) (omega arith) (omega arith) (omega arith)) (bytes_take state.got zeros zeros-bytes)))
 
 -- the bytes begun leave the state that says them
-going-left : (state : State) → is_left state ≡ true → state.stopped ≡ 0 → LeftBySome state
+pub going-left : (state : State) → is_left state ≡ true → state.stopped ≡ 0 → LeftBySome state
 unfolding state_of carried_by
 going-left state left going =
     record {
@@ -127,32 +108,10 @@ going-left state left going =
       leaves = rw (carried_step (pending state zeros), pending-wanted state zeros left going zeros-room) (going-state state zeros left going zeros-room);
     }
 
--- a state that passes the test is left by some stream
-pub passes-left : (state : State) → is_left state ≡ true → LeftBySome state
-passes-left state left =
-    test-cases (eqb state.stopped 0) (λ e. going-left state left (eqb-true state.stopped 0 e)) (λ e. stopped-left state left (eqb-false state.stopped 0 e))
-
 -- ---- 5
 
--- of any other state the answer is 5; nothing is taken, and neither state nor buffer changes
-pub not-left-five : (state : State) → (LeftBySome state → ⊥) → (buffer piece : List ℕ)
-    → read state buffer piece ≡ record { step = record { number = 5; taken = 0; event = NoMessage; state = state }; buffer = buffer }
-unfolding refused step_of
-not-left-five state h buffer piece = read-not-left state buffer piece (fails (is_left state) λ e. h (passes-left state e))
-
-number_by : (state : State) (buffer piece : List ℕ) (f : First) → first (pending state buffer ++ piece) ≡ f → (read_by state buffer piece f).step.number ≤ 4
+pub number_by : (state : State) (buffer piece : List ℕ) (f : First) → first (pending state buffer ++ piece) ≡ f → (read_by state buffer piece f).step.number ≤ 4
 unfolding read_by handed step_of
 number_by state buffer piece (wanted q) e = omega arith
 number_by state buffer piece (stops n q) e = (stops-number (pending state buffer ++ piece) n q e).1
 number_by state buffer piece (whole m q) e = test-cases (eqb state.got 0) (λ t. rw t (omega arith)) (λ t. rw t (omega arith))
-
--- and 5 is the answer of no state that some stream leaves
-pub left-not-five : (state : State) → LeftBySome state → (buffer piece : List ℕ) → (read state buffer piece).step.number ≤ 4
-unfolding refused step_of
-left-not-five state l buffer piece =
-    let left : is_left state ≡ true = rw l.leaves at (left-passes l.stream l.bytes) in
-    test-cases (eqb state.stopped 0)
-    (λ e. rw (read-going state buffer piece left (eqb-true state.stopped 0 e)) (number_by state buffer piece (first (pending state buffer ++ piece)) refl))
-    (λ e.
-    let stop = eqb-false state.stopped 0 e in
-    rw (read-stopped state buffer piece left stop) (is-left-stopped state left stop).limit)

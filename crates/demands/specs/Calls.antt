@@ -19,7 +19,8 @@ use Rattle.message.specs.Refusal.{status}
 use Rattle.message.specs.JustOpened.{NOBODY}
 use Rattle.message.specs.Reply.{status_number, reply_header}
 use Rattle.message.specs.Message.{run, run_chain, served, answered, reply_of, Taken, replied, take-message}
-use Rattle.claims.specs.StatusList.{answered-ended, ended-says}
+use Rattle.claims.specs.StatusList.{answered-ended}
+use Rattle.claims.proofs.StatusList.{ended-says}
 use Rattle.demands.specs.StatusRead.{status_read, status-number-replied, status-replied}
 use Rattle.demands.specs.Malformed.{malformed}
 use Rattle.invariants.specs.ReplySize.{length-header}
@@ -27,15 +28,7 @@ use Rattle.demands.specs.OneByOne.{chained-served}
 use Rattle.invariants.specs.Sound.{Good}
 use Rattle.invariants.specs.Fit.{Fit, fit-answered}
 use Rattle.demands.specs.Taken.{not_short}
-use Rattle.demands.specs.CallsOneByOne.{call_all, compared_call, calls-one-by-one}
-
--- the call's reply has the status of what was answered
-pub status-call : (connection : ℕ) (s : List ℕ) (t : Tables) (memory room : List ℕ) → Fit s t memory room
-    → status_read (take-message connection s t memory room).room ≡ (answered connection s t memory).forms.status
-unfolding replied
-status-call connection s t memory room f =
-    ap (λ (k : Taken). status_read k.room) (fit-answered connection s t memory room f)
-    ∙ status-replied s room (answered connection s t memory) (ended-says (answered-ended connection s t memory))
+use Rattle.demands.specs.CallsOneByOne.{call_all, compared_call}
 
 -- and its number at 5, in the form asked for
 pub status-number-call : (connection : ℕ) (s : List ℕ) (t : Tables) (memory room : List ℕ) → Fit s t memory room
@@ -57,21 +50,3 @@ module _ (connection : ℕ) (s : List ℕ) (t : Tables) (memory : List ℕ) wher
       let h : length (reply_header s (answered connection s t memory).forms) ≡ 32 = length-header s (answered connection s t memory).forms (omega arith) in
       ap (λ (k : Taken). k.length) (fit-answered connection s t memory room fit)
       ∙ rw (length-append (reply_header s (answered connection s t memory).forms) (answered connection s t memory).blocks, h)
-
--- "A message fit to be answered that begins with a known command is answered as malformed exactly if it is not a sentence": "Answered as malformed: 0,
--- Status 2/1"
-pub malformed-call : (connection : ℕ) (s : List ℕ) (t : Tables) (memory room : List ℕ) → Fit s t memory room → served (header_command s) ≡ true
-    → (((take-message connection s t memory room).number ≡ 0) × (status_read (take-message connection s t memory room).room ≡ status 2 1)) ↔ (Sentence s → ⊥)
-unfolding replied
-malformed-call connection s t memory room f e =
-    let same : status_read (take-message connection s t memory room).room ≡ (answered connection s t memory).forms.status = status-call connection s t memory room f in (
-      λ h. (malformed connection s t memory e).0 (sym same ∙ h.1),
-      λ n. (ap (λ (k : Taken). k.number) (fit-answered connection s t memory room f), same ∙ (malformed connection s t memory e).1 n),
-    )
-
--- "This is a single claim about the whole list of blocks": of any reading its blocks are those sent
-pub reading-one-by-one : (connection : ℕ) (s : List ℕ) {spans : List Span} → Reading s spans → (t : Tables) (memory room small : List ℕ) → Good t → Fit s t memory room
-    → length small ≡ 12292
-    → (bs : List Block) × (map span_of bs ≡ spans) × (take-message connection s t memory room ≡ compared_call s room (call_all connection s small NOBODY bs t memory))
-reading-one-by-one connection s r t memory room small g f n =
-    let a = reader-complete r in (a.0, a.2, calls-one-by-one connection s a.0 a.1 t memory room small g f n)

@@ -32,9 +32,9 @@ use Rattle.invariants.specs.Sound.{Good, keeps-good, perform-keeps}
 use Rattle.invariants.specs.Fit.{Fit}
 use Rattle.demands.specs.StatusRead.{status_read, succeeded}
 use Rattle.demands.specs.LockWords.{never}
-use Rattle.demands.specs.CommandReasons.{Reason, Announced, perform-reason, perform-given}
+use Rattle.demands.specs.CommandReasons.{Reason, Announced}
 use Rattle.demands.specs.ReasonCalls.{block-announced}
-use Rattle.demands.specs.RefusedCall.{gives, step-done, step-refused, call-status}
+use Rattle.demands.specs.RefusedCall.{gives, step-done, step-refused}
 
 -- how a chain ends: each command done for its reason on what the last one left, or the first that isn't done refused for its own; "those after it aren't begun".
 -- In the first of them FID 0xFFFF means the number before the list (document 02, CR 6).
@@ -86,56 +86,4 @@ module _ (c : Caller) (s : List ℕ) where
   pub left-good : (just : ℕ) (b : Block) (t : Tables) (memory : List ℕ) → Good t → (u : Tables) (m : List ℕ) (said : Said) → gives c s just b t memory ≡ done u m said → Good u
   left-good just b t memory g u m said e = keeps-good (rw e at (perform-keeps t g c memory (body_meant just b.body) (area_of s b) (data_of s b)))
 
-  -- by what the first command gives
-  first_ends : (just : ℕ) (b : Block) (bs : List Block) (place : ℕ) (t : Tables) (memory : List ℕ) (g : Given) → gives c s just b t memory ≡ g
-      → Reason c t (area_of s b) (body_meant just b.body) (status_in g)
-      → ((u : Tables) (m : List ℕ) (said : Said) → g ≡ done u m said → Ends c s (opened_by said) bs u m (run c s (opened_by said) bs (place + reply_size said) u m).forms.status)
-      → Ends c s just (b ∷ bs) t memory (run c s just (b ∷ bs) place t memory).forms.status
-  unfolding status_in after
-  first_ends just b bs place t memory (refused why) e r f = rw (step-refused c s just b bs place t memory why e) (stops r (refusal-not-zero why))
-  first_ends just b bs place t memory (done u m said) e r f = rw (step-done c s just b bs place t memory u m said e) (done-then r e (f u m said refl))
-
-  -- the status that is given has its reason, command by command
-  run_ends : {bs : List Block} → AllAnnounced s bs → (just place : ℕ) (t : Tables) (memory : List ℕ) → Good t → Ends c s just bs t memory (run c s just bs place t memory).forms.status
-  unfolding run
-  run_ends none_left just place t memory g = all_done
-  run_ends (next-announced {b} {bs} h a) just place t memory g =
-      first_ends just b bs place t memory (gives c s just b t memory) refl (perform-reason c t memory g.sound (body_meant just b.body) (area_of s b) (data_of s b) (meant-announced just b.body (area_of s b) h))
-      (λ u m said e. run_ends a (opened_by said) (place + reply_size said) u m (left-good just b t memory g u m said e))
-
-  -- and where it ends so, its status is given
-  stopped-run : (just : ℕ) (b : Block) (bs : List Block) (place : ℕ) (t : Tables) (memory : List ℕ) {n : Status} (g : Given) → gives c s just b t memory ≡ g → status_in g ≡ n → (n ≡ status 0 0 → ⊥)
-      → (run c s just (b ∷ bs) place t memory).forms.status ≡ n
-  unfolding status_in
-  stopped-run just b bs place t memory (refused why) e h nonzero = ap (λ (r : Ran). r.forms.status) (step-refused c s just b bs place t memory why e) ∙ h
-  stopped-run just b bs place t memory (done u m said) e h nonzero = absurd (nonzero (sym h))
-
-  ends-run : {just : ℕ} {bs : List Block} {t : Tables} {memory : List ℕ} {n : Status} → Ends c s just bs t memory n → AllAnnounced s bs → (place : ℕ) → Good t
-      → (run c s just bs place t memory).forms.status ≡ n
-  unfolding run after
-  ends-run all_done a place g = refl
-  ends-run (done-then {just} {b} {bs} {t} {u} {memory} {m} {said} r e h) (next-announced k a) place g =
-      ap (λ (x : Ran). x.forms.status) (step-done c s just b bs place t memory u m said e)
-      ∙ ends-run h a (place + reply_size said) (left-good just b t memory g u m said e)
-  ends-run (stops {just} {b} {bs} {t} {memory} r nonzero) (next-announced k a) place g =
-      stopped-run just b bs place t memory (gives c s just b t memory) refl (perform-given c t memory g.sound (body_meant just b.body) (area_of s b) (data_of s b) (meant-announced just b.body (area_of s b) k) r) nonzero
-
 -- ---- said of the call
-
--- "Order: as written, for the whole of each command with all its ranges, command by command": a sentence has a status in its reply exactly if its commands end so
-pub chain-exact : (connection : ℕ) (s : List ℕ) (bs : List Block) → blocks s ≡ some bs → (t : Tables) (memory room : List ℕ) → Good t → Fit s t memory room → (n : Status)
-    → (status_read (take-message connection s t memory room).room ≡ n) ↔ Ends (caller_of connection s) s NOBODY bs t memory n
-unfolding blocks
-chain-exact connection s bs e t memory room g fit n =
-    let a = chained-announced (read-chained s (header_command s) FIRST bs e) in
-    let same = call-status connection s bs e t memory room fit in (
-      λ h. rw (sym same ∙ h) at (run_ends (caller_of connection s) s a NOBODY FIRST t memory g),
-      λ h. same ∙ ends-run (caller_of connection s) s h a FIRST g,
-    )
-
--- of any reading: its blocks are the commands
-pub chain-reading : (connection : ℕ) (s : List ℕ) {spans : List Span} → Reading s spans → (t : Tables) (memory room : List ℕ) → Good t → Fit s t memory room
-    → (bs : List Block) × (map span_of bs ≡ spans)
-    × ((n : Status) → (status_read (take-message connection s t memory room).room ≡ n) ↔ Ends (caller_of connection s) s NOBODY bs t memory n)
-chain-reading connection s r t memory room g fit =
-    let a = reader-complete r in (a.0, a.2, chain-exact connection s a.0 a.1 t memory room g fit)

@@ -36,13 +36,13 @@ use Rattle.invariants.specs.Fit.{Fit}
 use Rattle.invariants.specs.Sound.{Good}
 use Rattle.demands.specs.Calls.{sentence-answered}
 use Rattle.demands.specs.NtStatus.{nt-given}
-use Rattle.demands.specs.LoneCall.{FirstConflict, first-conflict, one-reply}
+use Rattle.demands.specs.LoneCall.{FirstConflict}
 use Rattle.demands.specs.StatusRead.{status_read}
 use Rattle.demands.specs.Taken.{not_short}
 use Rattle.demands.specs.OneByOne.{own-header}
-use Rattle.demands.specs.SpansOneByOne.{own_span, own-span}
+use Rattle.demands.specs.SpansOneByOne.{own_span}
 use Rattle.demands.specs.SpansRefused.{calls, last_returned, AllCarried, at_first}
-use Rattle.demands.specs.SpansFit.{AllSentFit, spans_fit, next-fit}
+use Rattle.demands.specs.SpansFit.{AllSentFit}
 use Rattle.demands.specs.RefusedCall.{step-refused}
 use Rattle.demands.specs.WireFields.{reading-first, one-first, first_body}
 use Rattle.demands.specs.DataBlock.{reading-block}
@@ -59,7 +59,7 @@ unfoldable pub conflict_code : ℕ → ℕ
 conflict_code command = cond (eqb command LOCKING || (eqb command LOCK_BYTE_RANGE || eqb command UNLOCK_BYTE_RANGE)) 0xC0000055 0xC0000054
 
 -- a command that is refused for conflict has that NTSTATUS
-abbrev Coded : ℕ → Given → Type 0
+abbrev pub Coded : ℕ → Given → Type 0
 Coded n g = Conflicts g → nt_in g ≡ n
 
 module _ {n : ℕ} where
@@ -146,43 +146,9 @@ block-coded c t memory (open-15 h) area bytes just =
     opening-case (Coded _) c t memory _ _ (other-coded NoSession refl) (other-coded NoTree refl) (other-coded OpenMode refl) (other-coded BadAccess refl) (other-coded NoSuchFile refl) (other-coded NoAccess refl)
     (other-coded BadShare refl) (other-coded NoFids refl) (λ k _. done_coded _ _ _)
 
--- the first command of a message that asks for NT status, refused for conflict (1/33 in a reply of one refused block, whatever commands follow)
-pub first-coded : (connection : ℕ) (s : List ℕ) {spans : List Span} → Reading s spans → (t : Tables) (memory room : List ℕ) → Fit s t memory room → nt_bit s ≡ true
-    → FirstConflict (take-message connection s t memory room) → le32_at (take-message connection s t memory room).room 5 ≡ conflict_code (header_command s)
-unfolding nt_in
-first-coded connection s r t memory room fit asked h =
-    let q = reading-first r in
-    let c = caller_of connection s in
-    let b = q.1.block in
-    let w = (first-conflict connection s b q.0 q.1.is_read t memory room fit).0 h in
-    let v = held-refused (perform c t memory b.body (area_of s b) (data_of s b)) w.0 w.1 in
-    let ended = sentence-answered connection s t memory (b ∷ q.0) q.1.is_read ∙ step-refused c s NOBODY b q.0 FIRST t memory v.0 (rw (meant-nobody b.body) v.1) in
-    let body : body_meant NOBODY (body_at s (header_command s) FIRST) ≡ b.body = meant-nobody (body_at s (header_command s) FIRST) ∙ sym (first_body q.1 (header_command s) refl) in
-    let coded : Coded (conflict_code (header_command s)) (perform c t memory b.body (area_of s b) (data_of s b)) =
-    rw body at (block-coded c t memory (reading-block r) (area_of s b) (data_of s b) NOBODY) in
-    nt-given connection s t memory room fit asked ∙ ap (λ (x : Ran). x.forms.nt) ended ∙ sym (ap nt_in v.1) ∙ coded w
-
 -- the command of a reading's first block is the one that it starts with
-first-command : {s : List ℕ} {command at : ℕ} {x : Span} {spans : List Span} → ReadingFrom s command at spans → (others : List Span) → spans ≡ x ∷ others → x.command ≡ command
+pub first-command : {s : List ℕ} {command at : ℕ} {x : Span} {spans : List Span} → ReadingFrom s command at spans → (others : List Span) → spans ≡ x ∷ others → x.command ≡ command
 unfolding span_at
 first-command {s} {x = x} (plain_end {command} {at} h p) others e = let q : span_at s command at ≡ x = cc in sym (ap (λ (y : Span). y.command) q)
 first-command {s} {x = x} (andx-end {command} {at} h a f) others e = let q : span_at s command at ≡ x = cc in sym (ap (λ (y : Span). y.command) q)
 first-command {s} {x = x} (andx-next {command} {at} h m g r) others e = let q : span_at s command at ≡ x = cc in sym (ap (λ (y : Span). y.command) q)
-
--- whichever command of a chain is refused for conflict: its own message, sent on what those before it left, has the NTSTATUS of that command
-pub chain-coded : (connection : ℕ) (s : List ℕ) {spans : List Span} → Reading s spans → (t : Tables) (memory room small : List ℕ) → Good t → Fit s t memory room → length small ≡ 12292
-    → nt_bit s ≡ true → (front : List Span) (x : Span) (later : List Span) → spans ≡ front ++ (x ∷ later) → AllCarried connection s small NOBODY front t memory
-    → (let own = take-message connection (own_span s (last_returned connection s small NOBODY front t memory) x) (calls connection s small NOBODY front t memory).tables (calls connection s small NOBODY front t memory).memory small in
-    status_read own.room ≡ status 1 33 → le32_at own.room 5 ≡ conflict_code x.command)
-unfolding nt_bit at_first span_of
-chain-coded connection s r t memory room small g fit n asked front x later split carried h =
-    let all = subst (λ (l : List Span). AllSentFit connection s small NOBODY l t memory) split (spans_fit connection s r t memory room small g fit n) in
-    let f = next-fit connection s small front x later all carried in
-    let just = last_returned connection s small NOBODY front t memory in
-    let long : 35 ≤ length s = not_short s fit.not-dropped in
-    let b : Block = record { command = x.command; at = x.place; length = x.size; body = Logoff; next = End } in
-    let byte : byte_at (own_span s just x) 11 ≡ byte_at s 11 = ap (λ (l : List ℕ). byte_at l 11) (sym (own-span s just b)) ∙ own-header s just b (omega arith) 11 (omega arith) (λ e. omega arith) in
-    let short = one-first f.reads in
-    first-coded connection (own_span s just x) f.reads _ _ small f.fit (rw byte asked)
-    (h, one-reply connection (own_span s just x) short.block short.is_read _ _ small f.fit h)
-    ∙ ap conflict_code (sym (first-command f.reads [] refl))

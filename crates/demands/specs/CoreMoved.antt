@@ -15,8 +15,10 @@ use Rattle.chain.specs.declared.block.Block.{Block}
 use Rattle.invariants.specs.BlockParse.{block_inside, block_size, body_at}
 use Rattle.invariants.specs.ReaderSound.{span_of}
 use Rattle.readings.specs.CoreAlone.{EndsChain, ends_read, ends-write}
-use Rattle.readings.specs.Moved.{Moved, moved_body, moved-block, moved-body}
-use Rattle.readings.specs.MovedBytes.{part, moved-marked-area}
+use Rattle.readings.specs.Moved.{Moved, moved_body}
+use Rattle.readings.proofs.Moved.{moved-block, moved-body}
+use Rattle.readings.specs.MovedBytes.{part}
+use Rattle.readings.proofs.MovedBytes.{moved-marked-area}
 use Rattle.demands.specs.Alone.{alone-command, alone-moved}
 use Rattle.demands.specs.Carrying.{carrying-other}
 use Rattle.demands.specs.SpansOneByOne.{alone_span, alone-span, own_span}
@@ -41,7 +43,7 @@ read-fields e = cc
 write-fields : {f g : WriteFields} → CoreWrite f ≡ CoreWrite g → f ≡ g
 write-fields e = cc
 
-same_block : {s : List ℕ} {at : ℕ} {t : List ℕ} {command : ℕ} → EndsChain command → IsBlock s at command → Moved s at t FIRST command → header_command t ≡ command
+pub same_block : {s : List ℕ} {at : ℕ} {t : List ℕ} {command : ℕ} → EndsChain command → IsBlock s at command → Moved s at t FIRST command → header_command t ≡ command
     → SameBlock s at t command
 unfolding body_at moved_body
 same_block ends_read h m is =
@@ -79,20 +81,3 @@ stands-in (plain_end h p) low x (later i) = elim i [ ]
 stands-in (andx-end h a f) low x (later i) = elim i [ ]
 stands-in (andx-next h m g r) low x (first e) = rw e (record { is_block = h; so-long = refl; behind = low })
 stands-in (andx-next h m g r) low x (later i) = stands-in r (omega arith) x i
-
--- "each block in turn makes a message .., then the block at 32": of a core READ or WRITE, alone or behind a LOCKING
-pub core-sent : (s : List ℕ) {spans : List Span} → Reading s spans → length s ≤ 8192 → (x : Span) → In x spans → EndsChain x.command
-    → (just : ℕ) → SameBlock s x.place (own_span s just x) x.command
-unfolding span_of own_span
-core-sent s r small x i ends just =
-    let b : Block = record { command = x.command; at = x.place; length = x.size; body = Logoff; next = End } in
-    let w = stands-in r (omega arith) x i in
-    let inside = block_inside w.is_block in
-    let low = w.behind in
-    let sent : SameBlock s x.place (alone_span s x) x.command =
-    rw (← alone-span s b) (same_block ends w.is_block (alone-moved b w.is_block w.so-long low small) (alone-command s b (omega arith))) in
-    rw (carrying-other just (alone_span s x) (λ e. not-read ends (sym sent.is ∙ e))) sent
-  where
-    not-read : {n : ℕ} → EndsChain n → n ≡ READ → ⊥
-    not-read ends_read e = omega arith
-    not-read ends-write e = omega arith

@@ -38,14 +38,14 @@ use Rattle.message.specs.Reply.{reply_header, reply_block, refused_block, reply_
 use Rattle.message.specs.Message.{area_of, data_of, Ran, after, link_to, after_given, run, answered, reply_of, Taken, replied, take-message}
 use Rattle.demands.specs.Malformed.{length-area}
 use Rattle.demands.specs.StatusRead.{status_read}
-use Rattle.demands.specs.Calls.{status-call, length-call, sentence-answered}
+use Rattle.demands.specs.Calls.{length-call, sentence-answered}
 use Rattle.demands.specs.ChainReasons.{refusal-not-zero}
 use Rattle.demands.specs.CommandReasons.{OnlyTwoBits}
 use Rattle.demands.specs.LoneCall.{locking_fields}
 use Rattle.demands.specs.WireFields.{sender_process, upper_half, one-first, first_body, first-area, first-data}
-use Rattle.demands.specs.LockEffects.{RangeOn, short-range, long-range, large, area, range-on}
+use Rattle.demands.specs.LockEffects.{RangeOn, short-range, long-range, large, area}
 use Rattle.demands.specs.DataBlock.{marked-block, reading-block}
-use Rattle.demands.specs.CorePairs.{JustRange, Pair, read-pair, write-pair, lock-pair, unlock-pair, SaidAlike, Alike, refused-alike, done-alike, LockingSays, locking-refused, locking-done, locking-says, pair-alike}
+use Rattle.demands.specs.CorePairs.{JustRange, Pair, read-pair, write-pair, lock-pair, unlock-pair, SaidAlike, Alike, refused-alike, done-alike, LockingSays, locking-refused, locking-done, locking-says}
 
 -- ---- the plain words
 
@@ -113,7 +113,7 @@ marked-part {s} {at} h =
     rw (marked-block h).filled (drop-taken 3 (core_count s at) (drop (byte_area s at) s) ∙ ap (take (core_count s at)) (drop-drop 3 (byte_area s at) s))
 
 module _ {s : List ℕ} {at : ℕ} {t : List ℕ} {to : ℕ} where
-  read-write-pair : {core other : ℕ} → EqualReadWrite s at t to core other → IsBlock s at core → (c : Caller)
+  pub read-write-pair : {core other : ℕ} → EqualReadWrite s at t to core other → IsBlock s at core → (c : Caller)
       → Pair c (body_at s core at) (area_at s at) (body_at t other to) (area_at t to) (part t (data_offset t to) (data_length t to))
   unfolding body_at
   read-write-pair (read-fields fid offset none count) h c =
@@ -122,58 +122,34 @@ module _ {s : List ℕ} {at : ℕ} {t : List ℕ} {to : ℕ} where
       write-pair fid (wide_low (offset_low t to) (write_offset_high t to) (word_count t to) 14 none ∙ offset) count counts (same ∙ sym (marked-part h))
 
 -- four bytes make 32 bits
-below-32 : (s : List ℕ) → Bytes s → (at : ℕ) → le32_at s at ≡ le32_at s at % 4294967296
+pub below-32 : (s : List ℕ) → Bytes s → (at : ℕ) → le32_at s at ≡ le32_at s at % 4294967296
 unfolding le32_at
 below-32 s b at = let low = le16-below s b.small at in let high = le16-below s b.small (at + 2) in omega arith
 
 -- a LOCKING block of the table has just the bytes of its ranges
-ranges-counted : {t : List ℕ} {at : ℕ} → IsBlock t at LOCKING → byte_count t at ≡ (unlock_count t at + lock_count t at) * range_size (eqb (lock_type t at / 16 % 2) 1)
+pub ranges-counted : {t : List ℕ} {at : ℕ} → IsBlock t at LOCKING → byte_count t at ≡ (unlock_count t at + lock_count t at) * range_size (eqb (lock_type t at / 16 % 2) 1)
 unfolding fits locking_fits is_large
 ranges-counted {t} {at} h = eqb-true (byte_count t at) _ (both_hold (shaped t at 8) _ (fits-complete t at h)).1
 
 -- a range of a message is one
-one-range-on : {t : List ℕ} {k : ℕ} {q r : LockRange} → RangeOn t k q → RangeOn t k r → (q.process ≡ r.process) × (q.offset ≡ r.offset) × (q.length ≡ r.length)
+pub one-range-on : {t : List ℕ} {k : ℕ} {q r : LockRange} → RangeOn t k q → RangeOn t k r → (q.process ≡ r.process) × (q.offset ≡ r.offset) × (q.length ≡ r.length)
 one-range-on (short-range z p o l) (short-range y p' o' l') = (p ∙ sym p', o ∙ sym o', l ∙ sym l')
 one-range-on (short-range z p o l) (long-range y p' o' l') = absurd (omega arith)
 one-range-on (long-range z p o l) (short-range y p' o' l') = absurd (omega arith)
 one-range-on (long-range z p o l) (long-range y p' o' l') = (p ∙ sym p', o ∙ sym o', l ∙ sym l')
 
--- the LOCKING block's byte area is that one range
-just-range : {s t : List ℕ} → Bytes s → IsBlock t FIRST LOCKING → unlock_count t FIRST + lock_count t FIRST ≡ 1 → RangeOn t 0 (core_range_on s) → sender_process t ≡ sender_process s
-    → (c : Caller) → c.process ≡ sender_process s → JustRange c (range_fields s FIRST) (large t) (area_at t FIRST)
-unfolding area_of block_at of_header
-just-range {s} {t} b h one on same c of =
-    let size = range_size (large t) in
-    let counted : byte_count t FIRST ≡ 1 * size = rw one at (ranges-counted h) in
-    let equal = one-range-on (range-on t 1 (omega arith) 0 (omega arith)) on in
-    let whole : 65536 * upper_half t + (range_at (large t) (area t) 0).process ≡ sender_process s = equal.0 in
-    record {
-      no_more = length-area h End ∙ counted ∙ omega arith;
-      of-process = omega arith;
-      of-offset = equal.1 ∙ below-32 s b (FIRST + 7);
-      of_length = equal.2 ∙ below-32 s b (FIRST + 3);
-    }
-
-fields-pair : {s t : List ℕ} {core other : ℕ} → EqualFields s t core other → Bytes s → IsBlock s FIRST core → IsBlock t FIRST other → sender_process t ≡ sender_process s
-    → (c : Caller) → c.process ≡ sender_process s
-    → Pair c (body_at s core FIRST) (area_at s FIRST) (body_at t other FIRST) (area_at t FIRST) (part t (data_offset t FIRST) (data_length t FIRST))
-unfolding body_at
-fields-pair (read-or-write e) b h k same c of = read-write-pair e h c
-fields-pair (lock-fields fid bits exclusive u l on) b h k same c of = lock-pair fid bits exclusive u l (just-range b k (omega arith) on same c of)
-fields-pair (unlock-fields fid bits u l on) b h k same c of = unlock-pair fid bits u l (just-range b k (omega arith) on same c of)
-
 -- ---- the calls
 
 -- what two chains leave: the same, with reply blocks that are alike
-record RunsAlike (Blocks : Status → List ℕ → List ℕ → Type 0) (one other : Ran) : Type 0 where
-  same-forms : one.forms ≡ other.forms
-  same-holder : one.holder ≡ other.holder
-  same_tables : one.tables ≡ other.tables
-  same_memory : one.memory ≡ other.memory
-  blocks-alike : Blocks one.forms.status one.blocks other.blocks
+pub record RunsAlike (Blocks : Status → List ℕ → List ℕ → Type 0) (one other : Ran) : Type 0 where
+  pub same-forms : one.forms ≡ other.forms
+  pub same-holder : one.holder ≡ other.holder
+  pub same_tables : one.tables ≡ other.tables
+  pub same_memory : one.memory ≡ other.memory
+  pub blocks-alike : Blocks one.forms.status one.blocks other.blocks
 
 -- of the last command of each
-last-alike : {g h : Given} → Alike g h → (c d : Caller) (s t : List ℕ) (place : ℕ) (u : Tables) (memory : List ℕ)
+pub last-alike : {g h : Given} → Alike g h → (c d : Caller) (s t : List ℕ) (place : ℕ) (u : Tables) (memory : List ℕ)
     → RunsAlike (BlocksAlike place) (after_given g [] place u memory (λ j p v m. run c s j [] p v m)) (after_given h [] place u memory (λ j p v m. run d t j [] p v m))
 unfolding after_given after run link_to
 last-alike (refused-alike why) c d s t place u memory =
@@ -187,62 +163,11 @@ last-alike (done-alike {said = said} {said' = said'} says) c d s t place u memor
       blocks-alike = rw (append-nil (reply_block said place no_link), append-nil (reply_block said' place no_link)) (said-blocks says);
     }
 
--- of two messages fit to be answered
-calls-alike : {Blocks : Status → List ℕ → List ℕ → Type 0} (connection : ℕ) (s t : List ℕ) (u : Tables) (memory room : List ℕ) → Fit s u memory room → Fit t u memory room
-    → RunsAlike Blocks (answered connection s u memory) (answered connection t u memory)
-    → SameCalls Blocks s t room (take-message connection s u memory room) (take-message connection t u memory room)
-unfolding replied reply_of
-calls-alike connection s t u memory room f g alike =
-    let one = fit-answered connection s u memory room f in
-    let other = fit-answered connection t u memory room g in
-    let r = answered connection s u memory in
-    let q = answered connection t u memory in
-    record {
-      same_number = ap (λ (k : Taken). k.number) one ∙ sym (ap (λ (k : Taken). k.number) other);
-      same-holder = ap (λ (k : Taken). k.holder) one ∙ alike.same-holder ∙ sym (ap (λ (k : Taken). k.holder) other);
-      same_tables = ap (λ (k : Taken). k.tables) one ∙ alike.same_tables ∙ sym (ap (λ (k : Taken). k.tables) other);
-      same_memory = ap (λ (k : Taken). k.memory) one ∙ alike.same_memory ∙ sym (ap (λ (k : Taken). k.memory) other);
-      why = r.forms;
-      status-one = status-call connection s u memory room f;
-      status-other = status-call connection t u memory room g ∙ ap (λ (f : Forms). f.status) (sym alike.same-forms);
-      blocks-one = r.blocks;
-      blocks-other = q.blocks;
-      reply-one = ap (λ (k : Taken). k.room) one;
-      reply-other = ap (λ (k : Taken). k.room) other ∙ ap (λ (f : Forms). put room 0 (reply_header t f ++ q.blocks)) (sym alike.same-forms);
-      length-one = length-call connection s u memory room f;
-      length-other = length-call connection t u memory room g;
-      blocks-alike = alike.blocks-alike;
-    }
-
 -- the sender: UID at 28, TID at 24, PIDHigh at 12, PIDLow at 26
 pub same-sender : (connection : ℕ) (s t : List ℕ) → le16_at s 28 ≡ le16_at t 28 → le16_at s 24 ≡ le16_at t 24 → le16_at s 12 ≡ le16_at t 12 → le16_at s 26 ≡ le16_at t 26
     → caller_of connection s ≡ caller_of connection t
 unfolding caller_of
 same-sender connection s t uid tid high low = rw (uid, tid, high, low)
-
--- a message that is one core command, and one that is its counterpart alone, of one sender and with equal fields, on the same tables, file memory and room
-pub core-calls : (connection : ℕ) (s t : List ℕ) {core other : ℕ} → EqualFields s t core other → Bytes s → header_command s ≡ core → header_command t ≡ other
-    → caller_of connection s ≡ caller_of connection t → {x y : Span} → Reading s (x ∷ []) → Reading t (y ∷ []) → (u : Tables) (memory room : List ℕ)
-    → Fit s u memory room → Fit t u memory room
-    → SameCalls (BlocksAlike FIRST) s t room (take-message connection s u memory room) (take-message connection t u memory room)
-unfolding caller_of run
-core-calls connection s t {core} {other} equal b is is' sender r q u memory room f g =
-    let c = caller_of connection s in
-    let p = one-first r in
-    let o = one-first q in
-    let same : sender_process t ≡ sender_process s = ap (λ (k : Caller). k.process) (sym sender) in
-    let pair = fields-pair equal b (rw is at (reading-block r)) (rw is' at (reading-block q)) same c refl in
-    let alike : Alike (perform c u memory p.block.body (area_of s p.block) (data_of s p.block))
-    (perform (caller_of connection t) u memory o.block.body (area_of t o.block) (data_of t o.block)) =
-    rw (← sender, first_body p core is, first-area p, first_body o other is', first-area o, first-data o) (pair-alike pair u memory (data_of s p.block)) in
-    calls-alike connection s t u memory room f g
-    (rw (
-      sentence-answered connection s u memory (p.block ∷ []) p.is_read,
-      sentence-answered connection t u memory (o.block ∷ []) o.is_read,
-      run-first c s p.block [] FIRST u memory,
-      run-first (caller_of connection t) t o.block [] FIRST u memory,
-    )
-    (last-alike alike c (caller_of connection t) s t FIRST u memory))
 
 -- ---- behind a LOCKING: "READ and WRITE may end a chain after LOCKING_ANDX"
 
@@ -263,9 +188,9 @@ pub data ChainsAlike (core other : ℕ) : Status → List ℕ → List ℕ → T
       → ChainsAlike core other why (reply_block locked FIRST (next core 39) ++ one) (reply_block locked FIRST (next other 39) ++ two)
 
 -- a reading of two blocks, from a place on
-record TwoBlocks (s : List ℕ) (command at : ℕ) : Type 0 where
-  second : IsBlock s (andx_offset s at) (andx_command s at)
-  is_read : blocks_from s command at ≡ some (block_at s command at (Follow (andx_command s at) (andx_offset s at)) ∷ block_at s (andx_command s at) (andx_offset s at) End ∷ [])
+pub record TwoBlocks (s : List ℕ) (command at : ℕ) : Type 0 where
+  pub second : IsBlock s (andx_offset s at) (andx_command s at)
+  pub is_read : blocks_from s command at ≡ some (block_at s command at (Follow (andx_command s at) (andx_offset s at)) ∷ block_at s (andx_command s at) (andx_offset s at) End ∷ [])
 
 some_block : {s : List ℕ} {command at : ℕ} {spans : List Span} → ReadingFrom s command at spans → spans ≡ [] → ⊥
 some_block (plain_end h p) e = let z : ◌≡◌ {A = ℕ} 0 1 = cc in omega arith
@@ -277,7 +202,7 @@ last_block (plain_end h p) e = link-plain p
 last_block (andx-end h a f) e = link-end a f
 last_block (andx-next {rest = rest} h m g r) e = let z : rest ≡ [] = cc in absurd (some_block r z)
 
-two_blocks : {s : List ℕ} {command at : ℕ} {w x : Span} {spans : List Span} → ReadingFrom s command at spans → spans ≡ w ∷ x ∷ [] → TwoBlocks s command at
+pub two_blocks : {s : List ℕ} {command at : ℕ} {w x : Span} {spans : List Span} → ReadingFrom s command at spans → spans ≡ w ∷ x ∷ [] → TwoBlocks s command at
 two_blocks (plain_end h p) e = let z : ◌≡◌ {A = ℕ} 0 1 = cc in absurd (omega arith)
 two_blocks (andx-end h a f) e = let z : ◌≡◌ {A = ℕ} 0 1 = cc in absurd (omega arith)
 two_blocks {x = x} (andx-next {rest = rest} h m g r) e =
@@ -285,7 +210,7 @@ two_blocks {x = x} (andx-next {rest = rest} h m g r) e =
     record { second = reading-block r; is_read = chained-read (chained_more h (link-next m g) (chained-end (reading-block r) (last_block r z))) }
 
 -- a LOCKING in front of two chains that are alike
-locking-before : {g : Given} → LockingSays g → (b d : Block) (u : Tables) (memory : List ℕ) (one other : ℕ → ℕ → Tables → List ℕ → Ran)
+pub locking-before : {g : Given} → LockingSays g → (b d : Block) (u : Tables) (memory : List ℕ) (one other : ℕ → ℕ → Tables → List ℕ → Ran)
     → ((place : ℕ) (v : Tables) (m : List ℕ) → RunsAlike (BlocksAlike place) (one NOBODY place v m) (other NOBODY place v m))
     → RunsAlike (ChainsAlike b.command d.command) (after_given g (b ∷ []) FIRST u memory one) (after_given g (d ∷ []) FIRST u memory other)
 unfolding after_given after link_to reply_size opened_by
@@ -302,38 +227,8 @@ locking-before (locking-done {t = v} {memory = m}) b d u memory one other alike 
     }
 
 -- the chain of a LOCKING and one command behind it
-chain_run : (c : Caller) (s : List ℕ) → header_command s ≡ LOCKING → (nx : Next) (b : Block) (u : Tables) (memory : List ℕ)
+pub chain_run : (c : Caller) (s : List ℕ) → header_command s ≡ LOCKING → (nx : Next) (b : Block) (u : Tables) (memory : List ℕ)
     → run c s NOBODY (block_at s (header_command s) FIRST nx ∷ b ∷ []) FIRST u memory
     ≡ after_given (do_locking c u memory (locking_fields s) (area_at s FIRST)) (b ∷ []) FIRST u memory (λ j p v m. run c s j (b ∷ []) p v m)
 unfolding run block_at area_of body_at body_meant perform
 chain_run c s e nx b u memory = rw e
-
--- a message that is a LOCKING and a core READ or WRITE, and one that is the same LOCKING and its counterpart
-pub chain-calls : (connection : ℕ) (s t : List ℕ) → SameLocking s t → {core other : ℕ} → andx_command s FIRST ≡ core → andx_command t FIRST ≡ other
-    → EqualReadWrite s (andx_offset s FIRST) t (andx_offset t FIRST) core other → caller_of connection s ≡ caller_of connection t
-    → {w x y z : Span} → Reading s (w ∷ x ∷ []) → Reading t (y ∷ z ∷ []) → (u : Tables) (memory room : List ℕ) → Fit s u memory room → Fit t u memory room
-    → SameCalls (ChainsAlike core other) s t room (take-message connection s u memory room) (take-message connection t u memory room)
-unfolding blocks run block_at area_of data_of
-chain-calls connection s t same {core} {other} is is' equal sender r q u memory room f g =
-    let c = caller_of connection s in
-    let d = caller_of connection t in
-    let a = two_blocks r refl in
-    let b = two_blocks q refl in
-    let one = block_at s (andx_command s FIRST) (andx_offset s FIRST) End in
-    let two = block_at t (andx_command t FIRST) (andx_offset t FIRST) End in
-    let lock : do_locking c u memory (locking_fields s) (area_at s FIRST) ≡ do_locking d u memory (locking_fields t) (area_at t FIRST) =
-    rw (sender, same.same-fid, same.same-type, same.same-unlocks, same.same-locks, same.same-ranges) in
-    let pair = read-write-pair equal (rw is at a.second) c in
-    let behind : (place : ℕ) (v : Tables) (m : List ℕ) → RunsAlike (BlocksAlike place) (run c s NOBODY (one ∷ []) place v m) (run d t NOBODY (two ∷ []) place v m) =
-    λ place v m. rw (run-first c s one [] place v m, run-first d t two [] place v m) (last-alike (rw (is, is', ← sender) (pair-alike pair v m _)) c d s t place v m) in
-    calls-alike connection s t u memory room f g
-    (rw (
-      sentence-answered connection s u memory _ a.is_read,
-      sentence-answered connection t u memory _ b.is_read,
-      chain_run c s same.first_one (Follow (andx_command s FIRST) (andx_offset s FIRST)) one u memory,
-      chain_run d t same.first-other (Follow (andx_command t FIRST) (andx_offset t FIRST)) two u memory,
-      lock,
-      ← is,
-      ← is',
-    )
-    (locking-before (locking-says d u memory (locking_fields t) (area_at t FIRST)) one two u memory (λ j p v m. run c s j (one ∷ []) p v m) (λ j p v m. run d t j (two ∷ []) p v m) behind))

@@ -59,7 +59,7 @@ pub data Pair (c : Caller) : Body → List ℕ → Body → List ℕ → List �
 -- ---- one range
 
 -- the range that is asked for: of the sender's whole process
-abbrev asked : Caller → RangeFields → LockRange
+abbrev pub asked : Caller → RangeFields → LockRange
 asked c f = record { process = 65536 * (c.process / 65536) + c.process % 65536; offset = f.offset % 4294967296; length = f.length % 4294967296 }
 
 module _ (c : Caller) (f : RangeFields) where
@@ -72,7 +72,7 @@ module _ (c : Caller) (f : RangeFields) where
 
   module _ (t : Tables) (memory : List ℕ) where
     -- what a LOCKING that is served gives, with these unlocks and locks
-    abbrev locking_gives : ℕ → Bool → List LockRange → List LockRange → Given
+    abbrev pub locking_gives : ℕ → Bool → List LockRange → List LockRange → Given
     locking_gives fid shared unlocks locks =
         with_open c t fid (λ o. locking_after t memory (settle t.locks t.nlocks (request (file_of (opens_of t)) fid shared unlocks locks (take t.nlocks t.locks))))
 
@@ -115,12 +115,6 @@ pair-gives {c} (unlock-pair {f} {g} {area' = area'} fid bits u l one) t memory b
     ap as_core (one-unlock c f t memory (one_range f 1 0) (small_form (range_by c f)) refl refl refl (small_one c f)
     ∙ rw (← fid) (sym (one-unlock c f t memory g area' s u l one)))
 
--- where the counterpart is done, the core command is and leaves the same, and says the same in its own reply block
-pub pair-done : {c : Caller} {core other : Body} {area area' bytes' : List ℕ} → Pair c core area other area' bytes' → (t : Tables) (memory bytes : List ℕ)
-    → {u : Tables} {m : List ℕ} {said : Said} → perform c t memory other area' bytes' ≡ done u m said → perform c t memory core area bytes ≡ done u m (core_said said)
-unfolding as_core
-pair-done p t memory bytes e = pair-gives p t memory bytes ∙ ap as_core e
-
 -- ---- in words
 
 -- what the two say where they are done: the same bytes, the same count, or only that it is done
@@ -135,13 +129,13 @@ pub data Alike : Given → Given → Type 0 where
   done-alike : {t : Tables} {memory : List ℕ} {said said' : Said} → SaidAlike said said' → Alike (done t memory said) (done t memory said')
 
 -- a counterpart says one of these
-data Speaks : Given → Type 0 where
+pub data Speaks : Given → Type 0 where
   says-refused : {why : Refusal} → Speaks (refused why)
   says-read : {t : Tables} {memory bytes : List ℕ} → Speaks (done t memory (read bytes))
   says-wrote : {t : Tables} {memory : List ℕ} {count : ℕ} → Speaks (done t memory (wrote count))
   says-locked : {t : Tables} {memory : List ℕ} → Speaks (done t memory locked)
 
-speaks-alike : {g : Given} → Speaks g → Alike (as_core g) g
+pub speaks-alike : {g : Given} → Speaks g → Alike (as_core g) g
 unfolding as_core core_said
 speaks-alike (says-refused {why}) = refused-alike why
 speaks-alike (says-read {bytes = bytes}) = done-alike (same_bytes bytes)
@@ -186,18 +180,13 @@ module _ (c : Caller) (t : Tables) (memory : List ℕ) where
       writing-case Speaks c t f.fid _ (ends_past f.offset f.count) _ says-refused says-refused says-refused says-refused (λ h. says-refused) says-refused
       (λ k _ _. says-wrote)
 
-other-speaks : {c : Caller} {core other : Body} {area area' bytes' : List ℕ} → Pair c core area other area' bytes' → (t : Tables) (memory : List ℕ)
+pub other-speaks : {c : Caller} {core other : Body} {area area' bytes' : List ℕ} → Pair c core area other area' bytes' → (t : Tables) (memory : List ℕ)
     → Speaks (perform c t memory other area' bytes')
 unfolding perform
 other-speaks {c} (read-pair {f}) t memory = read-speaks c t memory f
 other-speaks {c} {bytes' = bytes'} (write-pair {g = g} fid offset count counts same) t memory = write-speaks c t memory g bytes'
 other-speaks {c} {area' = area'} (lock-pair {g = g} fid bits exclusive u l one) t memory = locking-speaks (locking-says c t memory g area')
 other-speaks {c} {area' = area'} (unlock-pair {g = g} fid bits u l one) t memory = locking-speaks (locking-says c t memory g area')
-
--- "a core command and its counterpart with equal fields change the same things"
-pub pair-alike : {c : Caller} {core other : Body} {area area' bytes' : List ℕ} → Pair c core area other area' bytes' → (t : Tables) (memory bytes : List ℕ)
-    → Alike (perform c t memory core area bytes) (perform c t memory other area' bytes')
-pair-alike p t memory bytes = rw (pair-gives p t memory bytes) (speaks-alike (other-speaks p t memory))
 
 -- so tables and file memory are the same afterwards
 pub alike-tables : {core other : Given} → Alike core other → (t : Tables) → tables_after core t ≡ tables_after other t

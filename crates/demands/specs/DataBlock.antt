@@ -12,10 +12,8 @@ use Rattle.message.specs.Refusal.{status}
 use Rattle.message.specs.declared.refusal.HeldBy.TheVariants.{Nobody}
 use Rattle.message.specs.Message.{served, Taken, take-message}
 use Rattle.demands.specs.StatusRead.{status_read}
-use Rattle.demands.specs.Calls.{malformed-call}
 use Rattle.demands.specs.RefusedCall.{Untouched}
 use Rattle.demands.specs.ReplyBytes.{PlainBlock}
-use Rattle.demands.specs.NoSentence.{no-sentence-taken}
 
 -- ---- the plain words
 
@@ -47,7 +45,7 @@ pub marked-block : {s : List ℕ} {at : ℕ} → IsBlock s at CORE-WRITE → Mar
 unfolding fits
 marked-block {s} {at} h = (core-write-exact s at).0 (fits-complete s at h)
 
-bad-no-block : {s : List ℕ} {at : ℕ} → BadDataBlock s at → IsBlock s at CORE-WRITE → ⊥
+pub bad-no-block : {s : List ℕ} {at : ℕ} → BadDataBlock s at → IsBlock s at CORE-WRITE → ⊥
 bad-no-block (not-marked n) h = n (marked-block h).marked
 bad-no-block (other_length n) h = n (marked-block h).agreed
 bad-no-block (other-bytes n) h = n (marked-block h).filled
@@ -58,26 +56,15 @@ reading-block (plain_end h p) = h
 reading-block (andx-end h a e) = h
 reading-block (andx-next h m g r) = h
 
-second_block : {s : List ℕ} {command at : ℕ} {spans : List Span} → ReadingFrom s command at spans → command ≡ LOCKING → andx_command s at ≡ CORE-WRITE
+pub second_block : {s : List ℕ} {command at : ℕ} {spans : List Span} → ReadingFrom s command at spans → command ≡ LOCKING → andx_command s at ≡ CORE-WRITE
     → IsBlock s (andx_offset s at) CORE-WRITE
 second_block (plain_end h p) e c = absurd (plain-not-andx p (rw e locking-andx))
 second_block (andx-end h a f) e c = absurd (omega arith)
 second_block (andx-next h m g r) e c = rw (← c) (reading-block r)
 
-pub bad-no-sentence : {s : List ℕ} → BadCoreWrite s → Sentence s → ⊥
-bad-no-sentence (alone e bad) r = bad-no-block bad (rw e at (reading-block r.1))
-bad-no-sentence (behind-locking e c bad) r = bad-no-block bad (second_block r.1 e c)
-
 -- ---- so it is 2/1
 
-bad-served : {s : List ℕ} → BadCoreWrite s → served (header_command s) ≡ true
+pub bad-served : {s : List ℕ} → BadCoreWrite s → served (header_command s) ≡ true
 unfolding served
 bad-served (alone e bad) = rw e
 bad-served (behind-locking e c bad) = rw e
-
-pub bad-data-block : (connection : ℕ) (s : List ℕ) → BadCoreWrite s → (t : Tables) (memory room : List ℕ) → Fit s t memory room
-    → AnsweredMalformed t memory (take-message connection s t memory room)
-bad-data-block connection s bad t memory room fit =
-    let says = (malformed-call connection s t memory room fit (bad-served bad)).1 (bad-no-sentence bad) in
-    let leaves = no-sentence-taken connection s t memory room fit (bad-no-sentence bad) in
-    record { number = says.0; status-given = says.1; untouched = leaves.0; one_block = leaves.1; its-bytes = leaves.3; nobody = leaves.2 }

@@ -30,16 +30,16 @@ use Rattle.message.specs.Message.{after, link_to, after_given, run, Taken, reply
 use Rattle.invariants.specs.ReplySize.{length-header, length-block}
 use Rattle.invariants.specs.Fit.{Fit, fit-answered}
 use Rattle.demands.specs.Taken.{not_short}
-use Rattle.claims.specs.StatusList.{none-zero}
+use Rattle.claims.proofs.StatusList.{none-zero}
 use Rattle.demands.specs.StatusRead.{status_read}
 use Rattle.demands.specs.Calls.{sentence-answered}
-use Rattle.demands.specs.RefusedCall.{gives, first-refused}
-use Rattle.demands.specs.Admitted.{Admitted, NoSessionFor, no-session, NoTreeFor, before-tree, no-tree, NoOpenFor, before-open, no-open, session-or, tree-or, open-or, with-session, with-tree, with-open, session-given, tree-given, open-given}
+use Rattle.demands.specs.RefusedCall.{gives}
+use Rattle.demands.specs.Admitted.{Admitted, NoSessionFor, no-session, NoTreeFor, before-tree, no-tree, NoOpenFor, before-open, no-open, with-open}
 
 -- ---- from the call to its command
 
 -- 0/0 has no code
-coded-not-done : {P : Type 0} (n : Status) → 1 ≤ n.code → n ≡ status 0 0 → P
+pub coded-not-done : {P : Type 0} (n : Status) → 1 ≤ n.code → n ≡ status 0 0 → P
 unfolding status
 coded-not-done n h e = let z : n.code ≡ 0 = ap (λ (x : Status). x.code) e in absurd (omega arith)
 
@@ -56,77 +56,15 @@ pub record Carried (c : Caller) (s : List ℕ) (b : Block) (t : Tables) (memory 
   pub nobody-holds : call.holder ≡ Nobody
 
 -- commands of which the one was done
-run-one : (c : Caller) (s : List ℕ) (b : Block) (t : Tables) (memory : List ℕ) {u : Tables} {m : List ℕ} {said : Said} → gives c s NOBODY b t memory ≡ done u m said
+pub run-one : (c : Caller) (s : List ℕ) (b : Block) (t : Tables) (memory : List ℕ) {u : Tables} {m : List ℕ} {said : Said} → gives c s NOBODY b t memory ≡ done u m said
     → run c s NOBODY (b ∷ []) FIRST t memory ≡ record { forms = success; holder = Nobody; tables = u; memory = m; blocks = reply_block said FIRST no_link }
 unfolding run after_given after link_to
 run-one c s b t memory {u} {m} {said} e =
     rw e (ap (λ (l : List ℕ). record { forms = success; holder = Nobody; tables = u; memory = m; blocks = l }) (append-nil (reply_block said FIRST no_link)))
 
-module _ (connection : ℕ) (s : List ℕ) (b : Block) (e : blocks s ≡ some (b ∷ [])) (t : Tables) (memory room : List ℕ) (fit : Fit s t memory room) where
-  carried-by : (g : Given) → gives (caller_of connection s) s NOBODY b t memory ≡ g → status_read (take-message connection s t memory room).room ≡ status 0 0
-      → Carried (caller_of connection s) s b t memory room (take-message connection s t memory room)
-  unfolding replied reply_of
-  carried-by (refused why) g z =
-      absurd ((none-zero why).0 (sym (first-refused connection s t memory room fit b [] e why g).0 ∙ z))
-  carried-by (done u m said) g z =
-      let k = fit-answered connection s t memory room fit ∙ ap (replied s room) (sentence-answered connection s t memory (b ∷ []) e ∙ run-one (caller_of connection s) s b t memory g) in
-      let tables-left : (take-message connection s t memory room).tables ≡ u = ap (λ (x : Taken). x.tables) k in
-      let memory-left : (take-message connection s t memory room).memory ≡ m = ap (λ (x : Taken). x.memory) k in
-      record {
-        said = said;
-        given = rw (tables-left, memory-left) g;
-        reply = ap (λ (x : Taken). x.room) k;
-        reply-length =
-            ap (λ (x : Taken). x.length) k
-            ∙ length-append (reply_header s success) (reply_block said FIRST no_link)
-            ∙ rw (length-header s success (long-enough s fit.not-dropped), length-block said FIRST no_link) refl;
-        nobody-holds = ap (λ (x : Taken). x.holder) k;
-      }
-
-  -- Status 0/0 says that it was
-  pub carried : status_read (take-message connection s t memory room).room ≡ status 0 0
-      → Carried (caller_of connection s) s b t memory room (take-message connection s t memory room)
-  carried = carried-by (gives (caller_of connection s) s NOBODY b t memory) refl
-
 -- ---- from a command that is done to what it asked
 
 -- one that is missing has a code
-session-code : {c : Caller} {t : Tables} {n : Status} → NoSessionFor c t n → 1 ≤ n.code
+pub session-code : {c : Caller} {t : Tables} {n : Status} → NoSessionFor c t n → 1 ≤ n.code
 unfolding status
 session-code (no-session h) = omega arith
-
-tree_code : {c : Caller} {t : Tables} {n : Status} → NoTreeFor c t n → 1 ≤ n.code
-unfolding status
-tree_code (before-tree h) = session-code h
-tree_code (no-tree s h) = omega arith
-
-open_code : {c : Caller} {t : Tables} {fid : ℕ} {n : Status} → NoOpenFor c t fid n → 1 ≤ n.code
-unfolding status
-open_code (before-open h) = tree_code h
-open_code (no-open s r h) = omega arith
-
-module _ (c : Caller) (t : Tables) {u : Tables} {m : List ℕ} {said : Said} where
-  -- so a command that is done passed the questions
-  pub past-session : (next : Given) → with_session c t next ≡ done u m said → next ≡ done u m said
-  unfolding status_in
-  past-session next e =
-      elim (session-or c t) [
-        | inl h ↦ coded-not-done h.0 (session-code h.1) (sym (session-given c t next h.1) ∙ ap status_in e)
-        | inr h ↦ sym (with-session c t next h) ∙ e
-      ]
-
-  pub past-tree : (next : Given) → with_tree c t next ≡ done u m said → next ≡ done u m said
-  unfolding status_in
-  past-tree next e =
-      elim (tree-or c t) [
-        | inl h ↦ coded-not-done h.0 (tree_code h.1) (sym (tree-given c t next h.1) ∙ ap status_in e)
-        | inr h ↦ sym (with-tree c t next h.0 h.1) ∙ e
-      ]
-
-  pub past_open : (fid : ℕ) (next : Open → Given) → with_open c t fid next ≡ done u m said → (o : Open) × Admitted c t fid o × (next o ≡ done u m said)
-  unfolding status_in
-  past_open fid next e =
-      elim (open-or c t fid) [
-        | inl h ↦ coded-not-done h.0 (open_code h.1) (sym (open-given c t fid next h.1) ∙ ap status_in e)
-        | inr h ↦ (get_or (opens_of t) h.0 no_open, h.2, sym (with-open c t fid h.0 next h.1) ∙ e)
-      ]

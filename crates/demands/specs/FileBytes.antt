@@ -97,7 +97,7 @@ module _ (t : Tables) (memory : List ℕ) (file offset : ℕ) (ok : sound t ≡ 
   most = size-most t file (sound-says t ok)
 
   -- the zeros up to the offset
-  abbrev zeros : List ℕ
+  abbrev pub zeros : List ℕ
   zeros = replicate (offset - size_of t file) 0
 
   module _ (within : offset ≤ 4096) where
@@ -150,41 +150,10 @@ module _ (t : Tables) (memory : List ℕ) (file offset : ℕ) (ok : sound t ≡ 
         }
 
   module _ (bytes : List ℕ) (some_bytes : 1 ≤ length bytes) (fits : offset + length bytes ≤ 4096) where
-    grew : Grew file (size_of t file) offset memory (grown t memory file offset)
-    grew = grown-bytes (omega arith)
 
-    bytes_fit : file * 4096 + offset + length bytes ≤ length (grown t memory file offset)
-    bytes_fit = let a = grew.same_length in omega arith
-
-    written-put : written t memory file offset bytes ≡ put (grown t memory file offset) (file * 4096 + offset) bytes
+    pub written-put : written t memory file offset bytes ≡ put (grown t memory file offset) (file * 4096 + offset) bytes
     unfolding written
     written-put = rw (ne_eqb (length bytes) 0 (λ e. omega arith))
-
-    -- behind the write
-    past-write : (k : ℕ) → file * 4096 + offset + length bytes ≤ k → get_or (put (grown t memory file offset) (file * 4096 + offset) bytes) k 0 ≡ get_or memory k 0
-    past-write k h = put-behind (grown t memory file offset) bytes (file * 4096 + offset) bytes_fit k 0 h ∙ grew.behind k (omega arith)
-
-    -- in front of it and of the old size
-    before-write : (k : ℕ) → k < file * 4096 + size_of t file → k < file * 4096 + offset
-        → get_or (put (grown t memory file offset) (file * 4096 + offset) bytes) k 0 ≡ get_or memory k 0
-    before-write k h l = put_front (grown t memory file offset) bytes (file * 4096 + offset) bytes_fit k 0 l ∙ grew.in-front k h
-
-    -- "Bytes between the old size and the write become 0": a write of some bytes that ends in its file
-    pub written-bytes : Wrote file (size_of t file) offset bytes memory (written t memory file offset bytes)
-    written-bytes =
-        rw written-put
-        (record {
-          same_length = length-put (grown t memory file offset) bytes (file * 4096 + offset) bytes_fit ∙ grew.same_length;
-          the-bytes = λ i h. put-inside (grown t memory file offset) bytes (file * 4096 + offset) bytes_fit i 0 h;
-          the-zeros = λ k h l. put_front (grown t memory file offset) bytes (file * 4096 + offset) bytes_fit k 0 l ∙ grew.the-zeros k h l;
-          in-front = before-write;
-          behind = past-write;
-          other-files = λ other i different h.
-              elim (beside other file i different h) [
-                | inl l ↦ before-write (other * 4096 + i) (omega arith) (omega arith)
-                | inr l ↦ past-write (other * 4096 + i) (omega arith)
-              ];
-        })
 
   -- ---- a read
 
@@ -268,7 +237,7 @@ module _ (t : Tables) (file size : ℕ) where
 
 module _ (t : Tables) (file offset count : ℕ) (some_bytes : 1 ≤ count) where
   -- "and a size below the write's end becomes that end"
-  abbrev end : ℕ
+  abbrev pub end : ℕ
   end = max (size_of t file) (offset + count)
 
   pub resized-changes : resized t file offset count ≡ with_change t file (max (size_of t file) (offset + count))

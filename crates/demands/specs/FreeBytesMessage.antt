@@ -17,7 +17,8 @@ use Rattle.chain.specs.declared.block.Next.{Next}
 use Rattle.invariants.specs.BlockParse.{body_at, block_at}
 use Rattle.invariants.specs.ReaderSound.{span_of}
 use Rattle.readings.specs.ReaderComplete.{reader-complete-from}
-use Rattle.readings.specs.FreeBytes.{Alike, unmoved, AllStand, AllAlike, all_alike, unread-blocks}
+use Rattle.readings.specs.FreeBytes.{Alike, AllStand, AllAlike}
+use Rattle.readings.proofs.FreeBytes.{unmoved, all_alike, unread-blocks}
 use Rattle.readings.specs.SameNumbers.{same-16}
 use Rattle.invariants.specs.Chained.{Chained, chained-end, chained_more, read-chained}
 use Rattle.message.specs.Caller.{caller_of}

@@ -21,17 +21,16 @@ use Rattle.chain.specs.declared.block.LockingFields.{LockingFields}
 use Rattle.soundness.specs.Sound.{sound}
 use Rattle.invariants.specs.Sound.{Good}
 use Rattle.invariants.specs.Fit.{take-message-good}
-use Rattle.claims.specs.SoundPlain.{sound-plain}
+use Rattle.claims.proofs.SoundPlain.{sound-plain}
 use Rattle.message.specs.declared.caller.Caller.{Caller}
 use Rattle.message.specs.declared.refusal.HeldBy.TheVariants.{Holder as held_by}
 use Rattle.demands.specs.LockWords.{PastEnd}
-use Rattle.demands.specs.HolderExactly.{call, held-fit}
+use Rattle.demands.specs.HolderExactly.{call}
 use Rattle.demands.specs.HolderWords.{LockHeld, Stands, first-stands, HeldWhere, one-range, many-ranges}
-use Rattle.demands.specs.HolderStands.{holder-exact, where-then}
-use Rattle.demands.specs.HolderOpen.{OwnRange, holder-own, holder-listed}
+use Rattle.demands.specs.HolderOpen.{OwnRange}
 
 -- a lock that overlaps something has a byte
-stands-some : {t : Tables} {o : Open} {list : List Lock} {offset size : ℕ} {h : Holder} → Stands t o list offset size h → 1 ≤ h.lock.length
+pub stands-some : {t : Tables} {o : Open} {list : List Lock} {offset size : ℕ} {h : Holder} → Stands t o list offset size h → 1 ≤ h.lock.length
 unfolding Overlap InRange
 stands-some {h = h} w =
     let both = w.overlap in
@@ -47,7 +46,7 @@ among f large area k (suc m) zero low i = absurd (omega arith)
 among f large area k (suc m) (suc n) low i = elim (first-or-later i) [ inl e ↦ here e | inr more ↦ there (among f large area (suc k) m n (omega arith) more) ]
 
 -- an own earlier range is within 2^64, as all of the request's
-own-ends : {c : Caller} {t : Tables} {f : LockingFields} {area : List ℕ} {h : Holder} (r : LockHeld c t f area h) → OwnRange c f area r.held.granted h.lock
+pub own-ends : {c : Caller} {t : Tables} {f : LockingFields} {area : List ℕ} {h : Holder} (r : LockHeld c t f area h) → OwnRange c f area r.held.granted h.lock
     → h.lock.offset + h.lock.length ≤ 2 ^ 64
 unfolding PastEnd
 own-ends {f = f} {area = area} r w =
@@ -59,25 +58,8 @@ own-ends {f = f} {area = area} r w =
 
 module _ (t : Tables) (ok : sound t ≡ true) where
   -- a listed lock is, by soundness
-  listed-ends : (l : Lock) → In l (locks_of t) → l.offset + l.length ≤ 2 ^ 64
+  pub listed-ends : (l : Lock) → In l (locks_of t) → l.offset + l.length ≤ 2 ^ 64
   listed-ends l m = ((sound-plain t).0 ok).lock-ends l m
 
-  stands-ends : {o : Open} {offset size : ℕ} {h : Holder} → Stands t o (locks_of t) offset size h → h.lock.offset + h.lock.length ≤ 2 ^ 64
+  pub stands-ends : {o : Open} {offset size : ℕ} {h : Holder} → Stands t o (locks_of t) offset size h → h.lock.offset + h.lock.length ≤ 2 ^ 64
   stands-ends {h = h} w = listed-ends h.lock (rw w.stands-there at (place_in no_lock (locks_of t) h.place w.in_list))
-
-  held_bytes : {c : Caller} {area : List ℕ} {h : Holder} → HeldWhere c t area h → (1 ≤ h.lock.length) × (h.lock.offset + h.lock.length ≤ 2 ^ 64)
-  held_bytes (one-range w) = (stands-some w, stands-ends w)
-  held_bytes {h = h} (many-ranges r) = (
-    stands-some (first-stands r.held.first),
-    elim (dec_lt h.place (length r.left)) [
-      | yes l ↦ listed-ends h.lock (holder-listed r l)
-      | no n ↦ own-ends r (holder-own r (omega arith))
-    ],
-  )
-
--- of any call with a holder, on good tables
-pub holder-bytes : (connection : ℕ) (s : List ℕ) (t : Tables) (memory room : List ℕ) → Good t → (h : Holder) → (call connection s t memory room).holder ≡ held_by h
-    → (1 ≤ h.lock.length) × (h.lock.offset + h.lock.length ≤ 2 ^ 64)
-holder-bytes connection s t memory room g h e =
-    let fit = held-fit connection s t memory room h e in
-    held_bytes (call connection s t memory room).tables (take-message-good connection s t memory room g).sound (where-then connection s t memory room g fit h ((holder-exact connection s t memory room g fit h).0 e))

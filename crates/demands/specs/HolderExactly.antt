@@ -16,8 +16,6 @@ use Rattle.message.specs.Message.{answered, Taken, not_taken, replied, take-mess
 use Rattle.invariants.specs.GivenCases.{cond-case}
 use Rattle.invariants.specs.Fit.{Fit, fit-answered}
 use Rattle.demands.specs.StatusRead.{status_read}
-use Rattle.demands.specs.Calls.{status-call}
-use Rattle.demands.specs.MessageReasons.{done-exact}
 use Rattle.demands.specs.HolderBeside.{Beside, somebody-exact, nobody-exact, answered-beside}
 
 module _ (connection : ℕ) (s : List ℕ) (t : Tables) (memory room : List ℕ) where
@@ -28,19 +26,6 @@ module _ (connection : ℕ) (s : List ℕ) (t : Tables) (memory room : List ℕ)
   unfolding replied
   holder-answered fit = ap (λ (k : Taken). k.holder) (fit-answered connection s t memory room fit)
 
-  call-beside : call.number ≡ 0 → Beside (status_read call.room) call.holder
-  call-beside e =
-      let fit = (done-exact connection s t memory room).0 e in
-      rw (status-call connection s t memory room fit, holder-answered fit) (answered-beside connection s t memory)
-
-  -- of a call that is done there is a holder exactly if the Status is 1/33
-  pub holder-exactly : call.number ≡ 0 → ((h : Holder) × (call.holder ≡ held_by h)) ↔ (status_read call.room ≡ status 1 33)
-  holder-exactly e = somebody-exact (call-beside e)
-
-  -- and none exactly if it is another
-  pub nobody-exactly : call.number ≡ 0 → (call.holder ≡ Nobody) ↔ (status_read call.room ≡ status 1 33 → ⊥)
-  nobody-exactly e = nobody-exact (call-beside e)
-
   -- a call with another number than 0 has no holder
   pub undone-nobody : (call.number ≡ 0 → ⊥) → call.holder ≡ Nobody
   unfolding take-message not_taken replied
@@ -49,11 +34,3 @@ module _ (connection : ℕ) (s : List ℕ) (t : Tables) (memory room : List ℕ)
       (λ _. cond-case (λ (r : Taken). (r.number ≡ 0 → ⊥) → r.holder ≡ Nobody) (not (sound t)) (not_taken 4 t memory room) _ (λ _ n. refl)
       (λ _. cond-case (λ (r : Taken). (r.number ≡ 0 → ⊥) → r.holder ≡ Nobody) (dropped s) (not_taken 1 t memory room) (replied s room (answered connection s t memory)) (λ _ n. refl)
       (λ _ n. absurd (n refl))))
-
-  -- so a call with a holder is done, and its message fit to be answered
-  pub held-fit : (h : Holder) → call.holder ≡ held_by h → Fit s t memory room
-  held-fit h e =
-      elim (ℕ_discrete call.number 0) [
-        | yes z ↦ (done-exact connection s t memory room).0 z
-        | no n ↦ let b : ◌≡◌ {A = HeldBy} Nobody (held_by h) = sym (undone-nobody n) ∙ e in let z : ◌≡◌ {A = ℕ} 0 1 = cc in absurd (omega arith)
-      ]

@@ -32,13 +32,6 @@ module _ {c : Caller} {t : Tables} (ok : sound t ≡ true) {fid : ℕ} {o : Open
   pub same-open : {p : Open} → Admitted c t fid p → p ≡ o
   same-open b = numbered-same fid_of 64 (opens_of t) (sound-says t ok).records.fids b.opened.listed a.opened.listed (b.opened.of-fid ∙ sym a.opened.of-fid)
 
-  pub through-exact : {denied : ℕ} {offset size : Open → ℕ} {Clash : Lock → Type 0} {h : Holder} → (o.access ≡ denied → ⊥)
-      → TransferHeld c t fid denied offset size Clash h ↔ FirstInWay t o (locks_of t) (offset o) (size o) Clash h
-  through-exact may = (
-    λ r. rw (same-open r.admitted) at r.first,
-    λ w. record { through = o; admitted = a; access = may; first = w },
-  )
-
 -- ---- a lock alone in its request
 
 -- the first listed lock of the open's file that "overlaps it and the two aren't both shared"
@@ -47,49 +40,21 @@ LoneHeld t o f area h =
     FirstInWay t o (locks_of t) (lone_range f area).offset (lone_range f area).length (λ l. (l.shared ≡ true) × (shared_in f ≡ true) → ⊥) h
 
 module _ {c : Caller} {t : Tables} (ok : sound t ≡ true) (f : LockingFields) (area : List ℕ) {o : Open} (a : Admitted c t f.fid o) (none_out : f.unlocks ≡ 0) (one : f.locks ≡ 1) where
-  of_none : (k n : ℕ) → n ≡ 0 → ranges_by c.process f area k n ≡ []
+  pub of_none : (k n : ℕ) → n ≡ 0 → ranges_by c.process f area k n ≡ []
   unfolding ranges_at
   of_none k n e = rw e
 
-  pub lone-first : {h : Holder} → LockHeld c t f area h → LoneHeld t o f area h
-  lone-first {h} r =
-      let w = r.held in
-      let few : w.granted < f.locks = w.fewer in
-      let zero : w.granted ≡ 0 = omega arith in
-      let all : w.standing ≡ locks_of t = none-granted w.earlier (of_none f.unlocks w.granted zero) ∙ none-released r.unlocked (of_none 0 f.unlocks none_out) in
-      let at : f.unlocks + w.granted ≡ 0 = omega arith in
-      rw (same-open ok a r.admitted, all, at) at w.first
-
-  not-past : WithinRange f area → PastEnd (locks_in c f area) → ⊥
+  pub not-past : WithinRange f area → PastEnd (locks_in c f area) → ⊥
   unfolding ranges_at of_header
   not-past low p =
       let only : PastEnd (of_header (c.process / 65536) (lone_range f area) ∷ []) = rw (none_out, one) at p in
       let past : 2 ^ 64 < (lone_range f area).offset + (lone_range f area).length = one-past _ only in
       omega arith
 
-  pub first-lone : {h : Holder} → OnlyTwoBits f.kind → WithinRange f area → LoneHeld t o f area h → LockHeld c t f area h
-  unfolding ranges_at
-  first-lone {h} bits low w =
-      record {
-        through = o;
-        admitted = a;
-        served = bits;
-        left = locks_of t;
-        unlocked = rw none_out none-to-release;
-        within = not-past low;
-        held = record {
-          granted = 0;
-          fewer = omega arith;
-          standing = locks_of t;
-          earlier = none-to-grant;
-          first = rw (add-zero f.unlocks, none_out) w;
-        };
-      }
-
 -- ---- a LOCK_BYTE_RANGE
 
 -- an exclusive lock asked for and a listed one are not both shared
-exclusive-first : {t : Tables} {o : Open} {list : List Lock} {offset size : ℕ} {h : Holder}
+pub exclusive-first : {t : Tables} {o : Open} {list : List Lock} {offset size : ℕ} {h : Holder}
     → FirstInWay t o list offset size (λ l. (l.shared ≡ true) × (false ≡ true) → ⊥) h ↔ FirstInWay t o list offset size AnyLock h
 exclusive-first {h = h} = (
   λ w. record {
@@ -110,37 +75,4 @@ exclusive-first {h = h} = (
   },
 )
 
--- it is the LOCKING of its one range
-pub range-held : (c : Caller) (t : Tables) → sound t ≡ true → (f : RangeFields) (h : Holder) → LockHeld c t (one_range f 0 1) (small_form (range_by c f)) h ↔ RangeLockHeld c t f h
-unfolding one_range
-range-held c t ok f h =
-    let area = small_form (range_by c f) in
-    let within : f.offset % 4294967296 + f.length % 4294967296 ≤ 2 ^ 64 = omega arith in (
-      λ r. record {
-        through = r.through;
-        admitted = r.admitted;
-        first = exclusive-first.0 (rw (lone-back c f) at (lone-first ok (one_range f 0 1) area r.admitted refl refl r));
-      },
-      λ r. first-lone ok (one_range f 0 1) area r.admitted refl refl refl (rw (lone-back c f) within) (rw (lone-back c f) (exclusive-first.1 r.first)),
-    )
-
 -- ---- core commands through a given open
-
-module _ {c : Caller} {t : Tables} (ok : sound t ≡ true) (f : WriteFields) {o : Open} (a : Admitted c t f.fid o) (may : o.access ≡ 0 → ⊥) {h : Holder} where
-  pub some_written : (f.count ≡ 0 → ⊥)
-      → CoreWriteHeld c t f h ↔ FirstInWay t o (locks_of t) f.offset f.count (λ l. (l.shared ≡ false) × Owner f.fid c.process l → ⊥) h
-  some_written some =
-      let x = through-exact ok a may in
-      (λ r. elim r [ write-held n w ↦ x.0 w | size-held z w ↦ absurd (some z) ], λ w. write-held some (x.1 w))
-
-  pub size-set : f.count ≡ 0
-      → CoreWriteHeld c t f h
-      ↔ FirstInWay t o (locks_of t) (lower_size t f.offset o) (sizes_apart t f.offset o)
-      (λ l. (l.shared ≡ false) × Owner f.fid c.process l → ⊥) h
-  size-set none =
-      let x = through-exact ok a may in
-      (λ r. elim r [ write-held n w ↦ absurd (n none) | size-held z w ↦ x.0 w ], λ w. size-held none (x.1 w))
-
-pub range-through : {c : Caller} {t : Tables} → sound t ≡ true → (f : RangeFields) {o : Open} → Admitted c t f.fid o → {h : Holder}
-    → RangeLockHeld c t f h ↔ FirstInWay t o (locks_of t) (core_range c f).offset (core_range c f).length AnyLock h
-range-through ok f {o} a = (λ r. rw (same-open ok a r.admitted) at r.first, λ w. record { through = o; admitted = a; first = w })

@@ -21,15 +21,14 @@ use Rattle.invariants.specs.Numbered.{numbered-same}
 use Rattle.invariants.specs.SoundParts.{sound-says}
 use Rattle.invariants.specs.Sound.{Good}
 use Rattle.invariants.specs.Fit.{take-message-good}
-use Rattle.claims.specs.SoundPlain.{sound-plain}
+use Rattle.claims.proofs.SoundPlain.{sound-plain}
 use Rattle.message.specs.declared.caller.Caller.{Caller}
 use Rattle.message.specs.declared.refusal.HeldBy.TheVariants.{Holder as held_by}
 use Rattle.demands.specs.LoneLock.{shared_in}
-use Rattle.demands.specs.LockWords.{released-was, AllGranted, none-to-grant, grant-then}
+use Rattle.demands.specs.LockWords.{AllGranted, none-to-grant, grant-then}
 use Rattle.demands.specs.CommandReasons.{ranges_by}
-use Rattle.demands.specs.HolderExactly.{call, held-fit}
+use Rattle.demands.specs.HolderExactly.{call}
 use Rattle.demands.specs.HolderWords.{LockHeld, HeldWhere, one-range, many-ranges}
-use Rattle.demands.specs.HolderStands.{holder-exact, where-then}
 
 -- ---- an own earlier range
 
@@ -43,7 +42,7 @@ pub record OwnRange (c : Caller) (f : LockingFields) (area : List ℕ) (granted 
   pub of_length : l.length ≡ range.length
   pub of-shared : l.shared ≡ shared_in f
 
-own_range : (c : Caller) (f : LockingFields) (area : List ℕ) (granted : ℕ) (l : Lock) (r : LockRange) → In r (ranges_by c.process f area f.unlocks granted)
+pub own_range : (c : Caller) (f : LockingFields) (area : List ℕ) (granted : ℕ) (l : Lock) (r : LockRange) → In r (ranges_by c.process f area f.unlocks granted)
     → lock_of f.fid (shared_in f) r ≡ l → OwnRange c f area granted l
 unfolding lock_of
 own_range c f area granted l r m e =
@@ -58,39 +57,14 @@ own_range c f area granted l r m e =
     }
 
 -- the locks granted stand behind the list
-granted-list : {t : Tables} {o : Open} {fid : ℕ} {shared : Bool} {rs : List LockRange} {list last : List Lock} → AllGranted t o fid shared rs list last
+pub granted-list : {t : Tables} {o : Open} {fid : ℕ} {shared : Bool} {rs : List LockRange} {list last : List Lock} → AllGranted t o fid shared rs list last
     → last ≡ list ++ map (lock_of fid shared) rs
 granted-list {list = list} none-to-grant = sym (append-nil list)
 granted-list {fid = fid} {shared = shared} (grant-then {r} {rs} {list} free more) = granted-list more ∙ append_assoc list (lock_of fid shared r ∷ []) (map (lock_of fid shared) rs)
 
 module _ {c : Caller} {t : Tables} {f : LockingFields} {area : List ℕ} {h : Holder} (r : LockHeld c t f area h) where
-  abbrev own : List Lock
+  abbrev pub own : List Lock
   own = map (lock_of f.fid (shared_in f)) (ranges_by c.process f area f.unlocks r.held.granted)
-
-  -- "the list as it then stands": those left, and behind them the own earlier ranges
-  as-it-stands : r.held.standing ≡ r.left ++ own
-  as-it-stands = granted-list r.held.earlier
-
-  there-is : get_or (r.left ++ own) h.place no_lock ≡ h.lock
-  there-is = ap (λ (l : List Lock). get_or l h.place no_lock) (sym as-it-stands) ∙ r.held.first.stands-there
-
-  -- its own earlier ranges stand at the end: a place behind what the unlocks left is one of theirs
-  pub holder-own : length r.left ≤ h.place → OwnRange c f area r.held.granted h.lock
-  holder-own low =
-      let inside : h.place < length r.held.standing = r.held.first.in_list in
-      let all : length r.held.standing ≡ length r.left + length own = ap length as-it-stands ∙ length-append r.left own in
-      let split : h.place ≡ length r.left + (h.place - length r.left) = omega arith in
-      let m : h.place - length r.left < length own = omega arith in
-      let same : get_or own (h.place - length r.left) no_lock ≡ h.lock =
-      sym (get_or-append-add r.left own (h.place - length r.left) no_lock) ∙ ap (λ (k : ℕ). get_or (r.left ++ own) k no_lock) (sym split) ∙ there-is in
-      let w = map-in (lock_of f.fid (shared_in f)) (ranges_by c.process f area f.unlocks r.held.granted) (place_in no_lock own (h.place - length r.left) m) in
-      own_range c f area r.held.granted h.lock w.0 w.1 (w.2 ∙ same)
-
-  -- a place before that is one of the locks held
-  pub holder-listed : h.place < length r.left → In h.lock (locks_of t)
-  holder-listed low =
-      let same : get_or r.left h.place no_lock ≡ h.lock = sym (get_or-append r.left own no_lock h.place low) ∙ there-is in
-      released-was r.unlocked (rw same at (place_in no_lock r.left h.place low))
 
 -- ---- the open and the session
 
@@ -106,26 +80,6 @@ pub record HolderFound (t : Tables) (h : Holder) : Type 0 where
   pub no-other-session : (u : Session) → In u (sessions_of t) → u.uid ≡ through.uid → u ≡ session
 
 -- a lock in the way is of the file, so that its FID is an open's
-held-open : {c : Caller} {t : Tables} {area : List ℕ} {h : Holder} → HeldWhere c t area h → (o : Open) × In o (opens_of t) × (o.fid ≡ h.lock.fid)
+pub held-open : {c : Caller} {t : Tables} {area : List ℕ} {h : Holder} → HeldWhere c t area h → (o : Open) × In o (opens_of t) × (o.fid ≡ h.lock.fid)
 held-open (one-range w) = let p = w.of-file in (p.0, p.1, p.2)
 held-open (many-ranges r) = let p = r.held.first.of-file in (p.0, p.1, p.2)
-
--- of any call with a holder, on good tables: in the tables that it leaves
-pub holder-found : (connection : ℕ) (s : List ℕ) (t : Tables) (memory room : List ℕ) → Good t → (h : Holder) → (call connection s t memory room).holder ≡ held_by h
-    → HolderFound (call connection s t memory room).tables h
-holder-found connection s t memory room g h e =
-    let u = (call connection s t memory room).tables in
-    let ok = (take-message-good connection s t memory room g).sound in
-    let fit = held-fit connection s t memory room h e in
-    let o = held-open (where-then connection s t memory room g fit h ((holder-exact connection s t memory room g fit h).0 e)) in
-    let w = ((sound-plain u).0 ok).open-session o.0 o.1 in
-    record {
-      through = o.0;
-      listed = o.1;
-      of-fid = o.2;
-      no_other = λ p m f. numbered-same fid_of 64 (opens_of u) (sound-says u ok).records.fids m o.1 (f ∙ sym o.2);
-      session = w.0;
-      session-listed = w.1;
-      of-uid = w.2;
-      no-other-session = λ p m f. numbered-same uid_of 16 (sessions_of u) (sound-says u ok).records.uids m w.1 (f ∙ sym w.2);
-    }

@@ -137,7 +137,7 @@ module _ {t : Tables} {o : Open} {offset size : ℕ} {Clash : Lock → Type 0} (
 module _ (t : Tables) (ok : sound t ≡ true) (o : Open) (there-is : In o (opens_of t)) (q : Ask) (of : o.fid ≡ q.fid) {Clash : Lock → Type 0}
     (clashes : (l : Lock) → (bars q.purpose q l ≡ true) ↔ Clash l) (asks : (l : Lock) → answers (file_of (opens_of t)) q l ≡ in_way (file_of (opens_of t)) q l)
     (list : List Lock) (opened : Opened t list) where
-  abbrev file-of : ℕ → ℕ
+  abbrev pub file-of : ℕ → ℕ
   file-of n = file_of (opens_of t) n
 
   file-one : {p : Open} → In p (opens_of t) → file-of p.fid ≡ p.file
@@ -168,74 +168,20 @@ module _ (t : Tables) (ok : sound t ≡ true) (o : Open) (there-is : In o (opens
 -- ---- the ranges of a request, in order
 
 module _ (t : Tables) (ok : sound t ≡ true) (o : Open) (fid : ℕ) (there-is : In o (opens_of t)) (of : o.fid ≡ fid) (high : ℕ) (shared large : Bool) (area : List ℕ) where
-  abbrev files : ℕ → ℕ
+  abbrev pub files : ℕ → ℕ
   files n = file_of (opens_of t) n
 
-  abbrev range : ℕ → LockRange
+  abbrev pub range : ℕ → LockRange
   range k = of_header high (range_at large area k)
 
-  abbrev lock : LockRange → Lock
+  abbrev pub lock : LockRange → Lock
   lock r = lock_of fid shared r
 
-  abbrev test : ℕ → Lock → Bool
+  abbrev pub test : ℕ → Lock → Bool
   test k l = answers files (ask_of fid (Grant shared) (range k)) l
 
   -- the walk's test of the k-th range
-  test-exact : (k : ℕ) (list : List Lock) → Opened t list → (l : Lock) → In l list
+  pub test-exact : (k : ℕ) (list : List Lock) → Opened t list → (l : Lock) → In l list
       → (test k l ≡ true) ↔ Way t o (range_at large area k).offset (range_at large area k).length (λ m. (m.shared ≡ true) × (shared ≡ true) → ⊥) l
   unfolding of_header ask_of answers answers_for bars
   test-exact k list opened = asked-exact t ok o there-is (ask_of fid (Grant shared) (range k)) of (grant-bars shared) (λ l. refl) list opened
-
-  -- by what the walk of the first range finds
-  walk-held : (k n : ℕ) (list : List Lock) → Opened t list → (h : Holder) (x : Found) → found (test k) list ≡ x → (next : Grants)
-      → (next ≡ blocked h → RangeHeld t o fid high shared large area (suc k) n (list ++ (lock (range k) ∷ [])) h)
-      → after_walk x list next ≡ blocked h → RangeHeld t o fid high shared large area k (suc n) list h
-  unfolding after_walk ranges_at of_header
-  walk-held k n list opened h (At j) e next f g =
-      let same : holder_at list j ≡ h = cc in
-      record {
-        granted = 0;
-        fewer = omega arith;
-        standing = list;
-        earlier = none-to-grant;
-        first = rw (add-zero k) (rw same at (found_first (test k) list (test-exact k list opened) j e));
-      }
-  walk-held k n list opened h Nothing e next f g =
-      let w = f g in
-      let low : w.granted < n = w.fewer in
-      let place : suc k + w.granted ≡ k + suc w.granted = omega arith in
-      record {
-        granted = suc w.granted;
-        fewer = omega arith;
-        standing = w.standing;
-        earlier = grant-then (none_found (test k) list (test-exact k list opened) e) w.earlier;
-        first = rw place at w.first;
-      }
-
-  -- a request that is blocked is so by a range of its own, on the list as it then stands
-  pub blocked-held : (k n : ℕ) (list : List Lock) → Opened t list → (h : Holder) → grant_all files fid shared (map (of_header high) (ranges_at large area k n)) list ≡ blocked h
-      → RangeHeld t o fid high shared large area k n list h
-  unfolding grant_all ranges_at of_header
-  blocked-held k zero list opened h e = let z : ◌≡◌ {A = ℕ} 0 1 = cc in absurd (omega arith)
-  blocked-held k (suc n) list opened h e =
-      walk-held k n list opened h (found (test k) list) refl (grant_all files fid shared (map (of_header high) (ranges_at large area (suc k) n)) (list ++ (lock (range k) ∷ [])))
-      (λ f. blocked-held (suc k) n (list ++ (lock (range k) ∷ [])) (opened-more t ok o fid there-is of shared (range k) list opened) h f) e
-
-  -- and the other way round
-  held-from : (k n j : ℕ) {list standing : List Lock} → Opened t list → j < n → AllGranted t o fid shared (map (of_header high) (ranges_at large area k j)) list standing → {h : Holder}
-      → FirstInWay t o standing (range_at large area (k + j)).offset (range_at large area (k + j)).length (λ m. (m.shared ≡ true) × (shared ≡ true) → ⊥) h
-      → grant_all files fid shared (map (of_header high) (ranges_at large area k n)) list ≡ blocked h
-  unfolding grant_all ranges_at after_walk of_header
-  held-from k zero j opened low earlier first = absurd (let z : ⊥ = omega arith in z)
-  held-from k (suc n) zero {list} opened low none-to-grant {h} first =
-      let p = first-place (test k) list (test-exact k list opened) (rw (add-zero k) at first) in
-      rw p.0 (ap blocked p.1)
-  held-from k (suc n) (suc j) {list} opened low (grant-then free more) first =
-      let place : k + suc j ≡ suc k + j = omega arith in
-      let none : found (test k) list ≡ Nothing = found_none (test k) list (test-exact k list opened) free (found (test k) list) refl in
-      rw none
-      (held-from (suc k) n j (opened-more t ok o fid there-is of shared (range k) list opened) (let m : j < n = omega arith in m) more (rw place at first))
-
-  pub held-blocked : (k n : ℕ) (list : List Lock) → Opened t list → (h : Holder) → RangeHeld t o fid high shared large area k n list h
-      → grant_all files fid shared (map (of_header high) (ranges_at large area k n)) list ≡ blocked h
-  held-blocked k n list opened h r = held-from k n r.granted opened r.fewer r.earlier r.first

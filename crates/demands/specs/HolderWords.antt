@@ -118,19 +118,3 @@ first-stands w = record { in_list = w.in_list; stands-there = w.stands-there; of
 pub data HeldWhere (c : Caller) (t : Tables) (area : List ℕ) (h : Holder) : Type 0 where
   one-range : {o : Open} {offset size : ℕ} → Stands t o (locks_of t) offset size h → HeldWhere c t area h
   many-ranges : {f : LockingFields} → LockHeld c t f area h → HeldWhere c t area h
-
-pub held-where : (c : Caller) (t : Tables) (area : List ℕ) (body : Body) (h : Holder) → CommandHeld c t area body h → HeldWhere c t area h
-unfolding CommandHeld
-held-where c t area (LockingBody f) h r = many-ranges r
-held-where c t area (ReadBody f) h r = one-range (first-stands r.first)
-held-where c t area (WriteBody f) h r = one-range (first-stands r.first)
-held-where c t area (Close fid) h r = absurd r
-held-where c t area Logoff h r = absurd r
-held-where c t area TreeDisconnect h r = absurd r
-held-where c t area ProcessExit h r = absurd r
-held-where c t area (CoreReadBody f) h r = one-range (first-stands r.first)
-held-where c t area (CoreWriteBody f) h (write-held n r) = one-range (first-stands r.first)
-held-where c t area (CoreWriteBody f) h (size-held z r) = one-range (first-stands r.first)
-held-where c t area (LockByteRange f) h r = one-range (first-stands r.first)
-held-where c t area (UnlockByteRange f) h r = absurd r
-held-where c t area (OpenBody f) h r = absurd r

@@ -25,7 +25,8 @@ use Rattle.invariants.specs.Numbered.{numbered-same}
 use Rattle.invariants.specs.Shaped.{opens-with}
 use Rattle.invariants.specs.Sound.{Good, changes-most, size-most}
 use Rattle.invariants.specs.SoundParts.{sound-says}
-use Rattle.claims.specs.SoundPlain.{file_of-one, sound-plain}
+use Rattle.claims.specs.SoundPlain.{file_of-one}
+use Rattle.claims.proofs.SoundPlain.{sound-plain}
 use Rattle.message.specs.Contents.{size_of, contents}
 use Rattle.demands.specs.FileBytes.{contents-same, file-inside}
 use Rattle.demands.specs.LastRead.{LastRead, Reads, was_read, was-changed, was-opened, read_now, changed_in, after_event}
@@ -146,10 +147,10 @@ others-contents t u memory left file g full long others bytes x low different =
 -- ---- an open that has read
 
 module _ (t : Tables) (memory : List ℕ) (g : Good t) (through : Open) (listed : In through (opens_of t)) where
-  abbrev fid : ℕ
+  abbrev pub fid : ℕ
   fid = through.fid
 
-  abbrev after : Tables
+  abbrev pub after : Tables
   after = with_read t through.fid (changes_of t through.file)
 
   -- the open that has read is the one it was granted through
@@ -166,7 +167,7 @@ module _ (t : Tables) (memory : List ℕ) (g : Good t) (through : Open) (listed 
         stale = λ q. absurd (not-decided-twice false q refl);
       }
 
-  noted-kept : {reads : Reads} → Kept t memory reads → (o : Open) → In o (opens_of t) → (noting through.fid (changes_of t through.file) o).read ≡ true
+  pub noted-kept : {reads : Reads} → Kept t memory reads → (o : Open) → In o (opens_of t) → (noting through.fid (changes_of t through.file) o).read ≡ true
       → (r : LastRead) × (after_event (was_read through.fid) t memory reads (noting through.fid (changes_of t through.file) o).fid ≡ some r)
       × Agrees after memory (noting through.fid (changes_of t through.file) o) r
   unfolding after_event noting with_opens
@@ -181,7 +182,7 @@ module _ (t : Tables) (memory : List ℕ) (g : Good t) (through : Open) (listed 
             rw (ne_eqb o.fid through.fid n, ne_eqb o.fid through.fid n) (w.0, w.1, agrees-files refl w.2)
       ]
 
-  noted-unread : {reads : Reads} → Kept t memory reads → (o : Open) → In o (opens_of t) → (noting through.fid (changes_of t through.file) o).read ≡ false
+  pub noted-unread : {reads : Reads} → Kept t memory reads → (o : Open) → In o (opens_of t) → (noting through.fid (changes_of t through.file) o).read ≡ false
       → after_event (was_read through.fid) t memory reads (noting through.fid (changes_of t through.file) o).fid ≡ none
   unfolding after_event noting
   noted-unread {reads} k o m h =
@@ -191,16 +192,3 @@ module _ (t : Tables) (memory : List ℕ) (g : Good t) (through : Open) (listed 
             let unread : o.read ≡ false = rw (ne_eqb o.fid through.fid n) at h in
             rw (ne_eqb o.fid through.fid n, ne_eqb o.fid through.fid n) (k.unread o m unread)
       ]
-
-  pub read_kept : {reads : Reads} → Kept t memory reads → Kept after memory (after_event (was_read through.fid) t memory reads)
-  read_kept {reads} k =
-      record {
-        each = λ x m h.
-            let w = map-in (noting through.fid (changes_of t through.file)) (opens_of t) (rw (opens-with t (map (noting through.fid (changes_of t through.file)) (opens_of t))) at m) in
-            let read : (noting through.fid (changes_of t through.file) w.0).read ≡ true = ap (λ (y : Open). y.read) w.2 ∙ h in
-            rw w.2 at (noted-kept k w.0 w.1 read);
-        unread = λ x m h.
-            let w = map-in (noting through.fid (changes_of t through.file)) (opens_of t) (rw (opens-with t (map (noting through.fid (changes_of t through.file)) (opens_of t))) at m) in
-            let unread : (noting through.fid (changes_of t through.file) w.0).read ≡ false = ap (λ (y : Open). y.read) w.2 ∙ h in
-            rw w.2 at (noted-unread k w.0 w.1 unread);
-      }

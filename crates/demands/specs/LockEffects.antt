@@ -41,13 +41,13 @@ use Rattle.demands.specs.Admitted.{Admitted}
 use Rattle.demands.specs.LoneLock.{InWay, AnyLock, core_range, shared_in}
 use Rattle.demands.specs.LoneCall.{area-first, locking_fields, locking_area}
 use Rattle.demands.specs.LockWords.{TakenOut, Released, none-to-release, release-then, AllGranted, none-to-grant, grant-then}
-use Rattle.demands.specs.LockLeaves.{locking-leaves, core_lock, lock-range-leaves, unlock-range-leaves}
+use Rattle.demands.specs.LockLeaves.{core_lock}
 use Rattle.demands.specs.FileCommands.{as_core_lem}
 use Rattle.demands.specs.ReplyBytes.{PlainBlock, plain-block}
 use Rattle.demands.specs.CommandReasons.{Announced, ranges_by}
 use Rattle.demands.specs.ReasonCalls.{one-announced}
-use Rattle.demands.specs.DoneCall.{Carried, long-enough, past_open}
-use Rattle.demands.specs.CallEffects.{gives-body, the-command}
+use Rattle.demands.specs.DoneCall.{Carried, long-enough}
+use Rattle.demands.specs.CallEffects.{gives-body}
 use Rattle.demands.specs.WireFields.{sender_process, upper_half, FirstBlock, one-first, first_body, first-area}
 
 -- ---- the plain words
@@ -148,7 +148,7 @@ pub record UnlockRangeDone (connection : ℕ) (s : List ℕ) (t : Tables) (memor
   pub reply-ends : call.length ≡ 35
 
 -- tables that differ in locks alone have the same catalogue
-catalogue-stands : (t after : Tables) → after ≡ with_lock_list t after.locks after.nlocks → CatalogueStands t after
+pub catalogue-stands : (t after : Tables) → after ≡ with_lock_list t after.locks after.nlocks → CatalogueStands t after
 unfolding with_lock_list
 catalogue-stands t after e = (ap (λ (x : Tables). x.nnames) e, ap (λ (x : Tables). x.names) e)
 
@@ -182,7 +182,7 @@ module _ (s : List ℕ) where
   abbrev pub ranges_in : ℕ → ℕ → List LockRange
   ranges_in k m = ranges_by (sender_process s) (locking_fields s) area k m
 
-  range-on-by : (b : Bool) → large ≡ b → (n : ℕ) → n * range_size b ≤ byte_count s FIRST → (k : ℕ) → k < n → RangeOn s k (of_header (upper_half s) (range_at b area k))
+  pub range-on-by : (b : Bool) → large ≡ b → (n : ℕ) → n * range_size b ≤ byte_count s FIRST → (k : ℕ) → k < n → RangeOn s k (of_header (upper_half s) (range_at b area k))
   unfolding of_header range_at range_from number_at range_size
   range-on-by true e n fits k h =
       let low : k * 20 + 4 + 4 ≡ k * 20 + 8 = omega arith in
@@ -195,13 +195,6 @@ module _ (s : List ℕ) where
       short-range (omega arith) (ap (λ (n : ℕ). 65536 * upper_half s + n) (area-16 (k * 10) (omega arith))) (area-32 (k * 10) 2 (omega arith)) (area-32 (k * 10) 6 (omega arith))
 
   module _ (n : ℕ) (fits : n * range_size large ≤ byte_count s FIRST) where
-    pub range-on : (k : ℕ) → k < n → RangeOn s k (range_in k)
-    range-on = range-on-by large refl n fits
-
-    pub unlocked-from : (k m : ℕ) → k + m ≤ n → {list left : List Lock} → Released (fid_after_andx s FIRST) (ranges_in k m) list left → Unlocked s k m list left
-    unfolding ranges_at
-    unlocked-from k zero h none-to-release = none-to-unlock
-    unlocked-from k (suc m) h (release-then out more) = unlock-then (range-on k (omega arith)) out (unlocked-from (suc k) m (omega arith) more)
 
     pub granted-lock : (r : LockRange) → GrantedLock s r (lock_of (fid_after_andx s FIRST) (shared_in (locking_fields s)) r)
     unfolding lock_of
@@ -213,13 +206,6 @@ module _ (s : List ℕ) where
           of_length = refl;
           of-shared = (eqb-true (lock_type s FIRST % 2) 1, eq-eqb (lock_type s FIRST % 2) 1);
         }
-
-    pub locked-from : (t : Tables) (o : Open) (k m : ℕ) → k + m ≤ n → {list last : List Lock}
-        → AllGranted t o (fid_after_andx s FIRST) (shared_in (locking_fields s)) (ranges_in k m) list last → Locked s t o k m list last
-    unfolding ranges_at lock_of
-    locked-from t o k zero h none-to-grant = none-to-lock
-    locked-from t o k (suc m) h (grant-then free more) =
-        lock-then (range-on k (omega arith)) (granted-lock (range_in k)) free (locked-from t o (suc k) m (omega arith) more)
 
 -- all the ranges that a first block announces are in its byte area
 pub locking-fits : {s : List ℕ} {later : List Block} (q : FirstBlock s later) → header_command s ≡ LOCKING
@@ -233,117 +219,15 @@ locking-fits {s} {later} q e =
 
 -- ---- a message whose reading is one LOCKING, fit to be answered, on good tables, whose reply's Status is 0/0
 
-pub locking-reading : (connection : ℕ) (s : List ℕ) {span : Span} → Reading s (span ∷ []) → (t : Tables) (memory room : List ℕ) → Good t → Fit s t memory room
-    → status_read (take-message connection s t memory room).room ≡ status 0 0 → header_command s ≡ LOCKING
-    → LockingDone connection s t memory (take-message connection s t memory room)
-unfolding caller_of perform do_locking body_at blocks Announced
-locking-reading connection s r t memory room g fit z e =
-    let only = one-first r in
-    let b = only.block in
-    let c = caller_of connection s in
-    let f = locking_fields s in
-    let is : b.body ≡ LockingBody f = first_body only LOCKING e in
-    let same : area_of s b ≡ locking_area s = first-area only in
-    let ran = the-command connection s b only.is_read t memory room g fit z in
-    let given : do_locking c t memory f (locking_area s) ≡ done (take-message connection s t memory room).tables (take-message connection s t memory room).memory ran.said =
-    rw same at (gives-body c s b t memory (LockingBody f) is ran.given) in
-    let o = past_open c t f.fid _ given in
-    let announced : Announced (LockingBody f) (locking_area s) = rw (same, is) at (one-announced (read-chained s (header_command s) FIRST (b ∷ []) only.is_read)) in
-    let fits = locking-fits only e in
-    let l = locking-leaves c t memory fit.tables-sound f (locking_area s) o.0 o.1 (announced f refl) given in
-    record {
-      through = o.0;
-      admitted = o.1;
-      left = l.left;
-      unlocked = unlocked-from s (unlock_count s FIRST + lock_count s FIRST) fits 0 (unlock_count s FIRST) (omega arith) l.unlocked;
-      last = l.last;
-      locked = locked-from s (unlock_count s FIRST + lock_count s FIRST) fits t o.0 (unlock_count s FIRST) (lock_count s FIRST) (omega arith) l.all-locked;
-      not-over = l.not-over;
-      held = l.held;
-      other-tables = l.other-tables;
-      catalogue = catalogue-stands t _ l.other-tables;
-      whole = l.whole;
-      same_memory = l.same_memory;
-    }
-
 -- ---- a message whose reading is one LOCK_BYTE_RANGE or UNLOCK_BYTE_RANGE
-
--- the open that it is done through
-range-through : (c : Caller) (t : Tables) (memory : List ℕ) (f : RangeFields) (unlocks locks : ℕ) {u : Tables} {m : List ℕ} {said : Said} → do_range c t memory f unlocks locks ≡ done u m said
-    → (o : Open) × Admitted c t f.fid o
-unfolding do_range do_locking one_range
-range-through c t memory f unlocks locks e = let o = past_open c t f.fid _ (as_core_lem _ e).1 in (o.0, o.1)
 
 module _ (connection : ℕ) (s : List ℕ) {span : Span} (r : Reading s (span ∷ [])) (t : Tables) (memory room : List ℕ) (g : Good t) (fit : Fit s t memory room)
     (z : status_read (take-message connection s t memory room).room ≡ status 0 0) where
-  abbrev caller : Caller
+  abbrev pub caller : Caller
   caller = caller_of connection s
 
-  abbrev call : Taken
+  abbrev pub call : Taken
   call = take-message connection s t memory room
 
-  only : FirstBlock s []
+  pub only : FirstBlock s []
   only = one-first r
-
-  ran : Carried caller s only.block t memory room call
-  ran = the-command connection s only.block only.is_read t memory room g fit z
-
-  plain-reply : ran.said ≡ plain → PlainBlock call.room × (call.length ≡ 35)
-  unfolding reply_size
-  plain-reply e =
-      let w : call.room ≡ put room 0 (reply_header s success ++ reply_block plain FIRST no_link) = rw e at ran.reply in
-      (rw w (plain-block s (long-enough s fit.not-dropped) room), rw e at ran.reply-length)
-
-  pub lock-reading : header_command s ≡ LOCK_BYTE_RANGE → LockRangeDone connection s t memory call
-  unfolding caller_of perform body_at
-  lock-reading e =
-      let f = range_fields s FIRST in
-      let given : do_range caller t memory f 0 1 ≡ done call.tables call.memory ran.said =
-      gives-body caller s only.block t memory (LockByteRange f) (first_body only LOCK_BYTE_RANGE e) ran.given in
-      let o = range-through caller t memory f 0 1 given in
-      let l = lock-range-leaves caller t memory g.sound f o.0 o.1 given in
-      let said = plain-reply l.says in
-      record {
-        through = o.0;
-        admitted = o.1;
-        lock = core_lock caller f;
-        of-fid = refl;
-        of-process = refl;
-        of-offset = refl;
-        of_length = refl;
-        exclusive = refl;
-        free = l.free;
-        not-over = l.not-over;
-        held = l.held;
-        other-tables = l.other-tables;
-        catalogue = catalogue-stands t _ l.other-tables;
-        whole = l.whole;
-        same_memory = l.same_memory;
-        reply = said.0;
-        reply-ends = said.1;
-      }
-
-  pub unlock-reading : header_command s ≡ UNLOCK_BYTE_RANGE → UnlockRangeDone connection s t memory call
-  unfolding caller_of perform body_at
-  unlock-reading e =
-      let f = range_fields s FIRST in
-      let given : do_range caller t memory f 1 0 ≡ done call.tables call.memory ran.said =
-      gives-body caller s only.block t memory (UnlockByteRange f) (first_body only UNLOCK_BYTE_RANGE e) ran.given in
-      let o = range-through caller t memory f 1 0 given in
-      let l = unlock-range-leaves caller t memory g.sound f o.0 o.1 given in
-      let said = plain-reply l.says in
-      record {
-        through = o.0;
-        admitted = o.1;
-        range = core_range caller f;
-        of-process = refl;
-        of-offset = refl;
-        of_length = refl;
-        unlocked = l.unlocked;
-        other-tables = l.other-tables;
-        catalogue = catalogue-stands t _ l.other-tables;
-        whole = l.whole;
-        same_memory = l.same_memory;
-        reply = said.0;
-        reply-ends = said.1;
-      }

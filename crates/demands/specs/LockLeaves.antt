@@ -18,15 +18,15 @@ use Rattle.locks.specs.Request.{lock_of, ranges_of, release_all, Grants, granted
 use Rattle.soundness.specs.File.{file_of}
 use Rattle.soundness.specs.Sound.{sound}
 use Rattle.invariants.specs.Shaped.{locks-with}
-use Rattle.claims.specs.SoundPlain.{sound-plain}
+use Rattle.claims.proofs.SoundPlain.{sound-plain}
 use Rattle.chain.specs.declared.block.LockingFields.{LockingFields}
 use Rattle.chain.specs.declared.block.RangeFields.{RangeFields}
 use Rattle.message.specs.declared.caller.Caller.{Caller}
 use Rattle.message.specs.declared.refusal.Refusal.{Refusal}
 use Rattle.message.specs.declared.refusal.Refusal.TheVariants.{LockType}
 use Rattle.message.specs.Command.{Given, Said, locked, plain, refused, done, served_type, request_of, with_lock_list, locking_end, locking_after, do_locking, core_said, range_by, one_range, do_range}
-use Rattle.demands.specs.Admitted.{Admitted, admitted-may, with-open}
-use Rattle.demands.specs.LockWords.{never, TakenOut, Released, none-released, one-released, Releasing, all-released, one-unnamed, release-means, released-was, AllGranted, none-granted, one-granted, Opened, Granting, all-granted, one-blocked, grant-means}
+use Rattle.demands.specs.Admitted.{Admitted, with-open}
+use Rattle.demands.specs.LockWords.{never, TakenOut, Released, none-released, one-released, Releasing, all-released, one-unnamed, AllGranted, none-granted, one-granted, Opened, Granting, all-granted, one-blocked}
 use Rattle.demands.specs.LoneLock.{core_range, BarsRange, shared_in, range_back, exclusive-way}
 use Rattle.demands.specs.CommandReasons.{unlocks_in, locks_in}
 use Rattle.demands.specs.FileCommands.{as_core_lem}
@@ -52,22 +52,22 @@ pub record LocksLeft (c : Caller) (t : Tables) (memory : List ℕ) (f : LockingF
   pub says : said ≡ locked
 
 -- a command that is done was not refused on the way
-test-passed : (b : Bool) (why : Refusal) (g : Given) {u : Tables} {m : List ℕ} {said : Said} → cond b g (refused why) ≡ done u m said → g ≡ done u m said
+pub test-passed : (b : Bool) (why : Refusal) (g : Given) {u : Tables} {m : List ℕ} {said : Said} → cond b g (refused why) ≡ done u m said → g ≡ done u m said
 test-passed true why g e = e
 test-passed false why g e = never cc
 
 -- the file of a FID
-abbrev file-of : Tables → ℕ → ℕ
+abbrev pub file-of : Tables → ℕ → ℕ
 file-of t n = file_of (opens_of t) n
 
 -- what a request's result comes to
-abbrev ends : Tables → List ℕ → Result → Given
+abbrev pub ends : Tables → List ℕ → Result → Given
 ends t memory r = locking_after t memory (settle t.locks t.nlocks r)
 
 module _ (c : Caller) (t : Tables) (memory : List ℕ) (ok : sound t ≡ true) {u : Tables} {m : List ℕ} {said : Said} (f : LockingFields) (area : List ℕ) (o : Open)
     (a : Admitted c t f.fid o) where
   -- the list that is left stands in the tables, and nothing else is changed
-  list_left : {left last : List Lock} → Released f.fid (unlocks_in c f area) (locks_of t) left → AllGranted t o f.fid (shared_in f) (locks_in c f area) left last → length last ≤ 128
+  pub list_left : {left last : List Lock} → Released f.fid (unlocks_in c f area) (locks_of t) left → AllGranted t o f.fid (shared_in f) (locks_in c f area) left last → length last ≤ 128
       → done (with_locks t last) memory locked ≡ done u m said → LocksLeft c t memory f area o u m said
   unfolding with_lock_list with_locks
   list_left {left} {last} r g low e =
@@ -86,38 +86,6 @@ module _ (c : Caller) (t : Tables) (memory : List ℕ) (ok : sound t ≡ true) {
         same_memory = n;
         says = s;
       }
-
-  grants-left : {left : List Lock} → Released f.fid (unlocks_in c f area) (locks_of t) left → (x : Grants) → Granting t o f.fid (shared_in f) (locks_in c f area) left x
-      → ends t memory (after_grants x) ≡ done u m said → LocksLeft c t memory f area o u m said
-  unfolding after_grants settle locking_after locking_end with_lock_list with_locks
-  grants-left r (granted last) (all-granted g) e =
-      elim (decided (leb (length last) 128)) [
-        | inl b ↦ list_left r g (leb-true (length last) 128 b) (rw b at e)
-        | inr b ↦ let z = rw b at e in never cc
-      ]
-  grants-left r (blocked h) (one-blocked b) e = never cc
-
-  releases-left : (x : Option (List Lock)) → Releasing f.fid (unlocks_in c f area) (locks_of t) x
-      → ends t memory (after_releases (file-of t) f.fid (shared_in f) (locks_in c f area) x) ≡ done u m said → LocksLeft c t memory f area o u m said
-  unfolding after_releases settle locking_after locking_end Opened
-  releases-left none (one-unnamed n) e = never cc
-  releases-left (some left) (all-released r) e =
-      elim (decided (any range_passes (locks_in c f area))) [
-        | inl b ↦ let z = rw b at e in never cc
-        | inr b ↦ grants-left r (grant_all (file-of t) f.fid (shared_in f) (locks_in c f area) left)
-            (grant-means t ok o f.fid a.opened.listed a.opened.of-fid (shared_in f) (locks_in c f area) left
-            (λ l n. ((sound-plain t).0 ok).lock-open l (released-was r n)))
-            (rw b at e)
-      ]
-
-  -- "Unlocks go first, in order .. Then locks in order, each against the list as it stands": just that is left, and it is all that changes
-  pub locking-leaves : length area ≡ (f.unlocks + f.locks) * range_size (eqb (f.kind / 16 % 2) 1) → do_locking c t memory f area ≡ done u m said → LocksLeft c t memory f area o u m said
-  unfolding do_locking request_of locking ranges_of request
-  locking-leaves announced e =
-      let w = admitted-may c t f.fid ok o a in
-      let h = test-passed (served_type f.kind) LockType _ (sym (with-open c t f.fid w.0 _ w.1) ∙ e) in
-      releases-left (release_all (file-of t) f.fid (unlocks_in c f area) (locks_of t)) (release-means (file-of t) f.fid (unlocks_in c f area) (locks_of t))
-      (rw (eq-eqb (length area) ((f.unlocks + f.locks) * range_size (eqb (f.kind / 16 % 2) 1)) announced) at h)
 
 -- ---- the core commands (document 02, CR 3): "the rules of their AndX counterparts, the process from the header; the lock is exclusive"
 
@@ -146,44 +114,3 @@ pub record RangeUnlocked (c : Caller) (t : Tables) (memory : List ℕ) (f : Rang
   pub whole : after ≡ with_locks t (locks_of after)
   pub same_memory : left ≡ memory
   pub says : said ≡ plain
-
-module _ (c : Caller) (t : Tables) (memory : List ℕ) (ok : sound t ≡ true) {u : Tables} {m : List ℕ} {said : Said} (f : RangeFields) (o : Open) (a : Admitted c t f.fid o) where
-  -- the LOCKING of one range
-  one_left : (unlocks locks : ℕ) → (unlocks + locks) * 10 ≡ 10 → do_range c t memory f unlocks locks ≡ done u m said
-      → (x : Said) × LocksLeft c t memory (one_range f unlocks locks) (small_form (range_by c f)) o u m x × (said ≡ core_said x)
-  unfolding do_range one_range small_form range_size
-  one_left unlocks locks n e =
-      let d = as_core_lem (do_locking c t memory (one_range f unlocks locks) (small_form (range_by c f))) e in
-      (d.0, locking-leaves c t memory ok (one_range f unlocks locks) (small_form (range_by c f)) o a (sym n) d.1, d.2)
-
-  pub lock-range-leaves : do_range c t memory f 0 1 ≡ done u m said → RangeLocked c t memory f o u m said
-  unfolding one_range ranges_at lock_of core_said
-  lock-range-leaves e =
-      let d = one_left 0 1 refl e in
-      let l = d.1 in
-      let w = rw (range_back c f, none-released l.unlocked refl) at (one-granted l.all-locked) in
-      let more = length-append (locks_of t) (core_lock c f ∷ []) in
-      let most : length (locks_of t ++ (core_lock c f ∷ [])) ≤ 128 = rw w.1 at l.not-over in
-      record {
-        free = λ x. w.0 (exclusive-way.1 x);
-        not-over = omega arith;
-        held = l.held ∙ w.1;
-        other-tables = l.other-tables;
-        whole = l.whole ∙ ap (with_locks t) w.1;
-        same_memory = l.same_memory;
-        says = d.2 ∙ ap core_said l.says;
-      }
-
-  pub unlock-range-leaves : do_range c t memory f 1 0 ≡ done u m said → RangeUnlocked c t memory f u m said
-  unfolding one_range ranges_at core_said
-  unlock-range-leaves e =
-      let d = one_left 1 0 refl e in
-      let l = d.1 in
-      let same : locks_of u ≡ l.left = l.held ∙ none-granted l.all-locked refl in
-      record {
-        unlocked = rw same (one-released (rw (range_back c f) at l.unlocked));
-        other-tables = l.other-tables;
-        whole = l.whole ∙ ap (with_locks t) (sym l.held);
-        same_memory = l.same_memory;
-        says = d.2 ∙ ap core_said l.says;
-      }

@@ -29,7 +29,8 @@ use Rattle.soundness.specs.File.{file_of}
 use Rattle.soundness.specs.Sound.{sound}
 use Rattle.soundness.specs.Lookup.{is_tree}
 use Rattle.invariants.specs.SoundParts.{sound-says}
-use Rattle.claims.specs.SoundPlain.{file_of-one, sound-plain}
+use Rattle.claims.specs.SoundPlain.{file_of-one}
+use Rattle.claims.proofs.SoundPlain.{sound-plain}
 use Rattle.chain.specs.declared.block.LockingFields.{LockingFields}
 use Rattle.chain.specs.declared.block.ReadFields.{ReadFields}
 use Rattle.chain.specs.declared.block.WriteFields.{WriteFields}
@@ -357,16 +358,3 @@ exclusive-way = (
   λ w. record { lock = w.lock; listed = w.listed; of-file = w.of-file; overlap = w.overlap; clash = tt },
   λ w. record { lock = w.lock; listed = w.listed; of-file = w.of-file; overlap = w.overlap; clash = any-clash w.lock },
 )
-
--- demand 2's lock alone in its request, "of a served type, .. and within range": a LOCK_BYTE_RANGE is always that
-pub range-conflict : (c : Caller) (t : Tables) (memory : List ℕ) (k : ℕ) → sound t ≡ true → (f : RangeFields) (may : May c t f.fid k)
-    → Conflicts (do_range c t memory f 0 1) ↔ BarsRange c t f (asked c t f.fid k may)
-unfolding do_range one_range small_form served_type range_size range_passes passes_end
-range-conflict c t memory k ok f may =
-    let area = small_form (range_by c f) in
-    let g = do_locking c t memory (one_range f 0 1) area in
-    let within = le-ltb (2 ^ 64) (f.offset % 4294967296 + f.length % 4294967296) (omega arith) in
-    let q = lock-conflict c t memory k ok (one_range f 0 1) area may refl refl refl refl (rw (lone-back c f) within) in (
-      λ h. exclusive-way.0 (rw (lone-back c f) at (q.0 ((core-conflict g).0 h))),
-      λ w. (core-conflict g).1 (q.1 (rw (lone-back c f) (exclusive-way.1 w))),
-    )

@@ -77,7 +77,7 @@ dropped-holds s (is-reply h) =
 pub dropped-exact : (s : List ℕ) → (dropped s ≡ true) ↔ Dropped s
 dropped-exact s = (dropped-says s, dropped-holds s)
 
-kept-says : (s : List ℕ) → dropped s ≡ false → Dropped s → ⊥
+pub kept-says : (s : List ℕ) → dropped s ≡ false → Dropped s → ⊥
 kept-says s e h = not-decided-twice (dropped s) (dropped-holds s h) e
 
 kept-holds : (s : List ℕ) → (Dropped s → ⊥) → dropped s ≡ false
@@ -115,14 +115,8 @@ module _ (connection : ℕ) (s : List ℕ) (t : Tables) (memory room : List ℕ)
   take-message-given (message-done a b c d) = rw (le-ltb (length room) 12292 a, eq-eqb (length memory) 65536 b, c, kept-holds s d)
 
   -- "Fit to be answered: rows 1, 2 and 4 don't apply": exactly then the number is 0
-  done-fit : {n : ℕ} → MessageReason s t memory room n → n ≡ 0 → Fit s t memory room
+  pub done-fit : {n : ℕ} → MessageReason s t memory room n → n ≡ 0 → Fit s t memory room
   done-fit (message-room a) e = absurd (let z : ⊥ = omega arith in z)
   done-fit (message-unsound a b c) e = absurd (let z : ⊥ = omega arith in z)
   done-fit (message-dropped a b c d) e = absurd (let z : ⊥ = omega arith in z)
   done-fit (message-done a b c d) e = record { room-enough = a; memory-whole = b; tables-sound = c; not-dropped = kept-holds s d }
-
-  pub done-exact : ((take-message connection s t memory room).number ≡ 0) ↔ Fit s t memory room
-  done-exact = (
-    λ e. done-fit take-message-reason e,
-    λ f. take-message-given (message-done f.room-enough f.memory-whole f.tables-sound (kept-says s f.not-dropped)),
-  )

@@ -34,7 +34,6 @@ use Rattle.invariants.specs.GivenCases.{cond-case, request-case, session-case, t
 use Rattle.demands.specs.Malformed.{not-served}
 use Rattle.invariants.specs.Fit.{Fit}
 use Rattle.demands.specs.StatusRead.{status_read}
-use Rattle.demands.specs.Calls.{status-call}
 
 -- "Known: a request served": "CLOSE 0x04, PROCESS_EXIT 0x11, LOCKING_ANDX 0x24, READ_ANDX 0x2E, WRITE_ANDX 0x2F, TREE_DISCONNECT 0x71, LOGOFF_ANDX 0x74", and document
 -- 02, CR 3: "READ 0x0A, WRITE 0x0B, LOCK_BYTE_RANGE 0x0C and UNLOCK_BYTE_RANGE 0x0D"; CR 6: "OPEN_ANDX 0x2D"
@@ -52,7 +51,7 @@ pub data Known : ℕ → Type 0 where
   known-unlock : Known 0x0D
   known-open : Known 0x2D
 
-known-served : {command : ℕ} → Known command → served command ≡ true
+pub known-served : {command : ℕ} → Known command → served command ≡ true
 unfolding served
 known-served known-close = refl
 known-served known-exit = refl
@@ -67,58 +66,16 @@ known-served known-lock = refl
 known-served known-unlock = refl
 known-served known-open = refl
 
-is_known : (command k : ℕ) → Known k → eqb command k ≡ true → Known command
+pub is_known : (command k : ℕ) → Known k → eqb command k ≡ true → Known command
 is_known command k h e = rw (eqb-true command k e) h
 
-served-known : (command : ℕ) → served command ≡ true → Known command
-unfolding served
-served-known command e =
-    elim (either-holds (eqb command LOCKING) _ e) [
-      | inl a ↦ is_known command LOCKING known-locking a
-      | inr e ↦ elim (either-holds (eqb command READ) _ e) [
-        | inl a ↦ is_known command READ known_read a
-        | inr e ↦ elim (either-holds (eqb command WRITE) _ e) [
-          | inl a ↦ is_known command WRITE known-write a
-          | inr e ↦ elim (either-holds (eqb command CLOSE) _ e) [
-            | inl a ↦ is_known command CLOSE known-close a
-            | inr e ↦ elim (either-holds (eqb command LOGOFF) _ e) [
-              | inl a ↦ is_known command LOGOFF known-logoff a
-              | inr e ↦ elim (either-holds (eqb command TREE_DISCONNECT) _ e) [
-                | inl a ↦ is_known command TREE_DISCONNECT known-disconnect a
-                | inr e ↦ elim (either-holds (eqb command PROCESS_EXIT) _ e) [
-                  | inl a ↦ is_known command PROCESS_EXIT known-exit a
-                  | inr e ↦ elim (either-holds (eqb command CORE-READ) _ e) [
-                    | inl a ↦ is_known command CORE-READ known-core-read a
-                    | inr e ↦ elim (either-holds (eqb command CORE-WRITE) _ e) [
-                      | inl a ↦ is_known command CORE-WRITE known-core-write a
-                      | inr e ↦ elim (either-holds (eqb command LOCK_BYTE_RANGE) _ e) [
-                        | inl a ↦ is_known command LOCK_BYTE_RANGE known-lock a
-                        | inr e ↦ elim (either-holds (eqb command UNLOCK_BYTE_RANGE) (eqb command OPEN) e) [
-                          | inl a ↦ is_known command UNLOCK_BYTE_RANGE known-unlock a
-                          | inr a ↦ is_known command OPEN known-open a
-                        ]
-                      ]
-                    ]
-                  ]
-                ]
-              ]
-            ]
-          ]
-        ]
-      ]
-    ]
-
--- the twelve are those served
-pub known-exact : (command : ℕ) → (served command ≡ true) ↔ Known command
-known-exact command = (served-known command, known-served)
-
 -- the code that a command ends with
-unfoldable code_of : Given → ℕ
+unfoldable pub code_of : Given → ℕ
 code_of (refused why) = (status_of why).code
 code_of (done t memory said) = 0
 
 -- it is not 22
-abbrev Begun : Given → Type 0
+abbrev pub Begun : Given → Type 0
 Begun g = code_of g ≡ 22 → ⊥
 
 module _ (c : Caller) (t : Tables) (memory : List ℕ) where
@@ -210,17 +167,7 @@ chain-begun c s none t memory = λ e. omega arith
 chain-begun c s (some bs) t memory = run-begun c s NOBODY bs FIRST t memory
 
 -- a message with a served command is not answered 2/22
-served-begun : (connection : ℕ) (s : List ℕ) (t : Tables) (memory : List ℕ) → served (header_command s) ≡ true → (answered connection s t memory).forms.status ≡ status 2 22 → ⊥
+pub served-begun : (connection : ℕ) (s : List ℕ) (t : Tables) (memory : List ℕ) → served (header_command s) ≡ true → (answered connection s t memory).forms.status ≡ status 2 22 → ⊥
 unfolding answered status
 served-begun connection s t memory e =
     rw e (λ h. chain-begun (caller_of connection s) s (blocks s) t memory (ap (λ (x : Status). x.code) h))
-
--- "2/22 header command not served": a message fit to be answered is so answered exactly if the header's command is none of the twelve
-pub not-served-exact : (connection : ℕ) (s : List ℕ) (t : Tables) (memory room : List ℕ) → Fit s t memory room
-    → (status_read (take-message connection s t memory room).room ≡ status 2 22) ↔ (Known (header_command s) → ⊥)
-unfolding only_status forms_of
-not-served-exact connection s t memory room f =
-    let same = status-call connection s t memory room f in (
-      λ h k. served-begun connection s t memory (known-served k) (sym same ∙ h),
-      λ n. same ∙ ap (λ (r : Ran). r.forms.status) (not-served connection s t memory (fails (served (header_command s)) (λ e. n (served-known (header_command s) e)))),
-    )

@@ -16,7 +16,8 @@ use Rattle.chain.specs.declared.block.Block.{Block}
 use Rattle.chain.specs.declared.block.Next.{Next}
 use Rattle.chain.specs.declared.block.Next.TheVariants.{End, Follow}
 use Rattle.invariants.specs.BlockParse.{body_at, block_at, block_inside, block-served, behind}
-use Rattle.readings.specs.Moved.{Moved, moved-block, moved-body}
+use Rattle.readings.specs.Moved.{Moved}
+use Rattle.readings.proofs.Moved.{moved-block, moved-body}
 use Rattle.invariants.specs.ReaderSound.{span_of}
 use Rattle.readings.specs.ReaderComplete.{reader-complete}
 use Rattle.invariants.specs.Chained.{Chained, chained-end, chained_more, read-chained}
@@ -34,7 +35,7 @@ use Rattle.message.specs.Message.{area_of, data_of, Ran, after, link_to, after_g
 use Rattle.message.specs.declared.refusal.Refusal.{Refusal}
 use Rattle.message.specs.JustOpened.{NOBODY, opened_by, body_meant}
 use Rattle.lists.specs.Truth.{fails}
-use Rattle.claims.specs.StatusList.{none-zero}
+use Rattle.claims.proofs.StatusList.{none-zero}
 use Rattle.demands.specs.StatusRead.{succeeded, zero-succeeded}
 use Rattle.demands.specs.PerformMoved.{meant-moved, perform-body, perform_bytes}
 use Rattle.demands.specs.Returned.{returned_fid, reply-returned, reply-none, Small, small-said, perform-small}

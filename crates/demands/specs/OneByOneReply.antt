@@ -20,7 +20,8 @@ use Rattle.message.specs.Reply.{two, four, nt_bit, status_number, reply_header}
 use Rattle.message.specs.Message.{Ran, answered, reply_of}
 use Rattle.invariants.specs.ReplySize.{length-header}
 use Rattle.message.specs.JustOpened.{NOBODY}
-use Rattle.claims.specs.StatusList.{Ended, answered-ended, ended-says}
+use Rattle.claims.specs.StatusList.{Ended, answered-ended}
+use Rattle.claims.proofs.StatusList.{ended-says}
 use Rattle.demands.specs.StatusRead.{succeeded, zero-succeeded}
 use Rattle.demands.specs.Alone.{length-alone-more}
 use Rattle.demands.specs.Returned.{returned_fid}

@@ -19,7 +19,8 @@ use Rattle.chain.specs.declared.block.Next.TheVariants.{End}
 use Rattle.invariants.specs.BlockParse.{block_inside, block_size, andx-words, plain-not-andx}
 use Rattle.invariants.specs.ReaderSound.{span_of}
 use Rattle.invariants.specs.Fit.{Fit, fit-answered}
-use Rattle.readings.specs.Moved.{Moved, moved-fid}
+use Rattle.readings.specs.Moved.{Moved}
+use Rattle.readings.proofs.Moved.{moved-fid}
 use Rattle.invariants.specs.Numbered.{numbered_within}
 use Rattle.invariants.specs.SoundParts.{sound-says}
 use Rattle.message.specs.Refusal.{success, forms_of, holder_of}
@@ -144,58 +145,18 @@ open-returns connection s t memory room d =
 -- ---- what a separate READ carries
 
 module _ (s : List ℕ) {spans : List Span} (r : Reading s spans) (small : length s ≤ 8192) (x : Span) (i : In x spans) (just : ℕ) where
-  stands : Stands s x
+  pub stands : Stands s x
   stands = stands-in r (omega arith) x i
 
-  abbrev as_block : Block
+  abbrev pub as_block : Block
   as_block = record { command = x.command; at = x.place; length = x.size; body = Logoff; next = End }
 
-  moved : Moved s x.place (alone_span s x) FIRST x.command
-  unfolding span_of
-  moved = rw (← alone-span s as_block) (alone-moved as_block stands.is_block stands.so-long stands.behind small)
-
-  its-command : header_command (alone_span s x) ≡ x.command
-  unfolding span_of
-  its-command =
-      let inside = block_inside stands.is_block in
-      let low = stands.behind in
-      rw (← alone-span s as_block) (alone-command s as_block (omega arith))
-
-  its-length : length (alone_span s x) ≡ 32 + x.size
-  unfolding span_of
-  its-length =
-      let inside = block_inside stands.is_block in
-      let low = stands.behind in
-      let z = stands.so-long in
-      rw (← alone-span s as_block) (length-alone s as_block (omega arith) (omega arith))
-
-  named : x.command ≡ READ → NamedAndx x.command
+  pub named : x.command ≡ READ → NamedAndx x.command
   named e = rw e read-andx
-
-  its-fid : x.command ≡ READ → fid_after_andx (alone_span s x) FIRST ≡ fid_after_andx s x.place
-  its-fid e = moved-fid moved (named e) (λ f. omega arith) (andx-words stands.is_block (named e))
-
-  -- "for 0xFFFF": the FID returned stands where it had 0xFFFF, and every other byte is as it was
-  pub carries-returned : x.command ≡ READ → fid_after_andx s x.place ≡ NOBODY → just < 65536 → fid_after_andx (own_span s just x) FIRST ≡ just
-  unfolding own_span
-  carries-returned e f low =
-      let w : 2 ≤ word_count s x.place = andx-words stands.is_block (named e) in
-      let n : length (alone_span s x) ≡ 32 + x.size = its-length in
-      let z : x.size ≡ block_size s x.place = stands.so-long in
-      carried-fid just (alone_span s x) (asks-opened (alone_span s x) (its-command ∙ e) (its-fid e ∙ f)) low (omega arith)
 
   pub carries-rest : (k : ℕ) → (k ≡ 37 → ⊥) → (k ≡ 38 → ⊥) → byte_at (own_span s just x) k ≡ byte_at (alone_span s x) k
   unfolding own_span
   carries-rest k p q = carrying-byte just (alone_span s x) k p q
-
-  -- "and only then": another command's message, and that of a READ with another FID, is as document 01 says
-  pub carries-nothing : (x.command ≡ READ → fid_after_andx s x.place ≡ NOBODY → ⊥) → own_span s just x ≡ alone_span s x
-  unfolding own_span
-  carries-nothing n =
-      elim (ℕ_discrete x.command READ) [
-        | yes e ↦ carrying-named just (alone_span s x) (λ f. n e (sym (its-fid e) ∙ f))
-        | no d ↦ carrying-other just (alone_span s x) (λ f. d (sym its-command ∙ f))
-      ]
 
 -- ---- anywhere else it is an unknown FID
 

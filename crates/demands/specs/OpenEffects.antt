@@ -34,10 +34,10 @@ use Rattle.message.specs.Reply.{reply_header, reply_block, reply_size}
 use Rattle.message.specs.Message.{area_of, Taken, take-message}
 use Rattle.demands.specs.StatusRead.{status_read}
 use Rattle.demands.specs.Sharing.{KeptOut}
-use Rattle.demands.specs.OpenReasons.{OpenPermitted, opened-passed, passed_is}
+use Rattle.demands.specs.OpenReasons.{OpenPermitted}
 use Rattle.demands.specs.ReplyBytes.{OpenBlock, open_block}
 use Rattle.demands.specs.DoneCall.{Carried, long-enough}
-use Rattle.demands.specs.CallEffects.{gives-body, the-command}
+use Rattle.demands.specs.CallEffects.{gives-body}
 use Rattle.demands.specs.WireFields.{sender_process, open_name, FirstBlock, one-first, first_body, first-name}
 
 -- ---- the plain words
@@ -76,7 +76,7 @@ pub record OpenLeft (c : Caller) (t : Tables) (memory : List ℕ) (f : OpenField
   pub same_memory : left ≡ memory
   pub says : said ≡ opened_said f.full new.fid (size_of t file) f.access
 
-open-added : (c : Caller) (t : Tables) (f : OpenFields) (file : ℕ) → t.nopens < 64
+pub open-added : (c : Caller) (t : Tables) (f : OpenFields) (file : ℕ) → t.nopens < 64
     → OpenAdded c.uid c.tid c.process f.access f.sharing t file (with_opens t (opens_of t ++ (open_by c t f file ∷ []))) (open_by c t f file)
 unfolding with_opens open_by
 open-added c t f file room =
@@ -100,18 +100,6 @@ open-added c t f file room =
       whole = refl;
     }
 
-pub opening-leaves : (c : Caller) (t : Tables) (memory : List ℕ) → sound t ≡ true → (f : OpenFields) (name : List ℕ) {u : Tables} {m : List ℕ} {said : Said}
-    → do_open c t memory f name ≡ done u m said → OpenLeft c t memory f name u m said
-unfolding status_in
-opening-leaves c t memory ok f name {u} {m} {said} e =
-    let p = opened-passed c t memory ok f name (ap status_in e) in
-    let d = passed_is c t memory ok f name p in
-    let new = open_by c t f p.file in
-    let after : with_opens t (opens_of t ++ (new ∷ [])) ≡ u = cc in
-    let left : m ≡ memory = cc in
-    let says : said ≡ opened_said f.full new.fid (size_of t p.file) f.access = cc in
-    record { file = p.file; passed = p.passed; shared = p.shared; new = new; added = subst (λ (x : Tables). OpenAdded c.uid c.tid c.process f.access f.sharing t p.file x new) after (open-added c t f p.file p.room); same_memory = left; says = says }
-
 -- ---- the call
 
 -- what the call leaves and says: by the message's bytes, Flags' bit 0 standing at 37 and AccessMode at 39
@@ -127,61 +115,20 @@ pub record OpenDone (connection : ℕ) (s : List ℕ) (t : Tables) (memory : Lis
   pub full-reply : open_flags s FIRST % 2 ≡ 1 → OpenBlock new.fid (size_of t file) (access_mode s FIRST % 8) 1 call.room
   pub reply-ends : call.length ≡ 65
 
-said-size : (full : Bool) (fid size access : ℕ) → reply_size (opened_said full fid size access) ≡ 33
+pub said-size : (full : Bool) (fid size access : ℕ) → reply_size (opened_said full fid size access) ≡ 33
 unfolding opened_said reply_size
 said-size true fid size access = refl
 said-size false fid size access = refl
 
 -- its block, by Flags' bit 0
-module _ (s : List ℕ) (long : 32 ≤ length s) (room : List ℕ) (full : Bool) where
-  short-block : full ≡ false → (fid size access : ℕ) → fid < 65536
-      → OpenBlock fid 0 0 0 (put room 0 (reply_header s success ++ reply_block (opened_said full fid size access) FIRST no_link))
-  unfolding opened_said
-  short-block e fid size access few = rw e (open_block s long room fid 0 0 0 few (omega arith) (omega arith) (omega arith))
-
-  full_block : full ≡ true → (fid size access : ℕ) → fid < 65536 → size < 65536 → access < 65536
-      → OpenBlock fid size access 1 (put room 0 (reply_header s success ++ reply_block (opened_said full fid size access) FIRST no_link))
-  unfolding opened_said
-  full_block e fid size access few small low = rw e (open_block s long room fid size access 1 few small low (omega arith))
 
 module _ (connection : ℕ) (s : List ℕ) {span : Span} (r : Reading s (span ∷ [])) (t : Tables) (memory room : List ℕ) (g : Good t) (fit : Fit s t memory room)
     (z : status_read (take-message connection s t memory room).room ≡ status 0 0) where
-  abbrev caller : Caller
+  abbrev pub caller : Caller
   caller = caller_of connection s
 
-  abbrev call : Taken
+  abbrev pub call : Taken
   call = take-message connection s t memory room
 
-  only : FirstBlock s []
+  pub only : FirstBlock s []
   only = one-first r
-
-  ran : Carried caller s only.block t memory room call
-  ran = the-command connection s only.block only.is_read t memory room g fit z
-
-  pub open-reading : header_command s ≡ OPEN → OpenDone connection s t memory call
-  unfolding caller_of perform body_at opened_said
-  open-reading e =
-      let f = open_fields s FIRST in
-      let b = only.block in
-      let name : name_asked (area_of s b) ≡ open_name s = first-name only in
-      let given : do_open caller t memory f (open_name s) ≡ done call.tables call.memory ran.said =
-      rw name at (gives-body caller s b t memory (OpenBody f) (first_body only OPEN e) ran.given) in
-      let l = opening-leaves caller t memory g.sound f (open_name s) given in
-      let long = long-enough s fit.not-dropped in
-      let low : l.new.fid ≤ 64 = l.added.given_out.high in
-      let most : size_of t l.file ≤ 4096 = size-most t l.file (sound-says t g.sound) in
-      let reply : call.room ≡ put room 0 (reply_header s success ++ reply_block (opened_said f.full l.new.fid (size_of t l.file) f.access) FIRST no_link) =
-      rw l.says at ran.reply in
-      record {
-        file = l.file;
-        passed = l.passed;
-        shared = l.shared;
-        new = l.new;
-        added = l.added;
-        same_memory = l.same_memory;
-        short-reply = λ n. subst (OpenBlock l.new.fid 0 0 0) (sym reply)
-            (short-block s long room f.full (ne_eqb (open_flags s FIRST % 2) 1 n) l.new.fid (size_of t l.file) f.access (omega arith));
-        full-reply = λ n. subst (OpenBlock l.new.fid (size_of t l.file) f.access 1) (sym reply)
-            (full_block s long room f.full (eq-eqb (open_flags s FIRST % 2) 1 n) l.new.fid (size_of t l.file) f.access (omega arith) (omega arith) (omega arith));
-        reply-ends = ran.reply-length ∙ rw l.says (ap (λ (n : ℕ). 32 + n) (said-size f.full l.new.fid (size_of t l.file) f.access));
-      }

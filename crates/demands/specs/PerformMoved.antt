@@ -20,7 +20,8 @@ use Rattle.chain.specs.declared.block.Body.{Body}
 use Rattle.chain.specs.declared.block.Body.TheVariants.{Locking, Read, Write, Close, Logoff, TreeDisconnect, ProcessExit, CoreRead, CoreWrite, LockByteRange, UnlockByteRange, Open}
 use Rattle.invariants.specs.BlockParse.{body_at}
 use Rattle.readings.specs.Moved.{Moved, moved_body}
-use Rattle.readings.specs.MovedBytes.{part, area_at, moved-area-length, moved-range-list, moved-marked-area, moved-name-area, moved-data-part}
+use Rattle.readings.specs.MovedBytes.{part, area_at}
+use Rattle.readings.proofs.MovedBytes.{moved-area-length, moved-range-list, moved-marked-area, moved-name-area, moved-data-part}
 use Rattle.message.specs.declared.caller.Caller.{Caller}
 use Rattle.message.specs.JustOpened.{body_meant}
 use Rattle.message.specs.Command.{request_of, do_locking, do_write, do_set_size, do_core_write, perform}

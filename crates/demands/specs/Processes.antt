@@ -44,9 +44,8 @@ use Rattle.demands.specs.LockWords.{Named}
 use Rattle.demands.specs.CoreReasons.{unlock-unnamed}
 use Rattle.demands.specs.CommandReasons.{OnlyTwoBits}
 use Rattle.demands.specs.WireFields.{sender_process, upper_half, read_from, write_from, one-first}
-use Rattle.demands.specs.LockEffects.{short_at, long_at, RangeOn, short-range, long-range, GrantedLock, Unlocked, none-to-unlock, unlock-then, Locked, none-to-lock, lock-then, LockingDone, range_in, range-on, locking-fits}
-use Rattle.demands.specs.FirstReadings.{first-read-reading, first-write-reading, first-core-read-reading, first-core-write-reading, unlock-exact}
-use Rattle.demands.specs.LockReasons.{unlock-none, reason-unnamed, locking-reason-exact}
+use Rattle.demands.specs.LockEffects.{short_at, long_at, RangeOn, short-range, long-range, GrantedLock, Unlocked, none-to-unlock, unlock-then, Locked, none-to-lock, lock-then, LockingDone, range_in, locking-fits}
+use Rattle.demands.specs.LockReasons.{unlock-none, reason-unnamed}
 
 -- ---- the plain words
 
@@ -82,7 +81,7 @@ module _ (s : List ℕ) (b : Bytes s) where
   upper-half = let low = half 26 in omega arith
 
   -- a range's process has PIDHigh above its 16 bits
-  range-upper : {k : ℕ} {r : LockRange} → RangeOn s k r → r.process / 65536 ≡ le16_at s 12
+  pub range-upper : {k : ℕ} {r : LockRange} → RangeOn s k r → r.process / 65536 ≡ le16_at s 12
   range-upper {k} (short-range z e _ _) = let low = half (short_at s k) in let high = upper-half in omega arith
   range-upper {k} (long-range z e _ _) = let low = half (long_at s k) in let high = upper-half in omega arith
 
@@ -121,99 +120,9 @@ module _ (s t : List ℕ) (b : Bytes s) (d : Bytes t) where
     pub other-process : sender_process s ≡ sender_process t → ⊥
     other-process e = u.other-high (same-process.0 e).0
 
-    -- "An owner is a FID with a process": they are different owners
-    pub not_own : (fid : ℕ) (l : Lock) → Owner fid (sender_process s) l → Owner fid (sender_process t) l → ⊥
-    not_own fid l o q = other-process (sym o.1 ∙ q.1)
-
 -- ---- locks of the one against requests of the other
 
-module _ (connection : ℕ) (s other : List ℕ) (b : Bytes s) (d : Bytes other) (u : UpperHalvesDiffer other s) {spans : List Span} (r : Reading s spans) (t : Tables) (memory room : List ℕ)
-    (fit : Fit s t memory room) (o : Open) (valid : Admitted (caller_of connection s) t (fid_after_andx s FIRST) o) (l : Lock) (listed : In l (locks_of t))
-    (owner : Owner (fid_after_andx s FIRST) (sender_process other) l) (exclusive : l.shared ≡ false) where
-  -- an exclusive lock of the one, through the same FID, bars the other's read over it
-  pub bars-read : header_command s ≡ READ → (o.access ≡ 1 → ⊥) → Overlap l.offset l.length (read_from s) (read_max s FIRST)
-      → FirstConflict (take-message connection s t memory room)
-  bars-read e access over =
-      (first-read-reading connection s r t memory room fit o valid e access).1
-      (record {
-        lock = l;
-        listed = listed;
-        of-file = (o, valid.opened.listed, valid.opened.of-fid ∙ sym owner.0, refl);
-        overlap = over;
-        clash = (exclusive, not_own other s d b u (fid_after_andx s FIRST) l owner);
-      })
-
-  -- and a write
-  pub bars-write : header_command s ≡ WRITE → (o.access ≡ 0 → ⊥) → Overlap l.offset l.length (write_from s) (data_length s FIRST)
-      → FirstConflict (take-message connection s t memory room)
-  bars-write e access over =
-      (first-write-reading connection s r t memory room fit o valid e access).1
-      (record {
-        lock = l;
-        listed = listed;
-        of-file = (o, valid.opened.listed, valid.opened.of-fid ∙ sym owner.0, refl);
-        overlap = over;
-        clash = λ h. not_own other s d b u (fid_after_andx s FIRST) l owner h.1;
-      })
-
 -- and its core read or write over it
-module _ (connection : ℕ) (s other : List ℕ) (b : Bytes s) (d : Bytes other) (u : UpperHalvesDiffer other s) {spans : List Span} (r : Reading s spans) (t : Tables) (memory room : List ℕ)
-    (fit : Fit s t memory room) (o : Open) (valid : Admitted (caller_of connection s) t (first_fid s FIRST) o) (l : Lock) (listed : In l (locks_of t))
-    (owner : Owner (first_fid s FIRST) (sender_process other) l) (exclusive : l.shared ≡ false) where
-  pub bars-core-read : header_command s ≡ CORE-READ → (o.access ≡ 1 → ⊥) → Overlap l.offset l.length (core_offset s FIRST) (core_count s FIRST)
-      → FirstConflict (take-message connection s t memory room)
-  bars-core-read e access over =
-      (first-core-read-reading connection s r t memory room fit o valid e access).1
-      (record {
-        lock = l;
-        listed = listed;
-        of-file = (o, valid.opened.listed, valid.opened.of-fid ∙ sym owner.0, refl);
-        overlap = over;
-        clash = (exclusive, not_own other s d b u (first_fid s FIRST) l owner);
-      })
-
-  pub bars-core-write : header_command s ≡ CORE-WRITE → (core_count s FIRST ≡ 0 → ⊥) → (o.access ≡ 0 → ⊥) → Overlap l.offset l.length (core_offset s FIRST) (core_count s FIRST)
-      → FirstConflict (take-message connection s t memory room)
-  bars-core-write e more access over =
-      (first-core-write-reading connection s r t memory room fit o valid e more access).1
-      (record {
-        lock = l;
-        listed = listed;
-        of-file = (o, valid.opened.listed, valid.opened.of-fid ∙ sym owner.0, refl);
-        overlap = over;
-        clash = λ h. not_own other s d b u (first_fid s FIRST) l owner h.1;
-      })
-
--- a range of another upper half names no lock that was granted for a range of the one, however equal they are else
-pub names-not : (s t : List ℕ) → Bytes s → Bytes t → (le16_at s 12 ≡ le16_at t 12 → ⊥) → {j k : ℕ} {q r : LockRange} {l : Lock} → RangeOn s j q → GrantedLock s q l
-    → RangeOn t k r → (fid : ℕ) → Named fid r l → ⊥
-names-not s t b d other {q = q} {r = r} {l = l} on granted asked fid n =
-    let one = range-upper s b on in
-    let two = range-upper t d asked in
-    let same : q.process ≡ r.process = sym granted.of-process ∙ n.of-process in
-    other (sym one ∙ ap (λ (p : ℕ). p / 65536) same ∙ two)
-
--- an unlock where no listed lock has its upper half names none: 1/158
-pub unlock-refused : (connection : ℕ) (s : List ℕ) → Bytes s → {span : Span} → Reading s (span ∷ []) → (t : Tables) (memory room : List ℕ) → Fit s t memory room
-    → header_command s ≡ LOCKING → 1 ≤ unlock_count s FIRST → OnlyTwoBits (lock_type s FIRST) → (o : Open) → Admitted (caller_of connection s) t (fid_after_andx s FIRST) o
-    → ((l : Lock) → In l (locks_of t) → l.process / 65536 ≡ le16_at s 12 → ⊥) → status_read (take-message connection s t memory room).room ≡ status 1 158
-unlock-refused connection s b r t memory room fit e some bits o valid others =
-    let fits = locking-fits (one-first r) e in
-    let n : 0 < unlock_count s FIRST + lock_count s FIRST = omega arith in
-    let more : unlock_count s FIRST ≡ suc (unlock_count s FIRST - 1) = omega arith in
-    let on : RangeOn s 0 (range_in s 0) = range-on s (unlock_count s FIRST + lock_count s FIRST) fits 0 n in
-    (locking-reason-exact connection s r t memory room fit e (status 1 158)).1
-    (reason-unnamed valid bits
-    (rw more (unlock-none on (λ l i named. others l i (ap (λ (p : ℕ). p / 65536) named.of-process ∙ range-upper s b on)))))
-
--- nor does an UNLOCK_BYTE_RANGE
-pub core-unlock-refused : (connection : ℕ) (s : List ℕ) → Bytes s → {span : Span} → Reading s (span ∷ []) → (t : Tables) (memory room : List ℕ) → Fit s t memory room
-    → header_command s ≡ UNLOCK_BYTE_RANGE → (o : Open) → Admitted (caller_of connection s) t (first_fid s FIRST) o
-    → ((l : Lock) → In l (locks_of t) → l.process / 65536 ≡ le16_at s 12 → ⊥) → status_read (take-message connection s t memory room).room ≡ status 1 158
-unfolding caller_of
-core-unlock-refused connection s b r t memory room fit e o valid others =
-    (unlock-exact connection s r t memory room fit e (status 1 158)).1
-    (unlock-unnamed valid (λ w. others w.lock w.listed (ap (λ (p : ℕ). p / 65536) w.named.of-process ∙ upper-half s b)))
 
 -- ---- a lock alone that is done
 
@@ -226,40 +135,17 @@ pub record LockTaken (s : List ℕ) (before after : List Lock) : Type 0 where
   pub of-process : lock.process ≡ range.process
   pub whole : RangeProcess s 0 range
 
-none-unlocked : {s : List ℕ} {k n : ℕ} {list left : List Lock} → n ≡ 0 → Unlocked s k n list left → left ≡ list
+pub none-unlocked : {s : List ℕ} {k n : ℕ} {list left : List Lock} → n ≡ 0 → Unlocked s k n list left → left ≡ list
 none-unlocked e none-to-unlock = refl
 none-unlocked e (unlock-then on out more) = absurd (omega arith)
-
-one-locked : {s : List ℕ} → Bytes s → {t : Tables} {o : Open} {k n : ℕ} {list last : List Lock} → k ≡ 0 → n ≡ 1 → Locked s t o k n list last → LockTaken s list last
-one-locked b z e none-to-lock = absurd (omega arith)
-one-locked {s} b z e (lock-then {r = r} {l} on g free none-to-lock) =
-    record { lock = l; range = r; behind = refl; of-fid = g.of-fid; of-process = g.of-process; whole = range-process s b (rw z at on) }
-one-locked b z e (lock-then on g free (lock-then on2 g2 free2 more)) = absurd (omega arith)
-
-pub lock-taken : (connection : ℕ) (s : List ℕ) → Bytes s → (t : Tables) (memory : List ℕ) (call : Taken) → LockingDone connection s t memory call
-    → unlock_count s FIRST ≡ 0 → lock_count s FIRST ≡ 1 → LockTaken s (locks_of t) (locks_of call.tables)
-lock-taken connection s b t memory call done none one =
-    rw (done.held, ← (none-unlocked none done.unlocked)) (one-locked b none one done.locked)
 
 -- ---- the messages of a chain's commands
 
 -- a place from which a message is read is inside it
-place_inside : {s : List ℕ} {command at : ℕ} {spans : List Span} → ReadingFrom s command at spans → at ≤ length s
+pub place_inside : {s : List ℕ} {command at : ℕ} {spans : List Span} → ReadingFrom s command at spans → at ≤ length s
 place_inside (plain_end h p) = let i = block_inside h in omega arith
 place_inside (andx-end h a e) = let i = block_inside h in omega arith
 place_inside (andx-next h m e r) = let i = block_inside h in omega arith
-
--- "the chain's header with the block's command": its sender is the chain's
-alone-sender : (connection : ℕ) (s : List ℕ) {spans : List Span} → Reading s spans → (x : Span) → caller_of connection (alone_span s x) ≡ caller_of connection s
-unfolding span_of
-alone-sender connection s r x =
-    let b : Block = record { command = x.command; at = x.place; length = x.size; body = Logoff; next = End } in
-    ap (caller_of connection) (sym (alone-span s b)) ∙ alone-caller connection s b (place_inside r)
-
--- with whatever FID it carries
-pub own-sender : (connection : ℕ) (s : List ℕ) {spans : List Span} → Reading s spans → (just : ℕ) (x : Span) → caller_of connection (own_span s just x) ≡ caller_of connection s
-unfolding own_span
-own-sender connection s r just x = carrying-caller just (alone_span s x) connection ∙ alone-sender connection s r x
 
 -- ---- PROCESS_EXIT
 

@@ -123,11 +123,6 @@ pub data Reached : Tables → Type 0 where
   start : Reached no_tables
   then-call : {t after : Tables} {left : List ℕ} → Reached t → (memory : List ℕ) → HostCall t memory after left → Reached after
 
--- "Every call on sound tables leaves sound tables": whatever the history, they are sound
-pub reached-good : {t : Tables} → Reached t → Good t
-reached-good start = start-good
-reached-good (then-call r memory call) = call-good call (reached-good r)
-
 -- the tables and the file memory of a host that lends one file memory to all its calls
 pub data ReachedLending (lent : List ℕ) : Tables → List ℕ → Type 0 where
   lending-start : ReachedLending lent no_tables lent
@@ -137,8 +132,3 @@ pub data ReachedLending (lent : List ℕ) : Tables → List ℕ → Type 0 where
 pub lending-reached : {lent memory : List ℕ} {t : Tables} → ReachedLending lent t memory → Reached t
 lending-reached lending-start = start
 lending-reached (lending-call {memory = memory} r call) = then-call (lending-reached r) memory call
-
--- and the file memory stays as long as it was lent
-pub reached-memory : {lent memory : List ℕ} {t : Tables} → ReachedLending lent t memory → length memory ≡ length lent
-reached-memory lending-start = refl
-reached-memory (lending-call r call) = call-memory call (reached-good (lending-reached r)) ∙ reached-memory r

@@ -14,11 +14,13 @@ use Rattle.chain.specs.Header.{dropped}
 use Rattle.message.specs.Message.{Taken, not_taken, replied, answered, take-message}
 use Rattle.host.specs.declared.ending.One.{One}
 use Rattle.claims.specs.EndOne.{EndReason, end-unsound, end-unknown, end-done, end_one-reason}
-use Rattle.claims.specs.HostReasons.{SessionReason, session-unsound, session-full, session-done, TreeReason, tree-unsound, tree-range, tree-nobody, tree-full, tree-done, OpenReason, open-unsound, open-range, open-nowhere, open-exceeds, open_full, open_done, LoadReason, load-memory, load-unsound, load-range, load-opened, load-done, DropReason, drop-unsound, drop-done, SetReason, set-unsound, set-broken, set-done, add_session-reason, add_tree-reason, add_open-reason, load_file-reason, drop_connection-reason, set_catalogue-reason}
+use Rattle.claims.specs.HostReasons.{SessionReason, session-unsound, session-full, session-done, TreeReason, tree-unsound, tree-range, tree-nobody, tree-full, tree-done, OpenReason, open-unsound, open-range, open-nowhere, open-exceeds, open_full, open_done, LoadReason, load-memory, load-unsound, load-range, load-opened, load-done, DropReason, drop-unsound, drop-done, SetReason, set-unsound, set-broken, set-done, add_session-reason, add_tree-reason, add_open-reason, load_file-reason, drop_connection-reason}
+use Rattle.claims.proofs.HostReasons.{set_catalogue-reason}
 use Rattle.invariants.specs.GivenCases.{cond-case}
 use Rattle.tables.specs.Words.{word, name_array, name_limits, table_fits, in_use_fit, tables_of}
 use Rattle.boundary.specs.Boundary.{ready, number_of, session_added, tree_added, open_added, connection_dropped, one_ended, file_loaded, load_number_of, catalogue_set, message_taken, wrong_room}
-use Rattle.boundary.specs.BoundaryLaws.{set-core, set-no-bytes}
+use Rattle.boundary.proofs.BoundaryLaws.{set-core}
+use Rattle.boundary.specs.BoundaryLaws.{set-no-bytes}
 
 -- a call answers another number than 4
 abbrev Takes : ℕ → Type 0

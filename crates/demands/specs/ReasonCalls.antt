@@ -26,12 +26,11 @@ use Rattle.demands.specs.Malformed.{length-area}
 use Rattle.demands.specs.OneByOne.{chained-served}
 use Rattle.invariants.specs.Fit.{Fit}
 use Rattle.demands.specs.StatusRead.{status_read}
-use Rattle.demands.specs.Calls.{status-call}
 use Rattle.demands.specs.LockWords.{never}
-use Rattle.demands.specs.CommandReasons.{Reason, Announced, perform-exact}
+use Rattle.demands.specs.CommandReasons.{Reason, Announced}
 
 -- the fields of a LOCKING block
-abbrev fields_at : List ℕ → ℕ → LockingFields
+abbrev pub fields_at : List ℕ → ℕ → LockingFields
 fields_at s at = record { fid = fid_after_andx s at; kind = lock_type s at; unlocks = unlock_count s at; locks = lock_count s at }
 
 -- a block of the grammar has a byte area of just the announced ranges; another body than a LOCKING's has none to announce
@@ -60,7 +59,7 @@ block-announced (unlock-byte-range h) area e f same = never cc
 block-announced (open-15 h) area e f same = never cc
 
 -- the status of a message of one command
-given-status : (g : Given) (place : ℕ) (t : Tables) (memory : List ℕ) (rest : ℕ → ℕ → Tables → List ℕ → Ran) → ((j p : ℕ) (u : Tables) (m : List ℕ) → (rest j p u m).forms.status ≡ status 0 0)
+pub given-status : (g : Given) (place : ℕ) (t : Tables) (memory : List ℕ) (rest : ℕ → ℕ → Tables → List ℕ → Ran) → ((j p : ℕ) (u : Tables) (m : List ℕ) → (rest j p u m).forms.status ≡ status 0 0)
     → (after_given g [] place t memory rest).forms.status ≡ status_in g
 unfolding after_given after status_in
 given-status (refused why) place t memory rest h = refl
@@ -71,15 +70,3 @@ pub one-announced : {s : List ℕ} {command at : ℕ} {b : Block} → Chained s 
 unfolding block_at
 one-announced (chained-end h l) = block-announced h _ (length-area h _)
 one-announced (chained_more h l rest) = elim rest [ ]
-
-module _ (connection : ℕ) (s : List ℕ) (b : Block) (e : blocks s ≡ some (b ∷ [])) (t : Tables) (memory room : List ℕ) (fit : Fit s t memory room) where
-  -- a message of one command has a status in its reply exactly for its reason
-  pub call-exact : (n : Status) → (status_read (take-message connection s t memory room).room ≡ n) ↔ Reason (caller_of connection s) t (area_of s b) b.body n
-  unfolding answered run_chain blocks run
-  call-exact n =
-      let chain = read-chained s (header_command s) FIRST (b ∷ []) e in
-      let g : (answered connection s t memory).forms.status ≡ (run (caller_of connection s) s NOBODY (b ∷ []) FIRST t memory).forms.status = rw (chained-served chain, e) in
-      let same = status-call connection s t memory room fit ∙ g ∙ ap (λ (r : Ran). r.forms.status) (run-first (caller_of connection s) s b [] FIRST t memory)
-      ∙ given-status (perform (caller_of connection s) t memory b.body (area_of s b) (data_of s b)) FIRST t memory (λ j p u m. run (caller_of connection s) s j [] p u m) (λ j p u m. refl) in
-      let exact = perform-exact (caller_of connection s) t memory fit.tables-sound b.body (area_of s b) (data_of s b) (one-announced chain) n in
-      (λ h. exact.0 (sym same ∙ h), λ r. same ∙ exact.1 r)

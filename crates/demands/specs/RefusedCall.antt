@@ -27,7 +27,7 @@ use Rattle.invariants.specs.ReplySize.{length-block, length-header}
 use Rattle.invariants.specs.Fit.{Fit, fit-answered}
 use Rattle.demands.specs.Taken.{not_short, malformed-taken, not-served-taken}
 use Rattle.demands.specs.StatusRead.{status_read}
-use Rattle.demands.specs.Calls.{status-call, sentence-answered, length-call}
+use Rattle.demands.specs.Calls.{sentence-answered, length-call}
 use Rattle.demands.specs.LoneCall.{given-least}
 
 -- what one command gives on tables and file memory, where FID 0xFFFF means `just` (document 02, CR 6)
@@ -45,20 +45,20 @@ meant_after c s just (b ∷ bs) t memory = after_one (gives c s just b t memory)
 
 -- how commands that are refused ended: those in front were carried out, the next was refused on what they left, and what they left stands; no later one
 -- has a reply block
-record Stopped (c : Caller) (s : List ℕ) (just : ℕ) (bs : List Block) (place : ℕ) (t : Tables) (memory : List ℕ) (last : Ran) : Type 0 where
-  front : List Block
-  command : Block
-  later : List Block
-  split : bs ≡ front ++ (command ∷ later)
-  front-done : (run c s just front place t memory).forms.status ≡ status 0 0
-  why : Refusal
-  command-refused : gives c s (meant_after c s just front t memory) command (run c s just front place t memory).tables (run c s just front place t memory).memory ≡ refused why
-  status-left : last.forms.status ≡ status_of why
-  holder-left : last.holder ≡ holder_of why
-  tables-left : last.tables ≡ (run c s just front place t memory).tables
-  memory-left : last.memory ≡ (run c s just front place t memory).memory
-  blocks-left : length last.blocks ≡ length (run c s just front place t memory).blocks + 3
-  block-behind : drop (length (run c s just front place t memory).blocks) last.blocks ≡ refused_block
+pub record Stopped (c : Caller) (s : List ℕ) (just : ℕ) (bs : List Block) (place : ℕ) (t : Tables) (memory : List ℕ) (last : Ran) : Type 0 where
+  pub front : List Block
+  pub command : Block
+  pub later : List Block
+  pub split : bs ≡ front ++ (command ∷ later)
+  pub front-done : (run c s just front place t memory).forms.status ≡ status 0 0
+  pub why : Refusal
+  pub command-refused : gives c s (meant_after c s just front t memory) command (run c s just front place t memory).tables (run c s just front place t memory).memory ≡ refused why
+  pub status-left : last.forms.status ≡ status_of why
+  pub holder-left : last.holder ≡ holder_of why
+  pub tables-left : last.tables ≡ (run c s just front place t memory).tables
+  pub memory-left : last.memory ≡ (run c s just front place t memory).memory
+  pub blocks-left : length last.blocks ≡ length (run c s just front place t memory).blocks + 3
+  pub block-behind : drop (length (run c s just front place t memory).blocks) last.blocks ≡ refused_block
 
 module _ (c : Caller) (s : List ℕ) (just : ℕ) (b : Block) (bs : List Block) (place : ℕ) (t : Tables) (memory : List ℕ) where
   -- a command that is done, and those after it
@@ -79,7 +79,7 @@ module _ (c : Caller) (s : List ℕ) (just : ℕ) (b : Block) (bs : List Block) 
   meant-done u m said e = rw e
 
 -- how many bytes stand in front
-step-length : (c : Caller) (s : List ℕ) (just : ℕ) (b : Block) (bs : List Block) (place : ℕ) (t : Tables) (memory : List ℕ) (u : Tables) (m : List ℕ) (said : Said) → gives c s just b t memory ≡ done u m said
+pub step-length : (c : Caller) (s : List ℕ) (just : ℕ) (b : Block) (bs : List Block) (place : ℕ) (t : Tables) (memory : List ℕ) (u : Tables) (m : List ℕ) (said : Said) → gives c s just b t memory ≡ done u m said
     → length (run c s just (b ∷ bs) place t memory).blocks ≡ reply_size said + length (run c s (opened_by said) bs (place + reply_size said) u m).blocks
 unfolding after
 step-length c s just b bs place t memory u m said e =
@@ -88,68 +88,10 @@ step-length c s just b bs place t memory u m said e =
     ∙ ap (λ (n : ℕ). n + length (run c s (opened_by said) bs (place + reply_size said) u m).blocks) (length-block said place (link_to bs (place + reply_size said)))
 
 -- what stands behind a block stands behind it with others in front
-behind_more : (block rest : List ℕ) (size k n : ℕ) → length block ≡ size → n ≡ size + k → drop n (block ++ rest) ≡ drop k rest
+pub behind_more : (block rest : List ℕ) (size k n : ℕ) → length block ≡ size → n ≡ size + k → drop n (block ++ rest) ≡ drop k rest
 behind_more block rest size k n e f =
     let g : n ≡ length block + k = omega arith in
     rw g (drop-append-add block rest k)
-
--- by what the first gives: it is refused, or a later one
-stopped_by : (c : Caller) (s : List ℕ) (just : ℕ) (b : Block) (bs : List Block) (place : ℕ) (t : Tables) (memory : List ℕ) (g : Given) → gives c s just b t memory ≡ g
-    → ((u : Tables) (m : List ℕ) (said : Said) → g ≡ done u m said → Stopped c s (opened_by said) bs (place + reply_size said) u m (run c s (opened_by said) bs (place + reply_size said) u m))
-    → Stopped c s just (b ∷ bs) place t memory (run c s just (b ∷ bs) place t memory)
-unfolding run after refused_block meant_after
-stopped_by c s just b bs place t memory (refused why) e f =
-    let r = step-refused c s just b bs place t memory why e in
-    record {
-      front = [];
-      command = b;
-      later = bs;
-      split = refl;
-      front-done = refl;
-      why = why;
-      command-refused = e;
-      status-left = ap (λ (x : Ran). x.forms.status) r;
-      holder-left = ap (λ (x : Ran). x.holder) r;
-      tables-left = ap (λ (x : Ran). x.tables) r;
-      memory-left = ap (λ (x : Ran). x.memory) r;
-      blocks-left = ap (λ (x : Ran). length x.blocks) r;
-      block-behind = ap (λ (x : Ran). x.blocks) r;
-    }
-stopped_by c s just b bs place t memory (done u m said) e f =
-    let q = f u m said refl in
-    let whole = step-done c s just b bs place t memory u m said e in
-    let part = step-done c s just b q.front place t memory u m said e in
-    let n = step-length c s just b bs place t memory u m said e in
-    let k = step-length c s just b q.front place t memory u m said e in
-    record {
-      front = b ∷ q.front;
-      command = q.command;
-      later = q.later;
-      split = ap (λ (l : List Block). b ∷ l) q.split;
-      front-done = ap (λ (x : Ran). x.forms.status) part ∙ q.front-done;
-      why = q.why;
-      command-refused = rw (part, meant-done c s just b q.front place t memory u m said e) q.command-refused;
-      status-left = ap (λ (x : Ran). x.forms.status) whole ∙ q.status-left;
-      holder-left = ap (λ (x : Ran). x.holder) whole ∙ q.holder-left;
-      tables-left = ap (λ (x : Ran). x.tables) whole ∙ q.tables-left ∙ sym (ap (λ (x : Ran). x.tables) part);
-      memory-left = ap (λ (x : Ran). x.memory) whole ∙ q.memory-left ∙ sym (ap (λ (x : Ran). x.memory) part);
-      blocks-left = n ∙ more (reply_size said) _ _ _ k q.blocks-left;
-      block-behind = ap (λ (x : Ran). drop (length (run c s just (b ∷ q.front) place t memory).blocks) x.blocks) whole
-          ∙ behind_more (reply_block said place (link_to bs (place + reply_size said))) _ (reply_size said) _ _ (length-block said place (link_to bs (place + reply_size said))) k
-          ∙ q.block-behind;
-    }
-  where
-    more : (a x y z : ℕ) → z ≡ a + y → x ≡ y + 3 → a + x ≡ z + 3
-    more a x y z e f = omega arith
-
--- commands that do not end with status 0/0 end so
-run-stopped : (c : Caller) (s : List ℕ) (just : ℕ) (bs : List Block) (place : ℕ) (t : Tables) (memory : List ℕ) → ((run c s just bs place t memory).forms.status ≡ status 0 0 → ⊥)
-    → Stopped c s just bs place t memory (run c s just bs place t memory)
-unfolding run after
-run-stopped c s just [] place t memory n = absurd (n refl)
-run-stopped c s just (b ∷ bs) place t memory n =
-    stopped_by c s just b bs place t memory (gives c s just b t memory) refl
-    (λ u m said e. run-stopped c s (opened_by said) bs (place + reply_size said) u m (λ z. n (ap (λ (x : Ran). x.forms.status) (step-done c s just b bs place t memory u m said e) ∙ z)))
 
 -- what the call gave, where a command was refused
 pub record RefusedCall (c : Caller) (s : List ℕ) (bs : List Block) (t : Tables) (memory : List ℕ) (call : Taken) : Type 0 where
@@ -184,26 +126,23 @@ block-in-room header blocks rest k h n e =
 
 module _ (connection : ℕ) (s : List ℕ) (bs : List Block) (e : blocks s ≡ some bs) (t : Tables) (memory room : List ℕ) (fit : Fit s t memory room) where
   -- what the call leaves is what the commands leave
-  call-tables : (take-message connection s t memory room).tables ≡ (run (caller_of connection s) s NOBODY bs FIRST t memory).tables
+  pub call-tables : (take-message connection s t memory room).tables ≡ (run (caller_of connection s) s NOBODY bs FIRST t memory).tables
   unfolding replied
   call-tables = ap (λ (k : Taken). k.tables) (fit-answered connection s t memory room fit) ∙ ap (λ (r : Ran). r.tables) (sentence-answered connection s t memory bs e)
 
-  call-memory : (take-message connection s t memory room).memory ≡ (run (caller_of connection s) s NOBODY bs FIRST t memory).memory
+  pub call-memory : (take-message connection s t memory room).memory ≡ (run (caller_of connection s) s NOBODY bs FIRST t memory).memory
   unfolding replied
   call-memory = ap (λ (k : Taken). k.memory) (fit-answered connection s t memory room fit) ∙ ap (λ (r : Ran). r.memory) (sentence-answered connection s t memory bs e)
 
-  call-holder : (take-message connection s t memory room).holder ≡ (run (caller_of connection s) s NOBODY bs FIRST t memory).holder
+  pub call-holder : (take-message connection s t memory room).holder ≡ (run (caller_of connection s) s NOBODY bs FIRST t memory).holder
   unfolding replied
   call-holder = ap (λ (k : Taken). k.holder) (fit-answered connection s t memory room fit) ∙ ap (λ (r : Ran). r.holder) (sentence-answered connection s t memory bs e)
 
-  pub call-status : status_read (take-message connection s t memory room).room ≡ (run (caller_of connection s) s NOBODY bs FIRST t memory).forms.status
-  call-status = status-call connection s t memory room fit ∙ ap (λ (r : Ran). r.forms.status) (sentence-answered connection s t memory bs e)
-
-  call_length : (take-message connection s t memory room).length ≡ 32 + length (run (caller_of connection s) s NOBODY bs FIRST t memory).blocks
+  pub call_length : (take-message connection s t memory room).length ≡ 32 + length (run (caller_of connection s) s NOBODY bs FIRST t memory).blocks
   call_length = length-call connection s t memory room fit ∙ ap (λ (r : Ran). 32 + length r.blocks) (sentence-answered connection s t memory bs e)
 
   -- a refused block at the end of the commands' blocks is one in the reply
-  call-block : (k : ℕ) → length (run (caller_of connection s) s NOBODY bs FIRST t memory).blocks ≡ k + 3 → drop k (run (caller_of connection s) s NOBODY bs FIRST t memory).blocks ≡ refused_block
+  pub call-block : (k : ℕ) → length (run (caller_of connection s) s NOBODY bs FIRST t memory).blocks ≡ k + 3 → drop k (run (caller_of connection s) s NOBODY bs FIRST t memory).blocks ≡ refused_block
       → take 3 (drop (32 + k) (take-message connection s t memory room).room) ≡ refused_block
   unfolding replied reply_of put
   call-block k n b =
@@ -214,28 +153,6 @@ module _ (connection : ℕ) (s : List ℕ) (bs : List Block) (e : blocks s ≡ s
       ∙ block-in-room (reply_header s (answered connection s t memory).forms) (answered connection s t memory).blocks _ k
       (length-header s (answered connection s t memory).forms (omega arith)) (ap length same ∙ n) (ap (drop k) same ∙ b)
 
-  -- "A command refused changes no table and no file byte, its own unlocks included. Commands before it in the chain stand; those after it aren't begun":
-  -- a sentence fit to be answered whose reply's Status is not 0/0
-  pub refused-call : (status_read (take-message connection s t memory room).room ≡ status 0 0 → ⊥)
-      → RefusedCall (caller_of connection s) s bs t memory (take-message connection s t memory room)
-  refused-call n =
-      let q = run-stopped (caller_of connection s) s NOBODY bs FIRST t memory (λ z. n (call-status ∙ z)) in
-      record {
-        front = q.front;
-        command = q.command;
-        later = q.later;
-        split = q.split;
-        front-done = q.front-done;
-        why = q.why;
-        command-refused = q.command-refused;
-        status-given = call-status ∙ q.status-left;
-        holder-given = call-holder ∙ q.holder-left;
-        tables-left = call-tables ∙ q.tables-left;
-        memory-left = call-memory ∙ q.memory-left;
-        block-left = call-block _ q.blocks-left q.block-behind;
-        length-left = call_length ∙ ap (λ (k : ℕ). 32 + k) q.blocks-left;
-      }
-
 -- ---- what was there before the call stands
 
 -- tables and file memory are those before the call
@@ -244,7 +161,7 @@ pub record Untouched (t : Tables) (memory : List ℕ) (call : Taken) : Type 0 wh
   pub same_memory : call.memory ≡ memory
 
 -- commands with no reply block are none
-run_none : (c : Caller) (s : List ℕ) (just : ℕ) (bs : List Block) (place : ℕ) (t : Tables) (memory : List ℕ) → length (run c s just bs place t memory).blocks ≡ 0 → bs ≡ []
+pub run_none : (c : Caller) (s : List ℕ) (just : ℕ) (bs : List Block) (place : ℕ) (t : Tables) (memory : List ℕ) → length (run c s just bs place t memory).blocks ≡ 0 → bs ≡ []
 unfolding run
 run_none c s just [] place t memory e = refl
 run_none c s just (b ∷ bs) place t memory e =
@@ -252,7 +169,7 @@ run_none c s just (b ∷ bs) place t memory e =
     absurd (let z : ⊥ = omega arith in z)
 
 -- nothing in front: what is left is what was there
-none-front : {c : Caller} {s : List ℕ} {bs : List Block} {t : Tables} {memory : List ℕ} {call : Taken} (r : RefusedCall c s bs t memory call) → r.front ≡ [] → Untouched t memory call
+pub none-front : {c : Caller} {s : List ℕ} {bs : List Block} {t : Tables} {memory : List ℕ} {call : Taken} (r : RefusedCall c s bs t memory call) → r.front ≡ [] → Untouched t memory call
 unfolding run
 none-front {c} {s} {bs} {t} {memory} r e =
     record {
@@ -261,55 +178,7 @@ none-front {c} {s} {bs} {t} {memory} r e =
     }
 
 -- one command is not one in front of another
-one-front : (front later : List Block) (b d : Block) → b ∷ [] ≡ front ++ (d ∷ later) → front ≡ []
+pub one-front : (front later : List Block) (b d : Block) → b ∷ [] ≡ front ++ (d ∷ later) → front ≡ []
 one-front [] later b d e = refl
 one-front (x ∷ []) later b d e = let z : ◌≡◌ {A = List Block} [] (d ∷ later) = cc in let n : ◌≡◌ {A = ℕ} 0 1 = cc in absurd (omega arith)
 one-front (x ∷ (y ∷ front)) later b d e = let z : ◌≡◌ {A = List Block} [] (y ∷ (front ++ (d ∷ later))) = cc in let n : ◌≡◌ {A = ℕ} 0 1 = cc in absurd (omega arith)
-
-module _ (connection : ℕ) (s : List ℕ) (t : Tables) (memory room : List ℕ) (fit : Fit s t memory room) where
-  -- "A command refused changes no table and no file byte, its own unlocks included": a message of one command, with any Status but 0/0
-  pub alone-refused : (b : Block) → blocks s ≡ some (b ∷ []) → (status_read (take-message connection s t memory room).room ≡ status 0 0 → ⊥)
-      → Untouched t memory (take-message connection s t memory room)
-  alone-refused b e n =
-      let r = refused-call connection s (b ∷ []) e t memory room fit n in none-front r (one-front r.front r.later b r.command r.split)
-
-  -- "those after it aren't begun": where the first command is refused, whatever comes after it
-  pub first-refused : (b : Block) (bs : List Block) → blocks s ≡ some (b ∷ bs) → (why : Refusal) → gives (caller_of connection s) s NOBODY b t memory ≡ refused why
-      → (status_read (take-message connection s t memory room).room ≡ status_of why) × ((take-message connection s t memory room).holder ≡ holder_of why)
-      × Untouched t memory (take-message connection s t memory room)
-  first-refused b bs e why g =
-      let r = step-refused (caller_of connection s) s NOBODY b bs FIRST t memory why g in (
-        call-status connection s (b ∷ bs) e t memory room fit ∙ ap (λ (x : Ran). x.forms.status) r,
-        call-holder connection s (b ∷ bs) e t memory room fit ∙ ap (λ (x : Ran). x.holder) r,
-        record {
-          same_tables = call-tables connection s (b ∷ bs) e t memory room fit ∙ ap (λ (x : Ran). x.tables) r;
-          same_memory = call-memory connection s (b ∷ bs) e t memory room fit ∙ ap (λ (x : Ran). x.memory) r;
-        },
-      )
-
-  sentence-refusal : (bs : List Block) → blocks s ≡ some bs → (status_read (take-message connection s t memory room).room ≡ status 0 0 → ⊥)
-      → (take-message connection s t memory room).length ≡ 35 → Untouched t memory (take-message connection s t memory room)
-  sentence-refusal bs e n l =
-      let r = refused-call connection s bs e t memory room fit n in
-      let k : 32 + (length (run (caller_of connection s) s NOBODY r.front FIRST t memory).blocks + 3) ≡ 35 = sym r.length-left ∙ l in
-      none-front r (run_none (caller_of connection s) s NOBODY r.front FIRST t memory (omega arith))
-
-  read-refusal : (o : Option (List Block)) → blocks s ≡ o → served (header_command s) ≡ true → (status_read (take-message connection s t memory room).room ≡ status 0 0 → ⊥)
-      → (take-message connection s t memory room).length ≡ 35 → Untouched t memory (take-message connection s t memory room)
-  unfolding replied only_status
-  read-refusal (some bs) e v n l = sentence-refusal bs e n l
-  read-refusal none e v n l =
-      let q = malformed-taken connection s t memory room fit v ((no-sentence s).0 e) in
-      record { same_tables = ap (λ (k : Taken). k.tables) q; same_memory = ap (λ (k : Taken). k.memory) q }
-
-  -- so a reply of one refused block, whatever the message and whatever the refusal, says that nothing was changed
-  pub short-refusal : (status_read (take-message connection s t memory room).room ≡ status 0 0 → ⊥) → (take-message connection s t memory room).length ≡ 35
-      → Untouched t memory (take-message connection s t memory room)
-  unfolding replied only_status
-  short-refusal n l =
-      elim (decided (served (header_command s))) [
-        | inl v ↦ read-refusal (blocks s) refl v n l
-        | inr v ↦
-            let q = not-served-taken connection s t memory room fit v in
-            record { same_tables = ap (λ (k : Taken). k.tables) q; same_memory = ap (λ (k : Taken). k.memory) q }
-      ]

@@ -14,7 +14,8 @@ use Rattle.message.specs.declared.refusal.Forms.{Forms}
 use Rattle.message.specs.Reply.{two, four, nt_bit, status_number, reply_header}
 use Rattle.message.specs.Message.{answered, reply_of, replied, take-message}
 use Rattle.invariants.specs.Fit.{Fit, fit-answered}
-use Rattle.claims.specs.StatusList.{smb-bytes, answered-ended, ended-says}
+use Rattle.claims.specs.StatusList.{smb-bytes, answered-ended}
+use Rattle.claims.proofs.StatusList.{ended-says}
 use Rattle.demands.specs.Taken.{not_short}
 
 -- "A reply copies Command, PIDHigh, TID, PIDLow, UID and MID; Flags is 0x80 plus the request's 0x08; .. the rest is 0 but for Status", of which the old form has a zero byte at
@@ -30,16 +31,16 @@ pub record HeaderOf (request : List ℕ) (reply : List ℕ) : Type 0 where
   pub copied : (k : ℕ) → 24 ≤ k → k < 32 → byte_at reply k ≡ byte_at request k
 
 module _ (s : List ℕ) (why : Forms) (blocks room : List ℕ) (long : 35 ≤ length s) (small : why.status.class < 256) where
-  abbrev given : List ℕ
+  abbrev pub given : List ℕ
   given = put room 0 (reply_header s why ++ blocks)
 
   -- the bytes in front of those that are copied, and those behind them
-  abbrev front : List ℕ
+  abbrev pub front : List ℕ
   front =
       (0xFF ∷ 0x53 ∷ 0x4D ∷ 0x42 ∷ byte_at s 4 ∷ four (status_number s why))
       ++ ((128 + byte_at s 9 / 8 % 2 * 8) ∷ byte_at s 10 % 2 ∷ byte_at s 11 / 64 % 2 * 64 ∷ byte_at s 12 ∷ byte_at s 13 ∷ replicate 10 0)
 
-  abbrev rest : List ℕ
+  abbrev pub rest : List ℕ
   rest = drop (0 + length (reply_header s why ++ blocks)) room
 
   parts : given ≡ front ++ ((take 8 (drop 24 s) ++ blocks) ++ rest)
@@ -66,7 +67,7 @@ module _ (s : List ℕ) (why : Forms) (blocks room : List ℕ) (long : 35 ≤ le
   unfolding put reply_header two four status_number
   zero-at-6 clear = rw clear (smb-bytes why.status small).1
 
-  header_of : HeaderOf s given
+  pub header_of : HeaderOf s given
   unfolding put reply_header two four
   header_of =
       record {
@@ -79,10 +80,3 @@ module _ (s : List ℕ) (why : Forms) (blocks room : List ℕ) (long : 35 ≤ le
         zeros = refl;
         copied = last-eight;
       }
-
--- of every message that is answered
-pub reply-header : (connection : ℕ) (s : List ℕ) (t : Tables) (memory room : List ℕ) → Fit s t memory room → HeaderOf s (take-message connection s t memory room).room
-unfolding replied reply_of
-reply-header connection s t memory room fit =
-    rw (fit-answered connection s t memory room fit)
-    (header_of s (answered connection s t memory).forms (answered connection s t memory).blocks room (not_short s fit.not-dropped) (ended-says (answered-ended connection s t memory)).class)

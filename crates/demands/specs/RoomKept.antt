@@ -72,11 +72,11 @@ module _ (connection : ℕ) (s : List ℕ) (t : Tables) (memory room : List ℕ)
       ∙ get_or-drop (take-message connection s t memory room).length room (k - (take-message connection s t memory room).length) 0)
 
 -- where nothing is written, all of it stands
-nothing-kept : (number : ℕ) (t : Tables) (memory room : List ℕ) → RoomKept room (not_taken number t memory room)
+pub nothing-kept : (number : ℕ) (t : Tables) (memory room : List ℕ) → RoomKept room (not_taken number t memory room)
 unfolding not_taken
 nothing-kept number t memory room = record { fits = omega arith; at_most = omega arith; same_length = refl; rest = refl }
 
-reply-kept : (s : List ℕ) (room : List ℕ) (connection : ℕ) (t : Tables) (memory : List ℕ) → length (reply_of s (answered connection s t memory)) ≤ length room
+pub reply-kept : (s : List ℕ) (room : List ℕ) (connection : ℕ) (t : Tables) (memory : List ℕ) → length (reply_of s (answered connection s t memory)) ≤ length room
     → length (reply_of s (answered connection s t memory)) ≤ 12292 → RoomKept room (replied s room (answered connection s t memory))
 unfolding replied
 reply-kept s room connection t memory h most =
@@ -86,16 +86,3 @@ reply-kept s room connection t memory h most =
       same_length = length-put room (reply_of s (answered connection s t memory)) 0 (omega arith);
       rest = put_rest room (reply_of s (answered connection s t memory));
     }
-
-module _ (connection : ℕ) (s : List ℕ) (t : Tables) (memory room : List ℕ) (arrays : Shaped t) where
-  -- and the reply fits, so that the room is as long as before: in tables whose arrays have their room, which the types say of code
-  pub room-kept : RoomKept room (take-message connection s t memory room)
-  unfolding take-message
-  room-kept =
-      cond-case (RoomKept room) (ltb (length room) 12292 || not (eqb (length memory) 65536)) (not_taken 2 t memory room) _ (λ _. nothing-kept 2 t memory room) λ u.
-      let enough : 12292 ≤ length room = ltb-false (length room) 12292 (neither-holds (ltb (length room) 12292) (not (eqb (length memory) 65536)) u).0 in
-      cond-case (RoomKept room) (not (sound t)) (not_taken 4 t memory room) _ (λ _. nothing-kept 4 t memory room) λ v.
-      cond-case (RoomKept room) (dropped s) (not_taken 1 t memory room) (replied s room (answered connection s t memory)) (λ _. nothing-kept 1 t memory room) λ w.
-      let l : length (reply_of s (answered connection s t memory)) ≤ 12292 =
-      reply-room connection s t memory (record { sound = not-false (sound t) v; shaped = arrays }) (not_short s w) (not-long s w) in
-      reply-kept s room connection t memory (omega arith) l

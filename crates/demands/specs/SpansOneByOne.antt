@@ -17,7 +17,6 @@ use Rattle.demands.specs.Returned.{returned_fid}
 use Rattle.demands.specs.Carrying.{carrying}
 use Rattle.demands.specs.OneByOne.{own}
 use Rattle.demands.specs.CallsOneByOne.{Calls, reply_in, last_call, call_then, carried_out, call_on, call_all, compared_call}
-use Rattle.demands.specs.Calls.{reading-one-by-one}
 
 -- "each block in turn makes a message of the chain's header with the block's command, then the block at 32, with AndXCommand 0xFF where it has one, and a
 -- WRITE_ANDX's DataOffset less by what the block moved"
@@ -35,10 +34,6 @@ pub alone-span : (s : List ℕ) (b : Block) → alone s b ≡ alone_span s (span
 unfolding alone alone_block alone_span span_of
 alone-span s b = refl
 
-pub own-span : (s : List ℕ) (just : ℕ) (b : Block) → own s just b ≡ own_span s just (span_of b)
-unfolding own own_span
-own-span s just b = ap (carrying just) (alone-span s b)
-
 -- "It stops after the first one refused (Status not 0) or the last block."
 unfoldable pub call_span_on : Taken → List Span → (ℕ → Tables → List ℕ → Calls) → Calls
 call_span_on r [] rest = last_call r
@@ -52,25 +47,8 @@ call_spans connection s room just (b ∷ bs) t memory =
     call_span_on (take-message connection (own_span s just b) t memory room) bs (λ j u m. call_spans connection s room j bs u m)
 
 -- they are those of the reader's blocks
-same-on : (r : Taken) (bs : List Block) (f g : ℕ → Tables → List ℕ → Calls) → f (returned_fid (reply_in r)) r.tables r.memory ≡ g (returned_fid (reply_in r)) r.tables r.memory
+pub same-on : (r : Taken) (bs : List Block) (f g : ℕ → Tables → List ℕ → Calls) → f (returned_fid (reply_in r)) r.tables r.memory ≡ g (returned_fid (reply_in r)) r.tables r.memory
     → call_on r bs f ≡ call_span_on r (map span_of bs) g
 unfolding call_on call_span_on
 same-on r [] f g e = refl
 same-on r (b ∷ bs) f g e = rw e
-
-pub calls-spans : (connection : ℕ) (s room : List ℕ) (just : ℕ) (bs : List Block) (t : Tables) (memory : List ℕ)
-    → call_all connection s room just bs t memory ≡ call_spans connection s room just (map span_of bs) t memory
-unfolding call_all call_spans
-calls-spans connection s room just [] t memory = refl
-calls-spans connection s room just (b ∷ bs) t memory =
-    same-on (take-message connection (own s just b) t memory room) bs (λ j u m. call_all connection s room j bs u m) (λ j u m. call_spans connection s room j (map span_of bs) u m)
-    (calls-spans connection s room (returned_fid (reply_in (take-message connection (own s just b) t memory room))) bs _ _)
-    ∙ ap (λ (l : List ℕ). call_span_on (take-message connection l t memory room) (map span_of bs) (λ j u m. call_spans connection s room j (map span_of bs) u m)) (own-span s just b)
-
--- "This is a single claim about the whole list of blocks": of any reading of a message fit to be answered, the call gives what the calls of its blocks'
--- messages give
-pub spans-one-by-one : (connection : ℕ) (s : List ℕ) {spans : List Span} → Reading s spans → (t : Tables) (memory room small : List ℕ) → Good t → Fit s t memory room
-    → length small ≡ 12292 → take-message connection s t memory room ≡ compared_call s room (call_spans connection s small NOBODY spans t memory)
-spans-one-by-one connection s r t memory room small g fit n =
-    let a = reading-one-by-one connection s r t memory room small g fit n in
-    a.2 ∙ ap (compared_call s room) (calls-spans connection s small NOBODY a.0 t memory ∙ ap (λ (l : List Span). call_spans connection s small NOBODY l t memory) a.1)

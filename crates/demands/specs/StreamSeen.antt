@@ -18,7 +18,9 @@ use Rattle.boundary.specs.StreamWords.{state_in, words_of, step_words, piece_rea
 use Rattle.boundary.specs.OutParameter.{on_done}
 use Rattle.boundary.specs.StreamWordsLaws.{step-stands, step_given, written_stands}
 use Rattle.claims.specs.StreamCut.{stopped-words, stops-number}
-use Rattle.claims.specs.StreamStates.{LeftBySome, left-passes, passes-left, left-not-five}
+use Rattle.claims.specs.StreamStates.{LeftBySome}
+use Rattle.claims.proofs.StreamStates.{left-passes, passes-left}
+use Rattle.claims.proofs.StreamStatesStated.{left-not-five}
 
 -- ---- the plain words
 
@@ -67,13 +69,13 @@ pub record WrittenSeen (message room : List ℕ) (long r : ℕ) (room' : List �
 -- ---- a piece
 
 -- a number other than 0, of a state that some stream leaves: the reader is stopped by it
-record Stopped (buffer : List ℕ) (k : Read) : Type 0 where
+pub record Stopped (buffer : List ℕ) (k : Read) : Type 0 where
   pub low : 1 ≤ k.step.number
   pub high : k.step.number ≤ 4
   pub words : k.step.state ≡ stopped_by k.step.number
   pub kept : k.buffer ≡ buffer
 
-stops-by : (state : State) (buffer piece : List ℕ) (f : First) → first (pending state buffer ++ piece) ≡ f → ((read_by state buffer piece f).step.number ≡ 0 → ⊥)
+pub stops-by : (state : State) (buffer piece : List ℕ) (f : First) → first (pending state buffer ++ piece) ≡ f → ((read_by state buffer piece f).step.number ≡ 0 → ⊥)
     → Stopped buffer (read_by state buffer piece f)
 unfolding read_by handed step_of
 stops-by state buffer piece (wanted q) e n = absurd (n refl)
@@ -81,135 +83,43 @@ stops-by state buffer piece (stops k q) e n =
     let h = stops-number (pending state buffer ++ piece) k q e in record { low = h.0; high = h.1; words = refl; kept = refl }
 stops-by state buffer piece (whole m q) e n = absurd (n (test-cases (eqb state.got 0) (λ t. rw t) (λ t. rw t)))
 
-some : (n : ℕ) → (n ≡ 0 → ⊥) → 1 ≤ n
+pub some : (n : ℕ) → (n ≡ 0 → ⊥) → 1 ≤ n
 some n h = test-cases (eqb n 0) (λ e. absurd (h (eqb-true n 0 e))) (λ e. let k = eqb-false n 0 e in omega arith)
-
-read-stops : (state : State) (buffer piece : List ℕ) → is_left state ≡ true → ((read state buffer piece).step.number ≡ 0 → ⊥) → Stopped buffer (read state buffer piece)
-unfolding refused step_of
-read-stops state buffer piece left =
-    test-cases (eqb state.stopped 0)
-    (λ e. rw (read-going state buffer piece left (eqb-true state.stopped 0 e)) (stops-by state buffer piece (first (pending state buffer ++ piece)) refl))
-    (λ e.
-    let stop = eqb-false state.stopped 0 e in
-    let words = is-left-stopped state left stop in
-    rw (read-stopped state buffer piece left stop)
-    (λ n. record { low = some state.stopped stop; high = words.limit; words = stopped-words state words; kept = refl }))
 
 module _ (w buffer piece step : List ℕ) (r : ℕ) (w' buffer' step' : List ℕ) (own : w ≡ words_of (state_in w))
     (number : r ≡ (piece_read w buffer piece).step.number) (words : w' ≡ words_of (piece_read w buffer piece).step.state) (bytes : buffer' ≡ (piece_read w buffer piece).buffer)
     (given : step' ≡ step_after step (piece_read w buffer piece).step) where
-  abbrev core : Read
+  abbrev pub core : Read
   core = read (state_read w) buffer piece
 
-  same : piece_read w buffer piece ≡ core
+  pub same : piece_read w buffer piece ≡ core
   unfolding piece_read state_in
   same = refl
 
-  is_number : r ≡ core.step.number
-  is_number = number ∙ ap (λ (k : Read). k.step.number) same
-
-  is-words : w' ≡ words_of core.step.state
-  is-words = words ∙ ap (λ (k : Read). words_of k.step.state) same
-
-  is_state : state_read w' ≡ core.step.state
-  unfolding words_of
-  is_state = ap state_read is-words
-
-  is-bytes : buffer' ≡ core.buffer
-  is-bytes = bytes ∙ ap (λ (k : Read). k.buffer) same
-
-  step_kept : (r ≡ 0 → ⊥) → step' ≡ step
+  pub step_kept : (r ≡ 0 → ⊥) → step' ≡ step
   step_kept n = given ∙ sym (step-stands step (piece_read w buffer piece).step (λ z. n (number ∙ z)))
 
-  step-done : r ≡ 0 → step' ≡ step_words core.step.taken core.step.event
-  step-done z =
-      given
-      ∙ sym (step_given step (piece_read w buffer piece).step (sym number ∙ z))
-      ∙ ap (λ (k : Read). step_words k.step.taken k.step.event) same
-
-  -- words that hold the state before hold the words before
-  back : core.step.state ≡ state_read w → w' ≡ w
-  unfolding state_in
-  back e = is-words ∙ ap words_of e ∙ sym own
-
-  left-test : LeftBySome (state_read w) → is_left (state_read w) ≡ true
+  pub left-test : LeftBySome (state_read w) → is_left (state_read w) ≡ true
   left-test l = rw l.leaves at (left-passes l.stream l.bytes)
-
-  not-five-left : (r ≡ 5 → ⊥) → is_left (state_read w) ≡ true
-  unfolding refused step_of
-  not-five-left n =
-      test-cases (is_left (state_read w)) (λ t. t)
-      (λ f. absurd (n (is_number ∙ ap (λ (k : Read). k.step.number) (read-not-left (state_read w) buffer piece f))))
-
-  five-refused : r ≡ 5 → core ≡ refused 5 (state_read w) buffer
-  five-refused e =
-      read-not-left (state_read w) buffer piece
-      (fails (is_left (state_read w)) λ t. let most = left-not-five (state_read w) (passes-left (state_read w) t) buffer piece in let five = is_number in omega arith)
-
-  -- `gateway_stream_read`
-  pub piece-seen : PieceSeen w buffer piece step r w' buffer' step'
-  unfolding refused step_of step_words
-  piece-seen =
-      record {
-        no-such-state = λ none. test-cases (is_left (state_read w)) (λ t. absurd (none (passes-left (state_read w) t)))
-            (λ f. is_number ∙ ap (λ (k : Read). k.step.number) (read-not-left (state_read w) buffer piece f));
-        only_then = λ five l. let most = left-not-five (state_read w) l buffer piece in let same_number = is_number in let no : ⊥ = omega arith in no;
-        nothing_written = λ five.
-            let k = five-refused five in
-            (back (ap (λ (x : Read). x.step.state) k), is-bytes ∙ ap (λ (x : Read). x.buffer) k, step_kept (λ z. let no : ⊥ = omega arith in no));
-        stopped = λ n q.
-            let s = read-stops (state_read w) buffer piece (not-five-left q) (λ z. n (is_number ∙ z)) in
-            let low = s.low in
-            let high = s.high in
-            let r-is = is_number in
-            ((let z : 1 ≤ r = omega arith in z), (let z : r ≤ 4 = omega arith in z), is_state ∙ s.words ∙ ap stopped_by (sym is_number), is-bytes ∙ s.kept, step_kept n);
-        still-stopped = λ l stop.
-            let k = read-stopped (state_read w) buffer piece (left-test l) stop in
-            (is_number ∙ ap (λ (x : Read). x.step.number) k, back (ap (λ (x : Read). x.step.state) k));
-        number = is_number;
-        state = is_state;
-        bytes = is-bytes;
-        wanted = λ z e. step-done z ∙ ap (step_words core.step.taken) e;
-        in-piece = λ z at size e. step-done z ∙ ap (step_words core.step.taken) e;
-        in_buffer = λ z size e. step-done z ∙ ap (step_words core.step.taken) e;
-      }
 
 -- ---- a message written
 
 module _ (message room : List ℕ) (long r : ℕ) (room' : List ℕ) (long' : ℕ) (number : r ≡ (write message room).answer.number) (bytes : room' ≡ (write message room).room)
     (given : long' ≡ written_after long (write message room).answer) where
-  over : 12292 < length message → (r ≡ 1) × (room' ≡ room)
+  pub over : 12292 < length message → (r ≡ 1) × (room' ≡ room)
   unfolding write written_of
   over h = let e = lt-ltb 12292 (length message) h in (rw e at number, rw e at bytes)
 
-  under : length message ≤ 12292 → length room < length message + 4 → (r ≡ 2) × (room' ≡ room)
+  pub under : length message ≤ 12292 → length room < length message + 4 → (r ≡ 2) × (room' ≡ room)
   unfolding write written_of
   under h k =
       let e = le-ltb 12292 (length message) h in
       let f = lt-ltb (length room) (length message + 4) k in
       (rw (e, f) at number, rw (e, f) at bytes)
 
-  fits : length message ≤ 12292 → length message + 4 ≤ length room → (r ≡ 0) × (room' ≡ put room 0 (framed message)) × (long' ≡ length message + 4)
+  pub fits : length message ≤ 12292 → length message + 4 ≤ length room → (r ≡ 0) × (room' ≡ put room 0 (framed message)) × (long' ≡ length message + 4)
   unfolding write written_of written_after on_done
   fits h k =
       let e = le-ltb 12292 (length message) h in
       let f = le-ltb (length room) (length message + 4) k in
       (rw (e, f) at number, rw (e, f) at bytes, rw (e, f) at given)
-
-  room-kept : (r ≡ 0 → ⊥) → room' ≡ room
-  room-kept n =
-      test-cases (ltb 12292 (length message)) (λ t. (over (ltb-true 12292 (length message) t)).1)
-      (λ t.
-      let short = ltb-false 12292 (length message) t in
-      test-cases (ltb (length room) (length message + 4)) (λ u. (under short (ltb-true (length room) (length message + 4) u)).1)
-      (λ u. absurd (n (fits short (ltb-false (length room) (length message + 4) u)).0)))
-
-  -- `gateway_stream_write`
-  pub written-seen : WrittenSeen message room long r room' long'
-  written-seen =
-      record {
-        too_long = λ h. (over h).0;
-        no_room = λ h k. (under h k).0;
-        kept = λ n. (room-kept n, given ∙ sym (written_stands long (write message room).answer (λ z. n (number ∙ z))));
-        done = fits;
-      }

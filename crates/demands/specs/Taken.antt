@@ -17,7 +17,8 @@ use Rattle.chain.specs.declared.block.Block.{Block}
 use Rattle.chain.specs.declared.block.Next.{Next}
 use Rattle.chain.specs.declared.block.Next.TheVariants.{End, Follow}
 use Rattle.invariants.specs.BlockParse.{block_at, block_inside, block_size, behind}
-use Rattle.readings.specs.FreeBytes.{AllStand, AllAlike, all_alike}
+use Rattle.readings.specs.FreeBytes.{AllStand, AllAlike}
+use Rattle.readings.proofs.FreeBytes.{all_alike}
 use Rattle.invariants.specs.Chained.{Chained, chained-end, chained_more, read-chained}
 use Rattle.message.specs.Message.{served, only_status, answered, reply_of, replied, take-message}
 use Rattle.invariants.specs.Fit.{Fit, fit-answered}
@@ -40,12 +41,6 @@ unread-taken connection s t header r alike u memory room f g =
     fit-answered connection t u memory room g
     ∙ rw (unread-reply s t header r alike connection u memory, unread-answered s t header r alike connection u memory)
     (sym (fit-answered connection s u memory room f))
-
--- "of two messages fit to be answered, let header, connection, tables and files be equal. If the blocks of a reading of one stand unchanged at the same
--- places in the other, .. number, reply, tables, files and whatever else the call gives are equal."
-pub free-taken : (connection : ℕ) (s t : List ℕ) → take 32 t ≡ take 32 s → {spans : List Span} → Reading s spans → AllStand s t spans
-    → (u : Tables) (memory room : List ℕ) → Fit s u memory room → Fit t u memory room → take-message connection t u memory room ≡ take-message connection s u memory room
-free-taken connection s t header r stands = unread-taken connection s t header r (all_alike stands)
 
 -- "Answered as malformed: 0, Status 2/1": a message with a served command that is no sentence changes nothing
 pub malformed-taken : (connection : ℕ) (s : List ℕ) (t : Tables) (memory room : List ℕ) → Fit s t memory room → served (header_command s) ≡ true → (Sentence s → ⊥)

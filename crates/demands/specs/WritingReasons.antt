@@ -21,7 +21,7 @@ use Rattle.message.specs.declared.refusal.Status.{Status}
 use Rattle.message.specs.declared.refusal.Refusal.TheVariants.{NoAccess, NoSpace}
 use Rattle.message.specs.Command.{Given, refused, done, ask_by, unless_barred, barring, writing}
 use Rattle.demands.specs.LoneLock.{held_in, nobody-holds, held-status, Conflicts, May, InWay, Owner, writing-conflict as writing-exact}
-use Rattle.demands.specs.Admitted.{Admitted, NoOpenFor, admitted-may, open-or, with-open, open-given}
+use Rattle.demands.specs.Admitted.{Admitted, NoOpenFor, with-open}
 
 -- a write, by the locks in its way, by what makes it end past 4,096 and by what lets it fit: "or a write on access 0", 1/33, "class 3, code 39, write would end past 4,096"
 pub data WritingStatus (c : Caller) (t : Tables) (fid : ℕ) (Bars : Open → Type 0) (Past Fits : Type 0) : Status → Type 0 where
@@ -57,10 +57,10 @@ end-status false g zero = zero
 -- ---- whatever a write covers and comes to
 
 module _ (c : Caller) (t : Tables) (memory : List ℕ) (ok : sound t ≡ true) (fid : ℕ) (from size : Open → ℕ) (past : Bool) (next : Open → Given) (zero : (o : Open) → status_in (next o) ≡ status 0 0) where
-  abbrev a_write : Given
+  abbrev pub a_write : Given
   a_write = writing c t fid (λ o. ask_by c fid (from o) (size o) Writing) past next
 
-  abbrev Bars : Open → Type 0
+  abbrev pub Bars : Open → Type 0
   Bars o = InWay t o (locks_of t) (from o) (size o) (λ l. (l.shared ≡ false) × Owner fid c.process l → ⊥)
 
   next-not : (o : Open) → Conflicts (next o) → ⊥
@@ -68,18 +68,11 @@ module _ (c : Caller) (t : Tables) (memory : List ℕ) (ok : sound t ≡ true) (
   next-not o = other-status (next o) (λ e. let z : (status_in (next o)).code ≡ 0 = ap (λ (s : Status). s.code) (zero o) in omega arith)
 
   module _ (k : ℕ) (may : May c t fid k) where
-    abbrev write-open : Open
+    abbrev pub write-open : Open
     write-open = get_or (opens_of t) k no_open
 
-    write-refused : eqb write-open.access 0 ≡ true → a_write ≡ refused NoAccess
-    write-refused e = with-open c t fid k _ may ∙ rw e
-
-    write-is : eqb write-open.access 0 ≡ false
-        → a_write ≡ unless_barred t (barring t (ask_by c fid (from write-open) (size write-open) Writing)) (cond past (refused NoSpace) (next write-open))
-    write-is e = with-open c t fid k _ may ∙ rw e
-
     -- a lock is in the way, or the write's end decides
-    write-ends : eqb write-open.access 0 ≡ false → (x : Found) → a_write ≡ unless_barred t x (cond past (refused NoSpace) (next write-open))
+    pub write-ends : eqb write-open.access 0 ≡ false → (x : Found) → a_write ≡ unless_barred t x (cond past (refused NoSpace) (next write-open))
         → (Bars write-open × (status_in a_write ≡ status 1 33)) ⊎ ((Bars write-open → ⊥) × (status_in a_write ≡ cond past (status 3 39) (status 0 0)))
     unfolding unless_barred held_in
     write-ends e (At j) g = inl ((writing-exact c t memory k ok fid from size past next next-not may e).0 (_, ap held_in g), conflicts-status a_write (_, ap held_in g))
@@ -89,49 +82,3 @@ module _ (c : Caller) (t : Tables) (memory : List ℕ) (ok : sound t ≡ true) (
           λ w. other-status a_write (λ q. end-code past (sym (ap (λ (s : Status). s.code) s) ∙ q)) ((writing-exact c t memory k ok fid from size past next next-not may e).1 w),
           s,
         )
-
-    write-either : eqb write-open.access 0 ≡ false
-        → (Bars write-open × (status_in a_write ≡ status 1 33)) ⊎ ((Bars write-open → ⊥) × (status_in a_write ≡ cond past (status 3 39) (status 0 0)))
-    write-either e = write-ends e (barring t (ask_by c fid (from write-open) (size write-open) Writing)) (write-is e)
-
-  module _ {Past Fits : Type 0} (passes : (past ≡ true) ↔ Past) (fits : (past ≡ false) ↔ Fits) where
-    -- the status has its reason
-    pub writing-reason : WritingStatus c t fid Bars Past Fits (status_in a_write)
-    unfolding status_in forms_of
-    writing-reason =
-        elim (open-or c t fid) [
-          | inl h ↦ rw (open-given c t fid _ h.1) (write-not h.1)
-          | inr (k, may, a) ↦ elim (decided (eqb (get_or (opens_of t) k no_open).access 0)) [
-            | inl e ↦ rw (write-refused k may e) (write-access a (eqb-true (get_or (opens_of t) k no_open).access 0 e))
-            | inr e ↦ elim (write-either k may e) [
-              | inl w ↦ rw w.1 (write-barred a (eqb-false (get_or (opens_of t) k no_open).access 0 e) w.0)
-              | inr w ↦ elim (decided past) [
-                | inl p ↦ rw (w.1, p) (write-space a (eqb-false (get_or (opens_of t) k no_open).access 0 e) w.0 (passes.0 p))
-                | inr p ↦ rw (w.1, p) (write_done a (eqb-false (get_or (opens_of t) k no_open).access 0 e) w.0 (fits.0 p))
-              ]
-            ]
-          ]
-        ]
-
-    -- no lock in the way: the write's end decides
-    write-free : {o : Open} → Admitted c t fid o → (o.access ≡ 0 → ⊥) → (Bars o → ⊥) → status_in a_write ≡ cond past (status 3 39) (status 0 0)
-    write-free {o} a n b =
-        let m = admitted-may c t fid ok o a in
-        let e = ne_eqb (get_or (opens_of t) m.0 no_open).access 0 (λ x. n (ap (λ (p : Open). p.access) (sym m.2) ∙ x)) in
-        let b' : Bars (get_or (opens_of t) m.0 no_open) → ⊥ = rw m.2 b in
-        elim (write-either m.0 m.1 e) [ inl w ↦ absurd (b' w.0) | inr w ↦ w.1 ]
-
-    -- and where the reason holds, the status is given
-    pub writing-given : {n : Status} → WritingStatus c t fid Bars Past Fits n → status_in a_write ≡ n
-    unfolding status_in forms_of
-    writing-given (write-not h) = open-given c t fid _ h
-    writing-given (write-access {o} a e) =
-        let m = admitted-may c t fid ok o a in
-        ap status_in (write-refused m.0 m.1 (eq-eqb (get_or (opens_of t) m.0 no_open).access 0 (ap (λ (p : Open). p.access) m.2 ∙ e)))
-    writing-given (write-barred {o} a n b) =
-        let m = admitted-may c t fid ok o a in
-        let e = ne_eqb (get_or (opens_of t) m.0 no_open).access 0 (λ x. n (ap (λ (p : Open). p.access) (sym m.2) ∙ x)) in
-        let b' : Bars (get_or (opens_of t) m.0 no_open) = rw m.2 b in
-        elim (write-either m.0 m.1 e) [ inl w ↦ w.1 | inr w ↦ absurd (w.0 b') ]
-    writing-given (write-space a n b p) = rw (write-free a n b, passes.1 p)
-    writing-given (write_done a n b h) = rw (write-free a n b, fits.1 h)

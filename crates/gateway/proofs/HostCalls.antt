@@ -16,7 +16,8 @@ use Rattle.host.specs.declared.answer.Row.{Row}
 use Rattle.host.specs.HostCall.{refused}
 use Rattle.host.specs.OnWords.{on_words, load_on_words, memory_on_words, row_of, Left}
 use Rattle.boundary.specs.Boundary.{ForNext, number_of, is_done, id_after, file_loaded, load_number_of, memory_after}
-use Rattle.boundary.specs.BoundaryLaws.{Leaves, unfit, refused-leaves, done-leaves, undone-next, wrong-number, right-number, unfit-memory, fit-memory}
+use Rattle.boundary.specs.BoundaryLaws.{Leaves, undone-next, wrong-number, right-number, unfit-memory}
+use Rattle.boundary.proofs.BoundaryLaws.{unfit, refused-leaves, done-leaves, fit-memory}
 
 module _ (w : List ℕ) (a : Returned) where
   on-fit : in_use_fit w ≡ true → on_words w a ≡ a

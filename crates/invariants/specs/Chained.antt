@@ -9,7 +9,8 @@ use Rattle.chain.specs.Chain.{before, blocks_from}
 use Rattle.chain.specs.declared.block.Next.TheVariants.{End, Follow}
 use Rattle.chain.specs.declared.block.Block.{Block}
 use Rattle.invariants.specs.BlockParse.{block_at, Linked, link-plain, link-end, link-next, parse-complete}
-use Rattle.chain.specs.ChainLaws.{chain-end, chain_more}
+use Rattle.chain.specs.ChainLaws.{chain-end}
+use Rattle.chain.proofs.ChainLaws.{chain_more}
 use Rattle.invariants.specs.ReaderSound.{reader-sound-from}
 
 -- a reading with the fields of its blocks: each is one of the table, linked to the next by the rules

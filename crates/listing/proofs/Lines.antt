@@ -12,9 +12,10 @@ use Rattle.wire.specs.LittleEndian.{byte_at}
 use Rattle.chain.specs.Layout.{block_end}
 use Rattle.chain.specs.Header.{dropped}
 use Rattle.chain.specs.Parse.{parse}
-use Rattle.chain.specs.ParseLaws.{placed}
+use Rattle.chain.proofs.ParseLaws.{placed}
 use Rattle.chain.specs.Chain.{before, blocks, blocks_from}
-use Rattle.chain.specs.ChainLaws.{chain-refused, chain-end, chain_more}
+use Rattle.chain.specs.ChainLaws.{chain-refused, chain-end}
+use Rattle.chain.proofs.ChainLaws.{chain_more}
 use Rattle.chain.specs.Judged.{is_whole, readable, readable-blocks}
 use Rattle.chain.specs.declared.block.Block.{Block}
 use Rattle.chain.specs.declared.block.Next.TheVariants.{End, Follow}

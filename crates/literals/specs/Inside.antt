@@ -28,13 +28,9 @@ unfoldable pub read_at : ℕ → ℕ → ℕ → Block
 read_at at offset most = record { command = 0x2E; at = at; length = 23; body = Read (record { fid = 4; offset = offset; max = most }); next = End }
 
 -- at 59 a READ_ANDX block does stand, whole and with its chain's end, whatever the WRITE_ANDX names
-read-inside : (offset : ℕ) → blocks_from (write_then_read offset) 0x2E 59 ≡ some (read_at 59 1 2 ∷ [])
+pub read-inside : (offset : ℕ) → blocks_from (write_then_read offset) 0x2E 59 ≡ some (read_at 59 1 2 ∷ [])
 unfolding read_at write_then_read read_block blocks_from blocks_within after_parse after_block parse parse_read answer read_fits link_fits link_at bare shaped wide_offset le16_at le32_at
 read-inside offset = refl
-
-pub stands-inside : (offset : ℕ) → ReadingFrom (write_then_read offset) 0x2E 59 (record { command = 0x2E; place = 59; size = 23 } ∷ [])
-unfolding span_of read_at
-stands-inside offset = reader-sound-from (write_then_read offset) 0x2E 59 (read_at 59 1 2 ∷ []) (read-inside offset)
 
 -- and yet the message whose AndXOffset names it is no sentence
 pub inside-none : Sentence (write_then_read 59) → ⊥
@@ -42,11 +38,7 @@ unfolding write_then_read read_block blocks blocks_from blocks_within after_pars
 inside-none = (no-sentence (write_then_read 59)).0 refl
 
 -- the same bytes with the block's end, 82, there are a sentence: the WRITE_ANDX, and the READ_ANDX behind it
-read_behind : blocks (write_then_read 82)
+pub read_behind : blocks (write_then_read 82)
     ≡ some (record { command = 0x2F; at = 32; length = 50; body = Write (record { fid = 4; offset = 0; count = 23; from = 59 }); next = Follow 0x2E 82 } ∷ read_at 82 5 6 ∷ [])
 unfolding read_at write_then_read read_block blocks blocks_from blocks_within after_parse after_block before parse parse_write parse_read answer write_fits data_inside read_fits link_fits link_at may_follow bare shaped wide_offset le16_at le32_at
 read_behind = refl
-
-pub behind-sentence : Reading (write_then_read 82) (record { command = 0x2F; place = 32; size = 50 } ∷ record { command = 0x2E; place = 82; size = 23 } ∷ [])
-unfolding span_of read_at
-behind-sentence = reader-sound (write_then_read 82) _ read_behind

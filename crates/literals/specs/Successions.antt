@@ -40,32 +40,32 @@ listed =
     ∷ []
 
 -- the same as a test
-unfoldable is_pair : ℕ → ℕ → Pair → Bool
+unfoldable pub is_pair : ℕ → ℕ → Pair → Bool
 is_pair command next p = eqb p.command command && eqb p.next next
 
-unfoldable is_listed : ℕ → ℕ → Bool
+unfoldable pub is_listed : ℕ → ℕ → Bool
 is_listed command next = any (is_pair command next) listed
 
-unfoldable alike : Bool → Bool → Bool
+unfoldable pub alike : Bool → Bool → Bool
 alike true b = b
 alike false b = not b
 
 -- ---- the test, computed: the reader's table and the list agree at every pair of bytes
 
-table-agrees : all (λ command. all (λ next. alike (may_follow command next) (is_listed command next)) (count_from 0 256)) (count_from 0 256) ≡ true
+pub table-agrees : all (λ command. all (λ next. alike (may_follow command next) (is_listed command next)) (count_from 0 256)) (count_from 0 256) ≡ true
 unfolding all count_from alike may_follow is_listed any is_pair listed pair
 table-agrees = refl
 
 -- ---- what it says
 
-alike_same : (a b : Bool) → alike a b ≡ true → a ≡ b
+pub alike_same : (a b : Bool) → alike a b ≡ true → a ≡ b
 unfolding alike
 alike_same true b e = sym e
 alike_same false true e = absurd (false≢true e)
 alike_same false false e = refl
 
 -- every byte is counted
-counted : (k n i : ℕ) → k ≤ i → i < k + n → In i (count_from k n)
+pub counted : (k n i : ℕ) → k ≤ i → i < k + n → In i (count_from k n)
 unfolding count_from
 counted k zero i h l = absurd (omega arith)
 counted k (suc n) i h l =
@@ -75,37 +75,11 @@ counted k (suc n) i h l =
     ]
 
 -- a pair passes the test exactly if it is in the list
-its-pair : (p : Pair) (command next : ℕ) → p.command ≡ command → p.next ≡ next → In p listed → In (pair command next) listed
+pub its-pair : (p : Pair) (command next : ℕ) → p.command ≡ command → p.next ≡ next → In p listed → In (pair command next) listed
 unfolding pair
 its-pair p command next e f i = rw (← e, ← f) i
 
-listed_in : (command next : ℕ) → is_listed command next ≡ true → In (pair command next) listed
-unfolding is_listed is_pair
-listed_in command next e =
-    let w = any-one (is_pair command next) listed e in
-    let h = both_hold (eqb w.0.command command) (eqb w.0.next next) w.2 in
-    its-pair w.0 command next (eqb-true w.0.command command h.0) (eqb-true w.0.next next h.1) w.1
-
-in-listed : (command next : ℕ) → In (pair command next) listed → is_listed command next ≡ true
+pub in-listed : (command next : ℕ) → In (pair command next) listed → is_listed command next ≡ true
 unfolding is_listed is_pair pair
 in-listed command next i =
     one-any (is_pair command next) i (hold-both (eqb command command) (eqb next next) (eq-eqb command command refl) (eq-eqb next next refl))
-
-module _ (command next : ℕ) (low : command < 256) (low' : next < 256) where
-  same_test : may_follow command next ≡ is_listed command next
-  same_test =
-      let row = all-each (λ (c : ℕ). all (λ (n : ℕ). alike (may_follow c n) (is_listed c n)) (count_from 0 256)) (counted 0 256 command (omega arith) (omega arith)) table-agrees in
-      alike_same (may_follow command next) (is_listed command next)
-      (all-each (λ (n : ℕ). alike (may_follow command n) (is_listed command n)) (counted 0 256 next (omega arith) (omega arith)) row)
-
-  -- "of all 65,536 pairs it allows exactly the eight listed", nine with CR 6's: the answer of `chain::command::may_follow`, whose contract is an equation with may_follow
-  pub exactly-listed : (may_follow command next ≡ true) ↔ In (pair command next) listed
-  exactly-listed = (λ e. listed_in command next (sym same_test ∙ e), λ i. same_test ∙ in-listed command next i)
-
-  -- and so the grammar's last column
-  pub grammar-listed : MayFollow command next ↔ In (pair command next) listed
-  grammar-listed =
-      let t = follow-table command next in (
-        λ m. exactly-listed.0 (t.1 m),
-        λ i. t.0 (exactly-listed.1 i),
-      )

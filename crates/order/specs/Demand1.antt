@@ -18,22 +18,29 @@ use Rattle.message.specs.declared.refusal.Status.{Status}
 use Rattle.message.specs.declared.refusal.HeldBy.TheVariants.{Nobody}
 use Rattle.invariants.specs.Sound.{Good}
 use Rattle.claims.specs.EndOne.{EndReason, end_one-reason, end_one-given}
-use Rattle.claims.specs.HostReasons.{SessionReason, TreeReason, OpenReason, LoadReason, DropReason, SetReason, add_session-reason, add_session-given, add_tree-reason, add_tree-given, add_open-reason, add_open-given, load_file-reason, load_file-given, drop_connection-reason, drop_connection-given, set_catalogue-reason, set_catalogue-given}
-use Rattle.claims.specs.AskUnchanged.{AskReason, ask-reason, ask-given, ask-stands, ask-refused}
+use Rattle.claims.specs.HostReasons.{SessionReason, TreeReason, OpenReason, LoadReason, DropReason, SetReason, add_session-reason, add_session-given, add_tree-reason, add_tree-given, add_open-reason, add_open-given, load_file-reason, load_file-given, drop_connection-reason, drop_connection-given}
+use Rattle.claims.proofs.HostReasons.{set_catalogue-reason, set_catalogue-given}
+use Rattle.claims.specs.AskUnchanged.{AskReason, ask-given, ask-stands, ask-refused}
+use Rattle.claims.proofs.AskUnchanged.{ask-reason}
 use Rattle.claims.specs.HostAnswer.{Unchanged, add_session-refused, add_tree-refused, add_open-refused, load_file-refused, load_memory-refused, drop_connection-refused, end_one-refused, set_catalogue-refused}
 use Rattle.demands.specs.MessageReasons.{MessageReason, take-message-reason, take-message-given}
-use Rattle.demands.specs.NotServed.{not-served-exact}
+use Rattle.demands.proofs.NotServed.{not-served-exact}
 use Rattle.demands.specs.CoreReasons.{LockStatus, UnlockStatus}
 use Rattle.demands.specs.OpenReasons.{OpenStatus}
 use Rattle.demands.specs.CommandReasons.{SessionStatus, TreeStatus, CloseStatus, ReadStatus, WriteStatus, SetSizeStatus, CoreWriteStatus, some-count, count-0}
 use Rattle.demands.specs.WireFields.{read_fields, write_fields, core_read_fields, core_write_fields, open_name}
-use Rattle.demands.specs.LockReasons.{LockingReason, locking-reason-exact}
-use Rattle.demands.specs.FirstReadings.{read-exact, write-exact, close-exact, disconnect-exact, logoff-exact, exit-exact, core-read-exact, core-write-exact, lock-exact, unlock-exact, open-exact}
-use Rattle.demands.specs.RoomKept.{RoomKept, refused-writes-nothing, room-kept}
-use Rattle.demands.specs.SpansRefused.{AllCarried, spans-refused}
-use Rattle.demands.specs.Reached.{HostCall, call-good, Reached, reached-good}
+use Rattle.demands.specs.LockReasons.{LockingReason}
+use Rattle.demands.proofs.LockReasons.{locking-reason-exact}
+use Rattle.demands.proofs.FirstReadings.{read-exact, write-exact, close-exact, logoff-exact, exit-exact, core-read-exact, core-write-exact, lock-exact, unlock-exact, open-exact}
+use Rattle.demands.proofs.FirstReadingsStated.{disconnect-exact}
+use Rattle.demands.specs.RoomKept.{RoomKept, refused-writes-nothing}
+use Rattle.demands.proofs.RoomKept.{room-kept}
+use Rattle.demands.specs.SpansRefused.{AllCarried}
+use Rattle.demands.proofs.SpansRefusedRest.{spans-refused}
+use Rattle.demands.specs.Reached.{HostCall, call-good, Reached}
+use Rattle.demands.proofs.Reached.{reached-good}
 use Rattle.demands.specs.StatusRead.{status_read}
-use Rattle.demands.specs.NoSentence.{no-sentence-taken}
+use Rattle.demands.proofs.NoSentence.{no-sentence-taken}
 use Rattle.order.specs.Call.{Call, gives, Answerable, BeginsKnown, OneCommand, status_given, status_number_given, Says, sender, some_room, left_by, own_message}
 
 -- "No message and no host call, with any bytes, may stop the box or touch memory it wasn't lent": that is what the check of a crate with code shows of each of

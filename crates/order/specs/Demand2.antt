@@ -17,17 +17,27 @@ use Rattle.demands.specs.SentenceCases.{message-61-sentence, message-60-none, me
 use Rattle.demands.specs.Admitted.{Admitted}
 use Rattle.demands.specs.CommandReasons.{OnlyTwoBits}
 use Rattle.demands.specs.LoneLock.{OfFile, core_range, lone_range, shared_in}
-use Rattle.demands.specs.LoneCall.{locking_fields, locking_area, lone-lock-reading}
-use Rattle.demands.specs.ReplyHeader.{HeaderOf, reply-header as header-given}
-use Rattle.demands.specs.FirstReadings.{BarsReadOn, BarsWriteOn, BarsCoreReadOn, BarsCoreWriteOn, BarsSizeOn, first-read-reading, first-write-reading, first-core-read-reading, first-core-write-reading, first-set-size-reading, first-lock-reading}
-use Rattle.demands.specs.Effects.{ReadDone, WriteDone, CoreReadDone, CoreWriteDone, read-reading, write-reading, core-read-reading, core-write-reading, close-reading, disconnect-reading, logoff-reading, exit-reading}
-use Rattle.demands.specs.OpenEffects.{OpenDone, open-reading}
-use Rattle.demands.specs.SetSize.{SetSizeDone, set-size-reading}
-use Rattle.demands.specs.LockEffects.{LockingDone, LockRangeDone, UnlockRangeDone, locking-reading, lock-reading, unlock-reading}
+use Rattle.demands.specs.LoneCall.{locking_fields, locking_area}
+use Rattle.demands.proofs.LoneCall.{lone-lock-reading}
+use Rattle.demands.specs.ReplyHeader.{HeaderOf}
+use Rattle.demands.proofs.ReplyHeader.{reply-header as header-given}
+use Rattle.demands.specs.FirstReadings.{BarsReadOn, BarsWriteOn, BarsCoreReadOn, BarsCoreWriteOn, BarsSizeOn}
+use Rattle.demands.proofs.FirstReadings.{first-read-reading, first-write-reading, first-core-read-reading, first-core-write-reading, first-set-size-reading, first-lock-reading}
+use Rattle.demands.specs.Effects.{ReadDone, WriteDone, CoreReadDone, CoreWriteDone}
+use Rattle.demands.proofs.Effects.{read-reading, write-reading, core-read-reading, core-write-reading, disconnect-reading, logoff-reading}
+use Rattle.demands.proofs.EffectsStated.{close-reading, exit-reading}
+use Rattle.demands.specs.OpenEffects.{OpenDone}
+use Rattle.demands.proofs.OpenEffects.{open-reading}
+use Rattle.demands.specs.SetSize.{SetSizeDone}
+use Rattle.demands.proofs.SetSize.{set-size-reading}
+use Rattle.demands.specs.LockEffects.{LockingDone, LockRangeDone, UnlockRangeDone}
+use Rattle.demands.proofs.LockEffects.{locking-reading, lock-reading, unlock-reading}
 use Rattle.claims.specs.RemovalPlain.{Closed, Disconnected, LoggedOff, Exited}
 use Rattle.claims.specs.AskUnchanged.{ask-stands}
-use Rattle.claims.specs.EndOne.{OneEnded, end_one-frame}
-use Rattle.claims.specs.HostFrames.{SessionAdded, TreeAdded, OpenAdded, FileLoaded, ConnectionDropped, CatalogueSet, add_session-frame, add_tree-frame, add_open-frame, load_file-frame, drop_connection-frame, set_catalogue-frame}
+use Rattle.claims.specs.EndOne.{OneEnded}
+use Rattle.claims.proofs.EndOne.{end_one-frame}
+use Rattle.claims.specs.HostFrames.{SessionAdded, TreeAdded, OpenAdded, FileLoaded, ConnectionDropped, CatalogueSet, add_session-frame, add_tree-frame, add_open-frame, load_file-frame, set_catalogue-frame}
+use Rattle.claims.proofs.HostFrames.{drop_connection-frame}
 use Rattle.host.specs.declared.ending.One.{One}
 use Rattle.host.specs.HostCall.{add_session, add_tree, add_open, load_file, load_memory, drop_connection, set_catalogue, ask_unchanged, end_one}
 use Rattle.records.specs.declared.Name.{Name}

@@ -10,15 +10,19 @@ use Rattle.chain.specs.Header.{dropped}
 use Rattle.listing.specs.Text.{listing, not_chain, dropped_line}
 use Rattle.readings.specs.OneReading.{one-reading-of-message}
 use Rattle.readings.specs.Unread.{Unread}
-use Rattle.readings.specs.FreeBytes.{free-reading}
-use Rattle.readings.specs.ListingExact.{span_lines, reading-listed, not-chain-exact, dropped-exact}
-use Rattle.demands.specs.NotServed.{known-exact}
-use Rattle.demands.specs.Calls.{malformed-call}
-use Rattle.demands.specs.Taken.{free-taken, unread-taken}
+use Rattle.readings.proofs.FreeBytes.{free-reading}
+use Rattle.readings.specs.ListingExact.{span_lines}
+use Rattle.readings.proofs.ListingExact.{reading-listed, dropped-exact}
+use Rattle.readings.proofs.ListingExactStated.{not-chain-exact}
+use Rattle.demands.proofs.NotServed.{known-exact}
+use Rattle.demands.proofs.CallsStated.{malformed-call}
+use Rattle.demands.proofs.Taken.{free-taken}
+use Rattle.demands.specs.Taken.{unread-taken}
 use Rattle.demands.specs.CallsOneByOne.{compared_call}
 use Rattle.message.specs.JustOpened.{NOBODY}
-use Rattle.demands.specs.SpansOneByOne.{spans-one-by-one}
-use Rattle.demands.specs.SpansFit.{AllSentFit, spans_fit}
+use Rattle.demands.proofs.SpansOneByOne.{spans-one-by-one}
+use Rattle.demands.specs.SpansFit.{AllSentFit}
+use Rattle.demands.proofs.SpansFit.{spans_fit}
 use Rattle.order.specs.Call.{Call, gives, Answerable, BeginsKnown, Says, sending, some_room, left_by}
 
 -- "The grammar of chained messages is written without reference to the reader": chain/specs/Grammar.antt cites chain/specs/Layout.antt, where each field

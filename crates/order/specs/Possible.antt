@@ -43,7 +43,8 @@ use Rattle.invariants.specs.ReaderSound.{span_of, reader-sound}
 use Rattle.claims.specs.Cases.{message}
 use Rattle.demands.specs.NotServed.{known-locking}
 use Rattle.demands.specs.SentenceCases.{message-60-none}
-use Rattle.demands.specs.Calls.{status-call, length-call}
+use Rattle.demands.proofs.Calls.{status-call}
+use Rattle.demands.specs.Calls.{length-call}
 use Rattle.claims.specs.HostReasons.{HasTree}
 use Rattle.demands.specs.Admitted.{SessionHere}
 use Rattle.demands.specs.CommandReasons.{OnlyTwoBits}
@@ -81,40 +82,20 @@ asked message t = record { connection = 5; message = message; tables = t; memory
 
 -- ---- the tables are sound and have their room
 
-plant-sound : (sound (plant 2 0) ≡ true) × (sound (plant 1 0) ≡ true) × (sound (plant 2 1) ≡ true)
+pub plant-sound : (sound (plant 2 0) ≡ true) × (sound (plant 1 0) ≡ true) × (sound (plant 2 1) ≡ true)
 unfolding sound within_room file_ok tree_ok permits holds_open sharing_ok catalogue_ok none_doubled open_ok sound_records lock_ok agree agree_all sound_locks any all all_tails contains number_ok numbered overlaps passes_end file_of plant seen_ok
 plant-sound = (refl, refl, refl)
 
-good : (access held : ℕ) → sound (plant access held) ≡ true → Good (plant access held)
+pub good : (access held : ℕ) → sound (plant access held) ≡ true → Good (plant access held)
 unfolding plant
 good access held ok = record { sound = ok; shaped = record { sessions16 = refl; trees32 = refl; opens64 = refl; locks128 = refl; files16 = refl; names16 = refl } }
 
--- an open for both, one for writing, and the first beside the lock
-pub plant-good : Good (plant 2 0) × Good (plant 1 0) × Good (plant 2 1)
-plant-good = (good 2 0 plant-sound.0, good 1 0 plant-sound.1, good 2 1 plant-sound.2)
-
 -- ---- fit to be answered, known, a sentence and not one
-
-pub answerable : (s : List ℕ) (t : Tables) → Good t → dropped s ≡ false → Answerable (asked s t)
-unfolding asked
-answerable s t ok kept =
-    record {
-      fit = record {
-        room-enough = rw (length-replicate {A = ℕ} 12292 0) (omega arith);
-        memory-whole = length-replicate {A = ℕ} 65536 0;
-        tables-sound = ok.sound;
-        not-dropped = kept;
-      };
-      good = ok;
-    }
 
 -- document 01's message, a lock and a read
 pub kept-61 : dropped (message 61 []) ≡ false
 unfolding dropped starts_smb is_reply message
 kept-61 = refl
-
-pub chain-answerable : Answerable (asked (message 61 []) (plant 2 0))
-chain-answerable = answerable (message 61 []) (plant 2 0) plant-good.0 kept-61
 
 pub chain-known : BeginsKnown (asked (message 61 []) (plant 2 0))
 unfolding asked message
@@ -129,17 +110,13 @@ unfolding chain_spans message blocks blocks_from blocks_within after_parse after
 chain-reading = reader-sound (message 61 []) _ refl
 
 -- with AndXOffset 60 it is fit to be answered and known too, and no sentence
-kept-60 : dropped (message 60 []) ≡ false
+pub kept-60 : dropped (message 60 []) ≡ false
 unfolding dropped starts_smb is_reply message
 kept-60 = refl
 
-pub no-chain : Answerable (asked (message 60 []) (plant 2 0)) × BeginsKnown (asked (message 60 []) (plant 2 0)) × (Sentence (message 60 []) → ⊥)
-unfolding asked message
-no-chain = (answerable (message 60 []) (plant 2 0) plant-good.0 kept-60, known-locking, message-60-none)
-
 -- ---- carried out, refused at its second command, refused for conflict
 
-answer-to : List ℕ → Tables → ℕ → ℕ → ℕ → HeldBy → Type 0
+unfoldable pub answer-to : List ℕ → Tables → ℕ → ℕ → ℕ → HeldBy → Type 0
 answer-to s t class code size held =
     ((answered 5 s t (replicate 65536 0)).forms.status ≡ status class code) × (length (answered 5 s t (replicate 65536 0)).blocks ≡ size)
     × ((answered 5 s t (replicate 65536 0)).holder ≡ held)
@@ -150,31 +127,9 @@ process_nine = held_by (record { lock = record { fid = 1; process = 9; offset = 
 
 -- on an open for both LOCKING and READ are done; on one for writing READ is refused (1/5) behind LOCKING's block; beside the shared lock LOCKING is (1/33), and has
 -- its holder
-answers-given : answer-to (message 61 []) (plant 2 0) 0 0 34 Nobody × answer-to (message 61 []) (plant 1 0) 1 5 10 Nobody × answer-to (message 61 []) (plant 2 1) 1 33 3 process_nine
+pub answers-given : answer-to (message 61 []) (plant 2 0) 0 0 34 Nobody × answer-to (message 61 []) (plant 1 0) 1 5 10 Nobody × answer-to (message 61 []) (plant 2 1) 1 33 3 process_nine
 unfolding asked message blocks blocks_from blocks_within after_parse after_block before parse parse_locking parse_read answer locking_fits read_fits link_fits link_at may_follow shaped bare is_large le16_at le32_at wide_offset range_size answered served run_chain run body_meant fid_meant after_given after perform do_locking with_open with_tree with_session is_session is_tree is_open open_at found found_from any served_type request_of locking_after locking_end with_lock_list locking ranges_of of_header ranges_at range_from range_at number_at request after_releases after_grants grant_all after_walk holder_at holder_of process_nine release_all after_find remove_at range_passes passes_end ask_of lock_of answers answers_for in_way bars named owns overlaps settle stored do_read unless_barred barring ask_by file_of caller_of area_of data_of status forms_of plant answer-to read_bytes contents size_of reply_size reply_block refused_block link_to link_words two noting changes_of with_opens
 answers-given = ((refl, refl, refl), (refl, refl, refl), (refl, refl, refl))
-
-call-says : (t : Tables) (ok : Good t) (class code size : ℕ) (held : HeldBy) → answer-to (message 61 []) t class code size held
-    → Says (asked (message 61 []) t) class code × ((gives (asked (message 61 []) t)).length ≡ 32 + size) × ((gives (asked (message 61 []) t)).holder ≡ held)
-unfolding asked answer-to replied
-call-says t ok class code size held h =
-    let fit = (answerable (message 61 []) t ok kept-61).fit in (
-      status-call 5 (message 61 []) t (replicate 65536 0) (replicate 12292 0) fit ∙ h.0,
-      length-call 5 (message 61 []) t (replicate 65536 0) (replicate 12292 0) fit ∙ ap (λ (n : ℕ). 32 + n) h.1,
-      ap (λ (k : Taken). k.holder) (fit-answered 5 (message 61 []) t (replicate 65536 0) (replicate 12292 0) fit) ∙ h.2,
-    )
-
-pub chain-done : Says (asked (message 61 []) (plant 2 0)) 0 0 × ((gives (asked (message 61 []) (plant 2 0))).length ≡ 66)
-    × ((gives (asked (message 61 []) (plant 2 0))).holder ≡ Nobody)
-chain-done = call-says (plant 2 0) plant-good.0 0 0 34 Nobody answers-given.0
-
-pub second-refused : Says (asked (message 61 []) (plant 1 0)) 1 5 × ((gives (asked (message 61 []) (plant 1 0))).length ≡ 42)
-    × ((gives (asked (message 61 []) (plant 1 0))).holder ≡ Nobody)
-second-refused = call-says (plant 1 0) plant-good.1 1 5 10 Nobody answers-given.1
-
-pub lock-refused : Says (asked (message 61 []) (plant 2 1)) 1 33 × ((gives (asked (message 61 []) (plant 2 1))).length ≡ 35)
-    × ((gives (asked (message 61 []) (plant 2 1))).holder ≡ process_nine)
-lock-refused = call-says (plant 2 1) plant-good.2 1 33 3 process_nine answers-given.2
 
 -- its LOCKING is a lock alone in its request, of a served type, on a valid open and within range
 pub asks-one-lock : AsksOneLock (asked (message 61 []) (plant 2 1))

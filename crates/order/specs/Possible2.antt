@@ -23,7 +23,7 @@ use Rattle.message.specs.JustOpened.{fid_meant, body_meant}
 use Rattle.message.specs.Message.{area_of, data_of, after_given, run, served, run_chain, answered, Taken, replied}
 use Rattle.invariants.specs.Fit.{fit-answered}
 use Rattle.order.specs.Call.{Call, gives, Answerable}
-use Rattle.order.specs.Possible.{plant, asked, plant-good, answerable}
+use Rattle.order.specs.Possible.{plant, asked}
 
 -- LOCKING through FID 1, exclusive, with no unlock and two locks: the bytes 0 to 9 for process 8 and 5 to 14 for process 9; the header's process is 7, as the open's
 unfoldable pub two_ranges : List ℕ
@@ -41,21 +41,10 @@ two_asked = asked two_ranges (plant 2 1)
 unfoldable pub first_range : Holder
 first_range = record { lock = record { fid = 1; process = 8; offset = 0; length = 10; shared = false }; place = 1 }
 
-kept : dropped two_ranges ≡ false
+pub kept : dropped two_ranges ≡ false
 unfolding dropped starts_smb is_reply two_ranges
 kept = refl
 
-pub two-answerable : Answerable two_asked
-unfolding two_asked
-two-answerable = answerable two_ranges (plant 2 1) plant-good.2 kept
-
-two-given : ((answered 5 two_ranges (plant 2 1) (replicate 65536 0)).holder ≡ held_by first_range) × ((answered 5 two_ranges (plant 2 1) (replicate 65536 0)).tables ≡ plant 2 1)
+pub two-given : ((answered 5 two_ranges (plant 2 1) (replicate 65536 0)).holder ≡ held_by first_range) × ((answered 5 two_ranges (plant 2 1) (replicate 65536 0)).tables ≡ plant 2 1)
 unfolding two_ranges first_range plant blocks blocks_from blocks_within after_parse after_block before parse parse_locking answer locking_fits link_fits link_at may_follow shaped bare is_large le16_at le32_at range_size answered served run_chain run body_meant fid_meant after_given perform do_locking with_open with_tree with_session is_session is_tree is_open open_at found found_from any served_type request_of locking_after locking_end locking ranges_of of_header ranges_at range_from range_at number_at request after_releases after_grants grant_all after_walk release_all after_find remove_at range_passes passes_end ask_of lock_of holder_at holder_of answers answers_for in_way bars named owns overlaps settle stored file_of caller_of area_of data_of
 two-given = (refl, refl)
-
--- that range is the holder, and its lock is undone: no table is changed
-pub first-refuses : ((gives two_asked).holder ≡ held_by first_range) × ((gives two_asked).tables ≡ plant 2 1)
-unfolding two_asked asked replied
-first-refuses =
-    let same = fit-answered 5 two_ranges (plant 2 1) (replicate 65536 0) (replicate 12292 0) (answerable two_ranges (plant 2 1) plant-good.2 kept).fit in
-    (ap (λ (k : Taken). k.holder) same ∙ two-given.0, ap (λ (k : Taken). k.tables) same ∙ two-given.1)

@@ -43,7 +43,8 @@ use Rattle.claims.specs.HostReasons.{HasTree}
 use Rattle.claims.specs.StreamKept.{Bytes}
 use Rattle.literals.specs.State.{memory}
 use Rattle.literals.specs.CoreCommands.{core_write as core_write_of, size_to}
-use Rattle.demands.specs.Calls.{status-call, length-call}
+use Rattle.demands.proofs.Calls.{status-call}
+use Rattle.demands.specs.Calls.{length-call}
 use Rattle.demands.specs.Admitted.{SessionHere, Admitted}
 use Rattle.demands.specs.Reached.{take-message-memory}
 use Rattle.demands.specs.DataBlock.{BadCoreWrite, alone, not-marked}
@@ -51,7 +52,7 @@ use Rattle.demands.specs.CorePairCalls.{EqualFields}
 use Rattle.demands.specs.CorePairCases.{sent, core_read, andx_read, core_write, andx_write, core_bytes, andx_locking, short100, BothSent, PairSent, read-sent, write-sent, lock-sent, unlock-sent, ChainSent, chain-sent}
 use Rattle.order.specs.Call.{Call, gives, Answerable, OneCommand, Says, sender, sending}
 use Rattle.order.specs.Demand2.{ValidCoreOpen}
-use Rattle.order.specs.Request3.{AsksSize, SentInstead, OnWhatItLeft, request-3}
+use Rattle.order.specs.Request3.{AsksSize, SentInstead, OnWhatItLeft}
 use Rattle.records.specs.Change.{changes_of, noting}
 
 -- ---- a bench
@@ -83,11 +84,11 @@ others = record { fid = 4; process = 9; offset = 105; length = 20; shared = true
 unfoldable pub own : Lock
 own = record { fid = 4; process = 65543; offset = 100; length = 10; shared = false }
 
-bench-sound : (sound (bench others 0) ≡ true) × (sound (bench others 1) ≡ true) × (sound (bench own 1) ≡ true)
+pub bench-sound : (sound (bench others 0) ≡ true) × (sound (bench others 1) ≡ true) × (sound (bench own 1) ≡ true)
 unfolding sound within_room file_ok tree_ok permits holds_open sharing_ok catalogue_ok none_doubled open_ok sound_records lock_ok agree agree_all sound_locks any all all_tails contains number_ok numbered overlaps passes_end file_of bench others own seen_ok
 bench-sound = (refl, refl, refl)
 
-good : (lock : Lock) (held : ℕ) → sound (bench lock held) ≡ true → Good (bench lock held)
+pub good : (lock : Lock) (held : ℕ) → sound (bench lock held) ≡ true → Good (bench lock held)
 unfolding bench
 good lock held ok = record { sound = ok; shaped = record { sessions16 = refl; trees32 = refl; opens64 = refl; locks128 = refl; files16 = refl; names16 = refl } }
 
@@ -95,11 +96,11 @@ good lock held ok = record { sound = ok; shaped = record { sessions16 = refl; tr
 unfoldable pub asked : List ℕ → Tables → Call
 asked message t = record { connection = 5; message = message; tables = t; memory = memory; room = replicate 12292 0 }
 
-memory-whole : length memory ≡ 65536
+pub memory-whole : length memory ≡ 65536
 unfolding memory
 memory-whole = refl
 
-answerable : (s : List ℕ) (t : Tables) → Good t → dropped s ≡ false → Answerable (asked s t)
+pub answerable : (s : List ℕ) (t : Tables) → Good t → dropped s ≡ false → Answerable (asked s t)
 unfolding asked
 answerable s t ok kept =
     record {
@@ -131,7 +132,7 @@ unfoldable pub bad_block : List ℕ
 bad_block = sent CORE-WRITE (core_write_of 2 2 0 5 2 2 (0xBB ∷ 0xCC ∷ []))
 
 -- Status, length of the reply blocks, and holder
-Given : Ran → ℕ → ℕ → ℕ → HeldBy → Type 0
+unfoldable pub Given : Ran → ℕ → ℕ → ℕ → HeldBy → Type 0
 Given r class code size held = (r.forms.status ≡ status class code) × (length r.blocks ≡ size) × (r.holder ≡ held)
 
 unfoldable pub others_hold : HeldBy
@@ -139,7 +140,7 @@ others_hold = held_by (record { lock = record { fid = 4; process = 9; offset = 1
 
 -- a cut and, on what it left, a growth; one past 4,096; a LOCK where the others' lock is, an UNLOCK where its own is not and where it is; a READ, a WRITE; the chain; the size
 -- past 4,096 over the others' lock
-given-here : Given (answered 5 cut (bench others 0) memory) 0 0 5 Nobody
+pub given-here : Given (answered 5 cut (bench others 0) memory) 0 0 5 Nobody
     × Given (answered 5 grow (answered 5 cut (bench others 0) memory).tables (answered 5 cut (bench others 0) memory).memory) 0 0 5 Nobody
     × Given (answered 5 too_large (bench others 0) memory) 3 39 3 Nobody
     × Given (answered 5 (sent LOCK_BYTE_RANGE core_bytes) (bench others 1) memory) 1 33 3 others_hold
@@ -164,7 +165,7 @@ given-here = (
 )
 
 -- the same of the call
-call-says : (s : List ℕ) (t : Tables) (a : Answerable (asked s t)) (class code size : ℕ) (held : HeldBy) → Given (answered 5 s t memory) class code size held
+pub call-says : (s : List ℕ) (t : Tables) (a : Answerable (asked s t)) (class code size : ℕ) (held : HeldBy) → Given (answered 5 s t memory) class code size held
     → Says (asked s t) class code × ((gives (asked s t)).length ≡ 32 + size) × ((gives (asked s t)).holder ≡ held)
 unfolding asked Given replied
 call-says s t a class code size held h = (
@@ -175,19 +176,19 @@ call-says s t a class code size held h = (
 
 -- ---- count 0
 
-kept : (dropped cut ≡ false) × (dropped grow ≡ false) × (dropped too_large ≡ false) × (dropped bad_block ≡ false)
+pub kept : (dropped cut ≡ false) × (dropped grow ≡ false) × (dropped too_large ≡ false) × (dropped bad_block ≡ false)
 unfolding dropped starts_smb is_reply cut grow too_large bad_block sent size_to core_write_of
 kept = (refl, refl, refl, refl)
 
 -- each is one core WRITE of count 0
-one-write : OneCommand (asked cut (bench others 0)) CORE-WRITE × OneCommand (asked too_large (bench others 0)) CORE-WRITE
+pub one-write : OneCommand (asked cut (bench others 0)) CORE-WRITE × OneCommand (asked too_large (bench others 0)) CORE-WRITE
 unfolding asked cut too_large sent size_to core_write_of blocks blocks_from blocks_within after_parse after_block parse parse_core_write answer core_write_fits shaped le16_at le32_at span_of
 one-write = (
   record { span = record { command = CORE-WRITE; place = 32; size = 16 }; reading = reader-sound cut _ refl; is = refl },
   record { span = record { command = CORE-WRITE; place = 32; size = 16 }; reading = reader-sound too_large _ refl; is = refl },
 )
 
-valid-open : ValidCoreOpen (asked cut (bench others 0)) bench_open
+pub valid-open : ValidCoreOpen (asked cut (bench others 0)) bench_open
     × ValidCoreOpen (asked too_large (bench others 0)) bench_open
     × ValidCoreOpen (asked too_large (bench others 1)) bench_open
 unfolding asked cut too_large sent size_to core_write_of bench bench_open caller_of le16_at SessionHere HasTree
@@ -196,53 +197,6 @@ valid-open = (
   record { session = (_, first refl, refl, refl); tree = (_, first refl, refl, refl); opened = record { listed = first refl; of-fid = refl; of-uid = refl; of-tid = refl } },
   record { session = (_, first refl, refl, refl); tree = (_, first refl, refl, refl); opened = record { listed = first refl; of-fid = refl; of-uid = refl; of-tid = refl } },
 )
-
--- the file is cut from 6 to 4
-pub cut-asked : AsksSize (asked cut (bench others 0)) bench_open
-unfolding asked cut sent size_to core_write_of bench_open le16_at
-cut-asked =
-    record {
-      answerable = answerable cut (bench others 0) (good others 0 bench-sound.0) kept.0;
-      one = one-write.0;
-      count-0 = refl;
-      valid = valid-open.0;
-      may_write = λ e. let z : ◌≡◌ {A = ℕ} 2 0 = e in omega arith;
-    }
-
-pub cut-done : Says (asked cut (bench others 0)) 0 0 × ((gives (asked cut (bench others 0))).length ≡ 37) × ((gives (asked cut (bench others 0))).holder ≡ Nobody)
-cut-done = call-says cut (bench others 0) cut-asked.answerable 0 0 5 Nobody given-here.0
-
--- past 4,096
-pub too-large-asked : AsksSize (asked too_large (bench others 0)) bench_open
-unfolding asked too_large sent size_to core_write_of bench_open le16_at
-too-large-asked =
-    record {
-      answerable = answerable too_large (bench others 0) (good others 0 bench-sound.0) kept.2;
-      one = one-write.1;
-      count-0 = refl;
-      valid = valid-open.1;
-      may_write = λ e. let z : ◌≡◌ {A = ℕ} 2 0 = e in omega arith;
-    }
-
-pub too-large-refused : Says (asked too_large (bench others 0)) 3 39 × ((gives (asked too_large (bench others 0))).length ≡ 35)
-    × ((gives (asked too_large (bench others 0))).holder ≡ Nobody)
-too-large-refused = call-says too_large (bench others 0) too-large-asked.answerable 3 39 3 Nobody given-here.2
-
--- past 4,096 and over the others' lock on 105 to 124, which is between the sizes: 1/33 stands before 3/39
-pub too-large-barred-asked : AsksSize (asked too_large (bench others 1)) bench_open
-unfolding asked too_large sent size_to core_write_of bench_open le16_at
-too-large-barred-asked =
-    record {
-      answerable = answerable too_large (bench others 1) (good others 1 bench-sound.1) kept.2;
-      one = record { span = one-write.1.span; reading = one-write.1.reading; is = refl };
-      count-0 = refl;
-      valid = valid-open.2;
-      may_write = λ e. let z : ◌≡◌ {A = ℕ} 2 0 = e in omega arith;
-    }
-
-pub too-large-barred : Says (asked too_large (bench others 1)) 1 33 × ((gives (asked too_large (bench others 1))).length ≡ 35)
-    × ((gives (asked too_large (bench others 1))).holder ≡ others_hold)
-too-large-barred = call-says too_large (bench others 1) too-large-barred-asked.answerable 1 33 3 others_hold given-here.9
 
 -- ---- and grows again to 9, on what the cut left
 
@@ -260,62 +214,13 @@ pub grown-on-it : OnWhatItLeft (asked cut (bench others 0)) grown
 unfolding grown
 grown-on-it = record { same_tables = refl; same_memory = refl }
 
-grown-answerable : Answerable grown
-unfolding grown asked
-grown-answerable =
-    let before = cut-asked.answerable in
-    let left = take-message-good 5 cut (bench others 0) memory (replicate 12292 0) before.good in
-    record {
-      fit = record {
-        room-enough = before.fit.room-enough;
-        memory-whole = take-message-memory 5 cut (bench others 0) memory (replicate 12292 0) before.good ∙ memory-whole;
-        tables-sound = left.sound;
-        not-dropped = kept.1;
-      };
-      good = left;
-    }
-
--- what the cut left, as it is computed
-left-computed : ((gives (asked cut (bench others 0))).tables ≡ (answered 5 cut (bench others 0) memory).tables)
-    × ((gives (asked cut (bench others 0))).memory ≡ (answered 5 cut (bench others 0) memory).memory)
-unfolding asked replied
-left-computed =
-    let same = fit-answered 5 cut (bench others 0) memory (replicate 12292 0) cut-asked.answerable.fit in
-    (ap (λ (k : Taken). k.tables) same, ap (λ (k : Taken). k.memory) same)
-
 -- its open stands, and of the file memory the bytes A4 A5 stand at 4,100, where the file has ended
-left_there : Admitted (caller_of 5 grow) (answered 5 cut (bench others 0) memory).tables 4 bench_open
+pub left_there : Admitted (caller_of 5 grow) (answered 5 cut (bench others 0) memory).tables 4 bench_open
     × (get_or (answered 5 cut (bench others 0) memory).memory 4100 0 ≡ 0xA4)
 unfolding grow bench_open SessionHere HasTree cut sent size_to core_write_of bench others memory blocks blocks_from blocks_within after_parse after_block parse parse_core_write answer core_write_fits shaped le16_at le32_at answered served run_chain run body_meant fid_meant after_given after perform with_open with_tree with_session is_session is_tree is_open open_at found found_from any unless_barred barring ask_by file_of caller_of area_of data_of size_of between_sizes do_set_size do_core_write put with_files answers answers_for in_way bars owns overlaps sized_to
 left_there = (
   record { session = (_, first refl, refl, refl); tree = (_, first refl, refl, refl); opened = record { listed = first refl; of-fid = refl; of-uid = refl; of-tid = refl } },
   refl,
-)
-
-pub grown-asked : AsksSize grown bench_open
-unfolding grown grow sent size_to core_write_of bench_open blocks blocks_from blocks_within after_parse after_block parse parse_core_write answer core_write_fits shaped le16_at le32_at span_of
-grown-asked =
-    record {
-      answerable = grown-answerable;
-      one = record { span = record { command = CORE-WRITE; place = 32; size = 16 }; reading = reader-sound grow _ refl; is = refl };
-      count-0 = refl;
-      valid = rw left-computed.0 left_there.0;
-      may_write = λ e. let z : ◌≡◌ {A = ℕ} 2 0 = e in omega arith;
-    }
-
-pub grown-done : Says grown 0 0
-unfolding grown Given
-grown-done =
-    status-call 5 grow (gives (asked cut (bench others 0))).tables (gives (asked cut (bench others 0))).memory (replicate 12292 0) grown-answerable.fit
-    ∙ rw (left-computed.0, left-computed.1) given-here.1.0
-
--- where A4 stood, which the cut left, there is 0 now
-pub old-byte-gone : (get_or (gives (asked cut (bench others 0))).memory 4100 0 ≡ 0xA4) × (get_or (gives grown).memory 4100 0 ≡ 0)
-unfolding bench_open asked cut grown grow sent size_to core_write_of le32_at le16_at
-old-byte-gone = (
-  rw left-computed.1 left_there.1,
-  (request-3.old-bytes-never-show.then-grown (asked cut (bench others 0)) grown bench_open bench_open cut-asked cut-done.0 grown-on-it grown-asked grown-done refl).in_memory 4 (omega arith)
-      (omega arith),
 )
 
 -- ---- each core command and its counterpart
@@ -328,53 +233,10 @@ pub record PairPossible (s other : List ℕ) (core counterpart : ℕ) (t : Table
   pub two : OneCommand (sending (asked s t) other) counterpart
   pub equal : EqualFields s other core counterpart
 
-both-sent : (s other : List ℕ) (t : Tables) → Good t → BothSent s other → SentInstead (asked s t) other
+pub both-sent : (s other : List ℕ) (t : Tables) → Good t → BothSent s other → SentInstead (asked s t) other
 unfolding asked
 both-sent s other t ok h =
     record { answerable = answerable s t ok h.kept-one; other-answerable = answerable other t ok h.kept-other; same-sender = h.sender }
-
-pair-possible : (s other : List ℕ) (core counterpart : ℕ) (t : Tables) → Good t → PairSent s other core counterpart → PairPossible s other core counterpart t
-unfolding asked
-pair-possible s other core counterpart t ok h =
-    record {
-      instead = both-sent s other t ok h.both;
-      of-bytes = h.both.of-bytes;
-      one = record { span = h.reading-one.0; reading = h.reading-one.1; is = h.is_one };
-      two = record { span = h.reading-other.0; reading = h.reading-other.1; is = h.is-other };
-      equal = h.equal;
-    }
-
-pub read-possible : PairPossible (sent CORE-READ core_read) (sent READ andx_read) CORE-READ READ (bench others 0)
-read-possible = pair-possible _ _ _ _ _ (good others 0 bench-sound.0) read-sent
-
-pub write-possible : PairPossible (sent CORE-WRITE core_write) (sent WRITE andx_write) CORE-WRITE WRITE (bench others 0)
-write-possible = pair-possible _ _ _ _ _ (good others 0 bench-sound.0) write-sent
-
-pub lock-possible : PairPossible (sent LOCK_BYTE_RANGE core_bytes) (sent LOCKING (andx_locking 0xFF 0 0 1 10 short100)) LOCK_BYTE_RANGE LOCKING (bench others 1)
-lock-possible = pair-possible _ _ _ _ _ (good others 1 bench-sound.1) lock-sent
-
-pub unlock-possible : PairPossible (sent UNLOCK_BYTE_RANGE core_bytes) (sent LOCKING (andx_locking 0xFF 1 1 0 10 short100)) UNLOCK_BYTE_RANGE LOCKING (bench own 1)
-unlock-possible = pair-possible _ _ _ _ _ (good own 1 bench-sound.2) unlock-sent
-
--- the READ, the WRITE and the UNLOCK are done, the LOCK is refused by the others' lock
-pub pairs-answered : Says (asked (sent CORE-READ core_read) (bench others 0)) 0 0
-    × Says (asked (sent CORE-WRITE core_write) (bench others 0)) 0 0
-    × Says (asked (sent LOCK_BYTE_RANGE core_bytes) (bench others 1)) 1 33
-    × ((gives (asked (sent LOCK_BYTE_RANGE core_bytes) (bench others 1))).holder ≡ others_hold)
-    × Says (asked (sent UNLOCK_BYTE_RANGE core_bytes) (bench own 1)) 0 0
-pairs-answered =
-    let refused = call-says (sent LOCK_BYTE_RANGE core_bytes) (bench others 1) lock-possible.instead.answerable 1 33 3 others_hold given-here.3 in (
-      (call-says (sent CORE-READ core_read) (bench others 0) read-possible.instead.answerable 0 0 19 Nobody given-here.6).0,
-      (call-says (sent CORE-WRITE core_write) (bench others 0) write-possible.instead.answerable 0 0 5 Nobody given-here.7).0,
-      refused.0,
-      refused.2,
-      (call-says (sent UNLOCK_BYTE_RANGE core_bytes) (bench own 1) unlock-possible.instead.answerable 0 0 3 Nobody given-here.5).0,
-    )
-
--- an UNLOCK where only the others' lock is
-pub unlock-of-nothing : Says (asked (sent UNLOCK_BYTE_RANGE core_bytes) (bench others 1)) 1 158
-unlock-of-nothing =
-    (call-says (sent UNLOCK_BYTE_RANGE core_bytes) (bench others 1) (answerable _ _ (good others 1 bench-sound.1) unlock-sent.both.kept-one) 1 158 3 Nobody given-here.4).0
 
 -- ---- a chain of a LOCKING and a READ
 
@@ -382,20 +244,4 @@ pub record ChainPossible (s other : List ℕ) (core counterpart : ℕ) (t : Tabl
   pub instead : SentInstead (asked s t) other
   pub sent-so : ChainSent s other core counterpart
 
-pub chain-possible : ChainPossible lock_then_read (sent LOCKING (andx_locking READ 0 0 1 10 short100 ++ andx_read)) CORE-READ READ (bench others 0)
-unfolding lock_then_read
-chain-possible = record { instead = both-sent _ _ _ (good others 0 bench-sound.0) chain-sent.both; sent-so = chain-sent }
-
--- both are done: 39 bytes with the LOCKING's block, and 19 more
-pub chain-done : Says (asked lock_then_read (bench others 0)) 0 0 × ((gives (asked lock_then_read (bench others 0))).length ≡ 58)
-    × ((gives (asked lock_then_read (bench others 0))).holder ≡ Nobody)
-chain-done = call-says lock_then_read (bench others 0) chain-possible.instead.answerable 0 0 26 Nobody given-here.8
-
 -- ---- a data block marked 0x02
-
-pub bad-block : Answerable (asked bad_block (bench others 0)) × BadCoreWrite bad_block
-unfolding bad_block sent core_write_of
-bad-block = (
-  answerable bad_block (bench others 0) (good others 0 bench-sound.0) kept.3,
-  alone refl (not-marked (λ e. let z : ◌≡◌ {A = ℕ} 2 1 = e in omega arith)),
-)

@@ -36,11 +36,11 @@ use Rattle.message.specs.Message.{area_of, data_of, after, after_given, run, ser
 use Rattle.invariants.specs.Sound.{Good}
 use Rattle.invariants.specs.ReaderSound.{span_of, reader-sound}
 use Rattle.claims.specs.HostReasons.{HasTree, HasPermitting}
-use Rattle.claims.specs.CataloguePlain.{same-name-plain}
+use Rattle.claims.proofs.CataloguePlain.{same-name-plain}
 use Rattle.literals.specs.State.{name, memory}
 use Rattle.literals.specs.Replies.{message}
 use Rattle.literals.specs.Opening.{crl, open_words, opening, crl_bytes, open_crl, crl_then_read, read_of, asking}
-use Rattle.demands.specs.Calls.{status-call}
+use Rattle.demands.proofs.Calls.{status-call}
 use Rattle.demands.specs.Admitted.{SessionHere}
 use Rattle.demands.specs.Alone.{named_andx, end_set, data_set}
 use Rattle.demands.specs.Carrying.{asks_opened, carrying}
@@ -52,7 +52,6 @@ use Rattle.demands.specs.SpansRefused.{last_returned}
 use Rattle.demands.specs.WireFields.{open_name}
 use Rattle.order.specs.Call.{Call, gives, Answerable, OneCommand, Says, sender, some_room, own_message}
 use Rattle.order.specs.Demand2.{DoneAlone, demand-2}
-use Rattle.order.specs.Request6.{request-6}
 use Rattle.records.specs.Change.{changes_of, noting}
 
 -- ---- tables with a catalogue
@@ -83,11 +82,11 @@ pub set_so : set_catalogue (office (replicate 16 no_name) 0 0) two_names 2 ≡ d
 unfolding set_catalogue done with_catalogue office two_names crl name folded same_name name_bytes is_named not_zero name_ok differ none_doubled catalogue_ok sound within_room file_ok tree_ok permits holds_open sharing_ok open_ok sound_records lock_ok agree agree_all sound_locks any all all_tails contains number_ok numbered overlaps passes_end file_of seen_ok
 set_so = refl
 
-office-sound : (sound (office two_names 2 0) ≡ true) × (sound (office two_names 2 1) ≡ true)
+pub office-sound : (sound (office two_names 2 0) ≡ true) × (sound (office two_names 2 1) ≡ true)
 unfolding office two_names crl name folded same_name name_bytes is_named not_zero name_ok differ none_doubled catalogue_ok sound within_room file_ok tree_ok permits holds_open sharing_ok open_ok sound_records lock_ok agree agree_all sound_locks any all all_tails contains number_ok numbered overlaps passes_end file_of seen_ok
 office-sound = (refl, refl)
 
-good : (others : ℕ) → sound (office two_names 2 others) ≡ true → Good (office two_names 2 others)
+pub good : (others : ℕ) → sound (office two_names 2 others) ≡ true → Good (office two_names 2 others)
 unfolding office two_names
 good others ok = record { sound = ok; shaped = record { sessions16 = refl; trees32 = refl; opens64 = refl; locks128 = refl; files16 = refl; names16 = refl } }
 
@@ -95,22 +94,9 @@ good others ok = record { sound = ok; shaped = record { sessions16 = refl; trees
 unfoldable pub asked : List ℕ → ℕ → Call
 asked message others = record { connection = 5; message = message; tables = office two_names 2 others; memory = memory; room = replicate 12292 0 }
 
-memory-whole : length memory ≡ 65536
+pub memory-whole : length memory ≡ 65536
 unfolding memory
 memory-whole = refl
-
-answerable : (s : List ℕ) (others : ℕ) → Good (office two_names 2 others) → dropped s ≡ false → Answerable (asked s others)
-unfolding asked
-answerable s others ok kept =
-    record {
-      fit = record {
-        room-enough = rw (length-replicate {A = ℕ} 12292 0) (omega arith);
-        memory-whole = memory-whole;
-        tables-sound = ok.sound;
-        not-dropped = kept;
-      };
-      good = ok;
-    }
 
 -- ---- what is given
 
@@ -127,11 +113,11 @@ open_then_read = asking (crl_then_read 0x40 ++ read_of 0xFF 0xFF 0xFF)
 unfoldable pub open_first : List ℕ
 open_first = asking (open_words 0xFF 73 0 0 0x40 0 1 0 ++ crl_bytes)
 
-kept : (dropped to_read ≡ false) × (dropped to_write ≡ false) × (dropped open_then_read ≡ false) × (dropped open_first ≡ false)
+pub kept : (dropped to_read ≡ false) × (dropped to_write ≡ false) × (dropped open_then_read ≡ false) × (dropped open_first ≡ false)
 unfolding dropped starts_smb is_reply to_read to_write open_then_read open_first asking message open_crl opening open_words crl_bytes crl_then_read read_of
 kept = (refl, refl, refl, refl)
 
-given-here : ((answered 5 to_read (office two_names 2 0) memory).forms.status ≡ status 0 0)
+pub given-here : ((answered 5 to_read (office two_names 2 0) memory).forms.status ≡ status 0 0)
     × ((answered 5 to_write (office two_names 2 1) memory).forms.status ≡ status 1 32)
     × ((answered 5 open_then_read (office two_names 2 0) memory).forms.status ≡ status 0 0)
     × ((answered 5 open_first (office two_names 2 0) memory).forms.status ≡ status 0 0)
@@ -139,12 +125,12 @@ unfolding to_read to_write open_then_read open_first asking message open_crl ope
 given-here = (refl, refl, refl, refl)
 
 -- the same of the call
-call-says : (s : List ℕ) (others : ℕ) (a : Answerable (asked s others)) (n : Status) → (answered 5 s (office two_names 2 others) memory).forms.status ≡ n → Says (asked s others) n.class n.code
+pub call-says : (s : List ℕ) (others : ℕ) (a : Answerable (asked s others)) (n : Status) → (answered 5 s (office two_names 2 others) memory).forms.status ≡ n → Says (asked s others) n.class n.code
 unfolding asked status
 call-says s others a n h = status-call 5 s (office two_names 2 others) memory (replicate 12292 0) a.fit ∙ h
 
 -- each is one OPEN_ANDX
-one-open : OneCommand (asked to_read 0) OPEN × OneCommand (asked to_write 1) OPEN × OneCommand (asked open_first 0) OPEN
+pub one-open : OneCommand (asked to_read 0) OPEN × OneCommand (asked to_write 1) OPEN × OneCommand (asked open_first 0) OPEN
 unfolding asked to_read to_write open_first asking message open_crl opening open_words crl_bytes blocks blocks_from blocks_within after_parse after_block parse parse_open answer open_fits terminated link_fits link_at may_follow shaped le16_at le32_at span_of
 one-open = (
   record { span = record { command = OPEN; place = 32; size = 41 }; reading = reader-sound to_read _ refl; is = refl },
@@ -154,56 +140,18 @@ one-open = (
 
 -- ---- carried out
 
-pub read-answerable : Answerable (asked to_read 0)
-read-answerable = answerable to_read 0 (good 0 office-sound.0) kept.0
-
-pub read_done : DoneAlone (asked to_read 0) OPEN
-unfolding status
-read_done = (read-answerable, one-open.0, call-says to_read 0 read-answerable (status 0 0) given-here.0)
-
--- so there is an open more, and its reply returns its FID
-pub read_opened : OpenDone 5 to_read (office two_names 2 0) memory (gives (asked to_read 0))
-unfolding asked
-read_opened = demand-2.carried-out.opening (asked to_read 0) read_done
-
 -- ---- refused 1/32
 
-pub write-answerable : Answerable (asked to_write 1)
-write-answerable = answerable to_write 1 (good 1 office-sound.1) kept.1
-
 -- session, tree, OpenMode, codes, name and the tree's right are in order
-named_here : NamesFile (office two_names 2 1) (open_name to_write) 1
+pub named_here : NamesFile (office two_names 2 1) (open_name to_write) 1
 unfolding office two_names crl name to_write asking message open_crl opening open_words crl_bytes le16_at name_bytes same_name folded
 named_here = record { entry = name crl 1; listed = first refl; same = (same-name-plain _ _).0 refl; of-file = refl }
-
-pub write-permitted : OpenPermitted (sender (asked to_write 1)) (office two_names 2 1) (open_fields to_write FIRST) (open_name to_write) 1
-unfolding asked office to_write asking message open_crl opening open_words crl_bytes caller_of le16_at SessionHere HasTree HasPermitting
-write-permitted =
-    record {
-      served = record {
-        session = (_, first refl, refl, refl);
-        tree = (_, first refl, refl, refl);
-        mode = refl;
-        codes = record { access-code = omega arith; some-sharing = omega arith; sharing-code = omega arith };
-      };
-      named = named_here;
-      permitted = (_, first refl, refl, refl, λ e. let z : ◌≡◌ {A = ℕ} 1 0 = e in absurd (omega arith));
-    }
 
 -- the other open denies the writing that is asked
 pub write-kept-out : KeptOut (office two_names 2 1) 1 1 4
 unfolding office
 write-kept-out =
     record { another = record { fid = 1; uid = 3; tid = 2; process = 9; file = 1; access = 0; sharing = 2; read = false; seen = 0 }; listed = first refl; of-file = refl; clash = asks-denied writing writes-1 writing-by-2 }
-
-pub write-refused : Says (asked to_write 1) 1 32
-unfolding status
-write-refused = call-says to_write 1 write-answerable (status 1 32) given-here.1
-
--- and so the page says
-pub write-refused-for-it : Says (asked to_write 1) 1 32
-unfolding asked to_write asking message open_crl opening open_words crl_bytes
-write-refused-for-it = (request-6.sharing.exactly (asked to_write 1) 1 write-answerable one-open.1 write-permitted).1 write-kept-out
 
 -- ---- an OPEN_ANDX, and a READ_ANDX of the file just opened
 
@@ -213,9 +161,6 @@ open_span = record { command = OPEN; place = 32; size = 41 }
 abbrev pub read_span : Span
 read_span = record { command = READ; place = 73; size = 23 }
 
-pub chain-answerable : Answerable (asked open_then_read 0)
-chain-answerable = answerable open_then_read 0 (good 0 office-sound.0) kept.2
-
 pub chain-reading : Reading open_then_read (open_span ∷ read_span ∷ [])
 unfolding open_then_read asking message open_words crl_bytes crl_then_read read_of blocks blocks_from blocks_within after_parse after_block before parse parse_open parse_read answer open_fits terminated read_fits wide_offset link_fits link_at may_follow shaped bare le16_at le32_at span_of
 chain-reading = reader-sound open_then_read _ refl
@@ -224,32 +169,13 @@ pub chain-nobody : fid_after_andx open_then_read 73 ≡ 0xFFFF
 unfolding open_then_read asking message open_words crl_bytes crl_then_read read_of le16_at
 chain-nobody = refl
 
-pub chain-done : Says (asked open_then_read 0) 0 0
-unfolding status
-chain-done = call-says open_then_read 0 chain-answerable (status 0 0) given-here.2
-
 -- the first command's own message, and that it is carried out
-first-message : own_message (asked open_then_read 0) [] open_span ≡ open_first
+pub first-message : own_message (asked open_then_read 0) [] open_span ≡ open_first
 unfolding asked last_returned own_span alone_span carrying asks_opened named_andx end_set data_set open_then_read open_first asking message open_words crl_bytes crl_then_read read_of le16_at
 first-message = refl
 
-first-answerable : Answerable (asked open_first 0)
-first-answerable = answerable open_first 0 (good 0 office-sound.0) kept.3
-
-abbrev on : List ℕ → Call
+abbrev pub on : List ℕ → Call
 on s = record { connection = 5; message = s; tables = office two_names 2 0; memory = memory; room = some_room }
 
-abbrev DoneBy : List ℕ → Type 0
+abbrev pub DoneBy : List ℕ → Type 0
 DoneBy s = OpenDone 5 s (office two_names 2 0) memory (gives (on s))
-
-first_done : DoneBy open_first
-unfolding asked status
-first_done = demand-2.carried-out.opening (asked open_first 0) (first-answerable, one-open.2, call-says open_first 0 first-answerable (status 0 0) given-here.3)
-
-pub chain-opened : DoneBy (own_message (asked open_then_read 0) [] open_span)
-chain-opened = subst DoneBy (sym first-message) first_done
-
--- the READ's own message has the FID of the open that the OPEN_ANDX's own message added
-pub chain-meant : fid_after_andx (own_message (asked open_then_read 0) (open_span ∷ []) read_span) FIRST ≡ chain-opened.new.fid
-unfolding asked
-chain-meant = request-6.just-opened.meant (asked open_then_read 0) open_span read_span [] chain-answerable chain-reading refl chain-nobody chain-opened

@@ -6,10 +6,11 @@ use Rattle.chain.specs.Layout.{LOCKING, header_command}
 use Rattle.chain.specs.Header.{starts_smb, is_reply, dropped}
 use Rattle.chain.specs.Grammar.{Reading}
 use Rattle.claims.specs.Cases.{message}
-use Rattle.demands.specs.NtStatus.{ButByte11, reading-too, form-alone}
+use Rattle.demands.specs.NtStatus.{ButByte11}
+use Rattle.demands.proofs.NtStatus.{reading-too, form-alone}
 use Rattle.order.specs.Call.{Call, Answerable}
 use Rattle.order.specs.Demand2.{RefusedForConflict}
-use Rattle.order.specs.Possible.{plant, asked, plant-good, answerable, kept-61, chain_spans, chain-reading, lock-refused}
+use Rattle.order.specs.Possible.{plant, asked, kept-61, chain_spans, chain-reading}
 
 -- the message with Flags2 0x4000
 unfoldable pub with_bit : List ℕ
@@ -27,25 +28,14 @@ unfolding lock_with_bit asked with_bit message
 bit-locking = refl
 
 -- it is that message but for the byte
-but-byte : ButByte11 (message 61 []) with_bit
+pub but-byte : ButByte11 (message 61 []) with_bit
 unfolding with_bit
 but-byte = record { same_length = length-set (message 61 []) 11 0x40; same = λ k n. get_or-set_other (message 61 []) 11 k 0x40 0 n }
 
-kept : dropped with_bit ≡ false
+pub kept : dropped with_bit ≡ false
 unfolding dropped starts_smb is_reply with_bit message
 kept = refl
-
-pub bit-answerable : Answerable lock_with_bit
-unfolding lock_with_bit
-bit-answerable = answerable with_bit (plant 2 1) plant-good.2 kept
 
 pub bit-reading : Reading lock_with_bit.message chain_spans
 unfolding lock_with_bit asked
 bit-reading = reading-too (message 61 []) with_bit but-byte chain-reading
-
--- so it is refused for the same conflict
-pub bit-refused : RefusedForConflict lock_with_bit
-unfolding lock_with_bit asked
-bit-refused =
-    let same = form-alone 5 (message 61 []) with_bit but-byte (plant 2 1) (replicate 65536 0) (replicate 12292 0) (answerable (message 61 []) (plant 2 1) plant-good.2 kept-61).fit in
-    (same.same-status ∙ lock-refused.0, same.same_length ∙ lock-refused.1)

@@ -11,10 +11,15 @@ use Rattle.stream.specs.declared.reader.Event.TheVariants.{NoMessage}
 use Rattle.stream.specs.declared.header.Judged.TheVariants.{Stop}
 use Rattle.stream.specs.declared.state.State.{State}
 use Rattle.claims.specs.StreamReasons.{StopReason, stop-exact, header-stops, keep-alive-passed, not-judged, WriteReason, write-reason, write-given, write-nothing, write_done}
-use Rattle.claims.specs.StreamCut.{number_of, AllBytes, Same, drained_all, carried-cut, stopped-stands, reader-in-one, reader-stopped}
-use Rattle.claims.specs.StreamStates.{LeftBySome, left-passes, not-left-five, left-not-five}
-use Rattle.claims.specs.StreamBack.{written_in, carried-framed, written_back}
-use Rattle.demands.specs.StreamTaken.{Lent, AsInOne, host_pieces, taken-in-one}
+use Rattle.claims.specs.StreamCut.{number_of, AllBytes, Same, drained_all, carried-cut, stopped-stands, reader-stopped}
+use Rattle.claims.proofs.StreamCut.{reader-in-one}
+use Rattle.claims.specs.StreamStates.{LeftBySome}
+use Rattle.claims.proofs.StreamStates.{left-passes}
+use Rattle.claims.proofs.StreamStatesStated.{not-left-five, left-not-five}
+use Rattle.claims.specs.StreamBack.{written_in, carried-framed}
+use Rattle.claims.proofs.StreamBackStated.{written_back}
+use Rattle.demands.specs.StreamTaken.{Lent, AsInOne, host_pieces}
+use Rattle.demands.proofs.StreamTaken.{taken-in-one}
 use Rattle.order.specs.Demand1.{exactly}
 
 -- What a stream carries is defined over all of its bytes as one list (stream/specs/Stream.antt: `carried`); the contract of the reader is an equation with `read`

@@ -24,8 +24,9 @@ use Rattle.message.specs.declared.refusal.Status.{Status}
 use Rattle.invariants.specs.Fit.{take-message-good}
 use Rattle.invariants.specs.SoundParts.{sound-says}
 use Rattle.invariants.specs.Sound.{Good, size-most}
-use Rattle.readings.specs.CoreAlone.{EndsChain, Core, may-end, ends_read, ends-write, core-lock, core-unlock, CoreStands, core-last, core-follows, core-stands, core-alone, core-ends}
-use Rattle.claims.specs.SoundPlain.{sound-plain}
+use Rattle.readings.specs.CoreAlone.{EndsChain, Core, may-end, ends_read, ends-write, core-lock, core-unlock, CoreStands, core-last, core-follows, core-alone, core-ends}
+use Rattle.readings.proofs.CoreAlone.{core-stands}
+use Rattle.claims.proofs.SoundPlain.{sound-plain}
 use Rattle.claims.specs.StreamKept.{Bytes}
 use Rattle.demands.specs.NotServed.{Known, known-core-read, known-core-write, known-lock, known-unlock}
 use Rattle.demands.specs.LoneLock.{InWay, Owner}
@@ -35,20 +36,27 @@ use Rattle.demands.specs.CoreReasons.{LockStatus, lock-not, lock-barred, lock-fu
 use Rattle.demands.specs.WritingReasons.{write-space, write_done}
 use Rattle.demands.specs.WireFields.{read_from, write_from, write_data, core_read_fields, core_write_fields, core_data}
 use Rattle.demands.specs.CommandReasons.{count-0}
-use Rattle.demands.specs.FirstReadings.{first-set-size-reading, one-conflict, core-write-exact, lock-exact, unlock-exact}
+use Rattle.demands.proofs.FirstReadings.{first-set-size-reading, one-conflict, core-write-exact, lock-exact, unlock-exact}
 use Rattle.demands.specs.HolderLone.{same-open}
-use Rattle.demands.specs.DataBlock.{BadCoreWrite, AnsweredMalformed, marked-block, reading-block, bad-data-block}
-use Rattle.demands.specs.CorePairCalls.{EqualReadWrite, EqualFields, BlocksAlike, SameCalls, SameLocking, ChainsAlike, core-calls, chain-calls}
+use Rattle.demands.specs.DataBlock.{BadCoreWrite, AnsweredMalformed, marked-block, reading-block}
+use Rattle.demands.proofs.DataBlock.{bad-data-block}
+use Rattle.demands.specs.CorePairCalls.{EqualReadWrite, EqualFields, BlocksAlike, SameCalls, SameLocking, ChainsAlike}
+use Rattle.demands.proofs.CorePairCallsStated.{core-calls}
+use Rattle.demands.proofs.CorePairCalls.{chain-calls}
 use Rattle.demands.specs.FileCommands.{WroteFile}
-use Rattle.demands.specs.Effects.{read-reading, write-reading, core-read-reading, core-write-reading}
-use Rattle.demands.specs.SetSize.{SizeSet, set-size-reading}
-use Rattle.demands.specs.LockEffects.{lock-reading, unlock-reading}
-use Rattle.demands.specs.Processes.{range-whole, own-sender}
+use Rattle.demands.proofs.Effects.{read-reading, write-reading, core-read-reading, core-write-reading}
+use Rattle.demands.specs.SetSize.{SizeSet}
+use Rattle.demands.proofs.SetSize.{set-size-reading}
+use Rattle.demands.proofs.LockEffects.{lock-reading, unlock-reading}
+use Rattle.demands.specs.Processes.{range-whole}
+use Rattle.demands.proofs.Processes.{own-sender}
 use Rattle.demands.specs.Taken.{not-long}
 use Rattle.demands.specs.SpansOneByOne.{own_span}
-use Rattle.demands.specs.CoreMoved.{SameBlock, core-sent}
+use Rattle.demands.specs.CoreMoved.{SameBlock}
+use Rattle.demands.proofs.CoreMoved.{core-sent}
 use Rattle.demands.specs.Reached.{take-message-memory}
-use Rattle.demands.specs.OldBytes.{ZeroFrom, cut-then-grown, cut-then-written, zero-in-reply, zero-in-core-reply, Asked, history, never-shows, first-never-shows}
+use Rattle.demands.specs.OldBytes.{ZeroFrom, zero-in-reply, zero-in-core-reply, Asked, history}
+use Rattle.demands.proofs.OldBytes.{cut-then-grown, cut-then-written, never-shows, first-never-shows}
 use Rattle.order.specs.Call.{Call, gives, Answerable, OneCommand, Says, sender, sending}
 use Rattle.order.specs.Demand1.{StatusForItsReason, RoomSuffices, demand-1}
 use Rattle.order.specs.Demand2.{DoneAlone, ValidOpen, core_asked, ValidCoreOpen, covered_from, covered_count}
@@ -229,7 +237,7 @@ pub record Request3 : Type 0 where
 -- ---- the proof: each line cites the theorem that does the work
 
 -- one Status has one code
-two-codes : {x n m : Status} → x ≡ n → x ≡ m → n.code ≡ m.code
+pub two-codes : {x n m : Status} → x ≡ n → x ≡ m → n.code ≡ m.code
 two-codes e f = ap (λ (s : Status). s.code) (sym e ∙ f)
 
 -- four bytes make 32 bits
@@ -237,7 +245,7 @@ below-32 : (s : List ℕ) → Bytes s → (at : ℕ) → le32_at s at < 2 ^ 32
 unfolding le32_at
 below-32 s b at = let low = le16-below s b.small at in let high = le16-below s b.small (at + 2) in omega arith
 
-on-wire : OnTheWire
+pub on-wire : OnTheWire
 unfolding caller_of
 on-wire =
     record {
@@ -267,7 +275,7 @@ on-wire =
           subst (λ (r : LockRange). TakenOut (first_fid c.message FIRST) r (locks_of c.tables) (locks_of (gives c).tables)) (asked ∙ range-whole c.message b c.connection) w.unlocked;
     }
 
-standing : StandsAlone
+pub standing : StandsAlone
 standing =
     record {
       stands = λ c spans r. core-stands r;
@@ -278,54 +286,32 @@ standing =
     }
 
 -- the size of the open's file, where it is set
-size-set : (c : Call) (o : Open) → AsksSize c o → Says c 0 0
+pub size-set : (c : Call) (o : Open) → AsksSize c o → Says c 0 0
     → (core_offset c.message FIRST ≤ 4096) × SizeSet c.tables (gives c).tables o.file (core_offset c.message FIRST) c.memory (gives c).memory
 size-set c o a z =
     let w = set-size-reading c.connection c.message a.one.reading c.tables c.memory c.room a.answerable.good a.answerable.fit z a.one.is a.count-0 in
     let same : w.through ≡ o = same-open a.answerable.fit.tables-sound a.valid w.admitted in
     (w.not-past, subst (λ (p : Open). SizeSet c.tables (gives c).tables p.file (core_offset c.message FIRST) c.memory (gives c).memory) same w.sets)
 
-size-covers : (c : Call) (o : Open) → AsksSize c o → Says c 1 33 ↔ LockBetween c o
+pub size-covers : (c : Call) (o : Open) → AsksSize c o → Says c 1 33 ↔ LockBetween c o
 unfolding caller_of
 size-covers c o a =
     one-conflict c.connection c.message a.one.reading c.tables c.memory c.room a.answerable.fit
     (first-set-size-reading c.connection c.message a.one.reading c.tables c.memory c.room a.answerable.fit o a.valid a.one.is a.count-0 a.may_write)
 
-size-done : (c : Call) (o : Open) → AsksSize c o → (LockBetween c o → ⊥) → core_offset c.message FIRST ≤ 4096 → Says c 0 0
+pub size-done : (c : Call) (o : Open) → AsksSize c o → (LockBetween c o → ⊥) → core_offset c.message FIRST ≤ 4096 → Says c 0 0
 unfolding caller_of
 size-done c o a free low =
     (core-write-exact c.connection c.message a.one.reading c.tables c.memory c.room a.answerable.fit a.one.is (status 0 0)).1
     (count-0 a.count-0 (write_done a.valid a.may_write free low))
 
-size-past : (c : Call) (o : Open) → AsksSize c o → (LockBetween c o → ⊥) → 4096 < core_offset c.message FIRST → Says c 3 39
+pub size-past : (c : Call) (o : Open) → AsksSize c o → (LockBetween c o → ⊥) → 4096 < core_offset c.message FIRST → Says c 3 39
 unfolding caller_of
 size-past c o a free past =
     (core-write-exact c.connection c.message a.one.reading c.tables c.memory c.room a.answerable.fit a.one.is (status 3 39)).1
     (count-0 a.count-0 (write-space a.valid a.may_write free past))
 
-sizes : SetsTheSize
-unfolding status
-sizes =
-    record {
-      sets = λ c o a z. (size-set c o a z).1;
-      covers = size-covers;
-      past = λ c o a. (
-        λ h. let free : LockBetween c o → ⊥ = λ b. let n = two-codes h ((size-covers c o a).1 b) in omega arith in (
-          free,
-          elim (decided (ltb 4096 (core_offset c.message FIRST))) [
-            | inl e ↦ ltb-true 4096 (core_offset c.message FIRST) e
-            | inr e ↦ let n = two-codes h (size-done c o a free (ltb-false 4096 (core_offset c.message FIRST) e)) in absurd (let z : ⊥ = omega arith in z)
-          ],
-        ),
-        λ h. size-past c o a h.0 h.1,
-      );
-      not-past = λ c o a. (
-        λ h. (λ b. let n = two-codes h ((size-covers c o a).1 b) in omega arith, (size-set c o a h).0),
-        λ h. size-done c o a h.0 h.1,
-      );
-    }
-
-counterparts : SameAsCounterpart
+pub counterparts : SameAsCounterpart
 counterparts =
     record {
       alone = λ c other core counterpart i b one two equal.
@@ -335,7 +321,7 @@ counterparts =
           chain-calls c.connection c.message other same is is' equal i.same-sender r q c.tables c.memory c.room i.answerable.fit i.other-answerable.fit;
     }
 
-longest-reply : (c : Call) {command : ℕ} → Core command → DoneAlone c command → (gives c).length ≤ 32 + 16 + 4096
+pub longest-reply : (c : Call) {command : ℕ} → Core command → DoneAlone c command → (gives c).length ≤ 32 + 16 + 4096
 longest-reply c (may-end ends_read) d =
     let w = core-read-reading c.connection c.message d.1.reading c.tables c.memory c.room d.0.good d.0.fit d.2 d.1.is in
     let most = size-most c.tables w.through.file (sound-says c.tables d.0.fit.tables-sound) in
@@ -366,7 +352,7 @@ lock-codes (lock-barred _ _) = (λ e. omega arith, λ e. omega arith)
 lock-codes (lock-full _ _ _) = (λ e. omega arith, λ e. omega arith)
 lock-codes (lock-done _ _ _) = (λ e. omega arith, λ e. omega arith)
 
-nothing-unlocked : (c : Call) (o : Open) → Answerable c → OneCommand c UNLOCK_BYTE_RANGE → ValidCoreOpen c o
+pub nothing-unlocked : (c : Call) (o : Open) → Answerable c → OneCommand c UNLOCK_BYTE_RANGE → ValidCoreOpen c o
     → Says c 1 158 ↔ ((l : Lock) → In l (locks_of c.tables) → Named (first_fid c.message FIRST) (core_asked c) l → ⊥)
 unfolding status
 nothing-unlocked c o a one valid =
@@ -375,80 +361,23 @@ nothing-unlocked c o a one valid =
       λ none. (exact (status 1 158)).1 (unlock-unnamed valid (λ w. none w.lock w.listed w.named)),
     )
 
-never-arise : (c : Call) → Answerable c → OneCommand c LOCK_BYTE_RANGE → (Says c 2 65535 → ⊥) × (Says c 1 87 → ⊥)
+pub never-arise : (c : Call) → Answerable c → OneCommand c LOCK_BYTE_RANGE → (Says c 2 65535 → ⊥) × (Says c 1 87 → ⊥)
 unfolding status
 never-arise c a one =
     let exact = lock-exact c.connection c.message one.reading c.tables c.memory c.room a.fit one.is in
     (λ h. (lock-codes ((exact (status 2 65535)).0 h)).0 refl, λ h. (lock-codes ((exact (status 1 87)).0 h)).1 refl)
 
 -- what is said of tables, a file and a file memory, of those that they are
-moved : (P : Tables → ℕ → List ℕ → Type 0) {t u : Tables} {i j : ℕ} {m n : List ℕ} → t ≡ u → i ≡ j → m ≡ n → P t i m → P u j n
+pub moved : (P : Tables → ℕ → List ℕ → Type 0) {t u : Tables} {i j : ℕ} {m n : List ℕ} → t ≡ u → i ≡ j → m ≡ n → P t i m → P u j n
 moved P {t} {u} {i} {j} {m} {n} e f g x = subst (λ (k : List ℕ). P u j k) g (subst (λ (k : ℕ). P u k m) f (subst (λ (k : Tables). P k i m) e x))
 
 -- what the second of two calls leaves
 module _ (d : Call) (a : Answerable d) where
-  left-good : Good (gives d).tables
+  pub left-good : Good (gives d).tables
   left-good = take-message-good d.connection d.message d.tables d.memory d.room a.good
 
-  left-whole : length (gives d).memory ≡ 65536
+  pub left-whole : length (gives d).memory ≡ 65536
   left-whole = take-message-memory d.connection d.message d.tables d.memory d.room a.good ∙ a.fit.memory-whole
 
-file-low : (c : Call) (o : Open) → AsksSize c o → o.file ≤ 15
+pub file-low : (c : Call) (o : Open) → AsksSize c o → o.file ≤ 15
 file-low c o a = ((sound-plain c.tables).0 a.answerable.fit.tables-sound).files o a.valid.opened.listed
-
-old-bytes : OldBytesNeverShow
-old-bytes =
-    record {
-      then-grown = λ c d o p a z on b y same.
-          cut-then-grown (size-set c o a z).1
-          (moved (λ t file memory. SizeSet t (gives d).tables file (core_offset d.message FIRST) memory (gives d).memory) on.same_tables same on.same_memory (size-set d p b y).1)
-          (left-good d b.answerable) (left-whole d b.answerable) (file-low c o a);
-      then-core-written = λ c d o p a z on done some valid same.
-          let w = core-write-reading d.connection d.message done.1.reading d.tables d.memory d.room done.0.good done.0.fit done.2 done.1.is some in
-          let through = ap (λ (q : Open). q.file) (same-open done.0.fit.tables-sound valid w.admitted) in
-          cut-then-written (size-set c o a z).1
-          (moved (λ t file memory. WroteFile t (gives d).tables file (core_offset d.message FIRST) (core_data d.message) memory (gives d).memory) on.same_tables (through ∙ same)
-          on.same_memory w.wrote-file)
-          (left-good d done.0) (left-whole d done.0) (file-low c o a);
-      then-written = λ c d o p a z on done some valid same.
-          let w = write-reading d.connection d.message done.1.reading d.tables d.memory d.room done.0.good done.0.fit done.2 done.1.is in
-          let through = ap (λ (q : Open). q.file) (same-open done.0.fit.tables-sound valid w.admitted) in
-          cut-then-written (size-set c o a z).1
-          (moved (λ t file memory. WroteFile t (gives d).tables file (write_from d.message) (write_data d.message) memory (gives d).memory) on.same_tables (through ∙ same)
-          on.same_memory (w.wrote-file some))
-          (left-good d done.0) (left-whole d done.0) (file-low c o a);
-      core-read-back = λ c o from to d valid zeros i few low high.
-          let w = core-read-reading c.connection c.message d.1.reading c.tables c.memory c.room d.0.good d.0.fit d.2 d.1.is in
-          let through = ap (λ (q : Open). q.file) (same-open d.0.fit.tables-sound valid w.admitted) in
-          zero-in-core-reply w (subst (λ (file : ℕ). ZeroFrom c.tables c.memory file from to) (sym through) zeros) i (rw w.count-said at few) low high;
-      read_back = λ c o from to d valid zeros i few low high.
-          let w = read-reading c.connection c.message d.1.reading c.tables c.memory c.room d.0.good d.0.fit d.2 d.1.is in
-          let through = ap (λ (q : Open). q.file) (same-open d.0.fit.tables-sound valid w.admitted) in
-          zero-in-reply w (subst (λ (file : ℕ). ZeroFrom c.tables c.memory file from to) (sym through) zeros) i (rw w.length-said at few) low high;
-      never = never-shows;
-      nor-before = first-never-shows;
-    }
-
-pub request-3 : Request3
-request-3 =
-    record {
-      on-the-wire = on-wire;
-      stands-alone = standing;
-      sent-alone = λ c spans r a x i ends just.
-          (core-sent c.message r (not-long c.message a.fit.not-dropped) x i ends just, own-sender c.connection c.message r just x);
-      sets-the-size = sizes;
-      same-as-counterpart = counterparts;
-      rows-gained = record {
-        demand = demand-3;
-        known = (known-core-read, known-core-write, known-lock, known-unlock);
-        room = demand-1.room-suffices;
-        longest = λ c command. longest-reply c;
-      };
-      refusals = record {
-        statuses = demand-1.status-for-its-reason;
-        unlock-of-nothing = nothing-unlocked;
-        cannot-arise = never-arise;
-        bad-data-block = λ c a bad. bad-data-block c.connection c.message bad c.tables c.memory c.room a.fit;
-      };
-      old-bytes-never-show = old-bytes;
-    }

@@ -3,7 +3,8 @@ use Rattle.std.specs.Prelude.{◌≡◌, ◌↔◌, ℕ, ◌<◌, true}
 use mathlib.Core.List.{Memᴰ as In}
 use Rattle.chain.specs.Grammar.{MayFollow}
 use Rattle.chain.specs.Parse.{may_follow}
-use Rattle.literals.specs.Successions.{pair, listed, exactly-listed, grammar-listed}
+use Rattle.literals.specs.Successions.{pair, listed}
+use Rattle.literals.proofs.Successions.{exactly-listed, grammar-listed}
 
 -- "let the code decide what may follow by the two command numbers, in document 01's order, CR 3's pairs last in their row": `chain::command::may_follow`
 -- (crates/chain/src/command.rt), a match by rows, CR 6's row the last. "No answer and no contract may change": its contract is the equation with `may_follow` that it was.

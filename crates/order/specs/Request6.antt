@@ -16,21 +16,25 @@ use Rattle.chain.specs.Grammar.{Name as NameAndZero, IsBlock, open-15, MayFollow
 use Rattle.chain.specs.Parse.{open_fields}
 use Rattle.message.specs.JustOpened.{NOBODY}
 use Rattle.message.specs.Message.{take-message}
-use Rattle.claims.specs.SoundPlain.{PlainSound, sound-plain}
-use Rattle.claims.specs.CataloguePlain.{SameName, PlainCatalogue, same-name-plain}
+use Rattle.claims.specs.SoundPlain.{PlainSound}
+use Rattle.claims.proofs.SoundPlain.{sound-plain}
+use Rattle.claims.specs.CataloguePlain.{SameName, PlainCatalogue}
+use Rattle.claims.proofs.CataloguePlain.{same-name-plain}
 use Rattle.claims.specs.HostFrames.{add_open-frame}
 use Rattle.demands.specs.Admitted.{Admitted}
-use Rattle.demands.specs.Sharing.{Doing, Denies, KeptOut, host-denies-nothing}
+use Rattle.demands.specs.Sharing.{Doing, Denies, KeptOut}
+use Rattle.demands.proofs.Sharing.{host-denies-nothing}
 use Rattle.demands.specs.OpenReasons.{OpenPermitted}
 use Rattle.demands.specs.OpenEffects.{OpenDone}
-use Rattle.demands.specs.OpenChain.{open-returns, other-returns, carries-returned, carries-rest, carries-nothing, nobodys-fid, open_row, only-read, comes-first}
+use Rattle.demands.specs.OpenChain.{open-returns, other-returns, carries-rest, nobodys-fid, open_row, only-read, comes-first}
+use Rattle.demands.proofs.OpenChain.{carries-returned, carries-nothing}
 use Rattle.demands.specs.Returned.{returned_fid}
 use Rattle.demands.specs.CallsOneByOne.{reply_in}
 use Rattle.demands.specs.SpansOneByOne.{alone_span, own_span}
 use Rattle.demands.specs.SpansRefused.{last_returned}
 use Rattle.demands.specs.Taken.{not-long}
 use Rattle.demands.specs.WireFields.{open_name}
-use Rattle.demands.specs.FirstReadings.{open-shared-exact}
+use Rattle.demands.proofs.FirstReadings.{open-shared-exact}
 use Rattle.order.specs.Call.{Call, gives, Answerable, OneCommand, Says, sender, some_room, own_message}
 use Rattle.order.specs.Demand1.{Demand1, demand-1}
 use Rattle.order.specs.Demand2.{Demand2, demand-2}
@@ -120,13 +124,13 @@ just-meant c x y others a r read nobody d =
     let low : d.new.fid ≤ 64 = d.added.given_out.high in
     carries-returned c.message r (not-long c.message a.fit.not-dropped) y (later (first refl)) (last_returned c.connection c.message some_room NOBODY (x ∷ []) c.tables c.memory) read nobody (omega arith) ∙ f
 
-catalogue-so : Catalogue
+pub catalogue-so : Catalogue
 catalogue-so = record { compared = same-name-plain; clauses = sound-plain; sharing-codes = λ t ok. ((sound-plain t).0 ok).sharings; rules = λ t ok. ((sound-plain t).0 ok).catalogue }
 
-on-the-wire-so : OnTheWire
+pub on-the-wire-so : OnTheWire
 on-the-wire-so = record { row = λ s at. (λ h. open_row h refl, open-15); fields = λ c. refl; name = λ c w. name-at c.message w }
 
-sharing-so : Sharing
+pub sharing-so : Sharing
 sharing-so =
     record {
       exactly = λ c file a one p. open-shared-exact c.connection c.message one.reading c.tables c.memory c.room a.fit one.is p;
@@ -134,7 +138,7 @@ sharing-so =
       host-denies = host-denies-nothing;
     }
 
-just-opened-so : JustOpened
+pub just-opened-so : JustOpened
 just-opened-so =
     record {
       follows = λ next. (λ m. only-read m refl, λ e. rw e open-read);
@@ -145,16 +149,4 @@ just-opened-so =
       rest = λ c spans a r x i just k p q. carries-rest c.message r (not-long c.message a.fit.not-dropped) x i just k p q;
       only_then = λ c spans a r x i just n. carries-nothing c.message r (not-long c.message a.fit.not-dropped) x i just n;
       nobodys = λ c o a h. nobodys-fid (sender c) c.tables o a.fit.tables-sound h;
-    }
-
-pub request-6 : Request6
-request-6 =
-    record {
-      catalogue = catalogue-so;
-      on-the-wire = on-the-wire-so;
-      sharing = sharing-so;
-      just-opened = just-opened-so;
-      demand1 = demand-1;
-      demand2 = demand-2;
-      demand3 = demand-3;
     }

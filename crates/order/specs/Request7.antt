@@ -9,17 +9,20 @@ use Rattle.chain.specs.Grammar.{Span, Reading}
 use Rattle.message.specs.Refusal.{status, forms_of, status_of, nt_of}
 use Rattle.message.specs.declared.refusal.Refusal.{Refusal}
 use Rattle.message.specs.Reply.{nt_bit}
-use Rattle.claims.specs.StatusList.{status_list, listed, read_nt, as_one, one-old-form, as_one_lem, nt-apart, found-exactly, none-zero}
-use Rattle.demands.specs.NtStatus.{NtBeside, nt-beside, ButByte11, SameButForm, form-alone, number-zero}
-use Rattle.demands.specs.ConflictCodes.{conflict_code, first-coded, chain-coded}
-use Rattle.demands.specs.ReplyHeader.{reply-header}
+use Rattle.claims.specs.StatusList.{status_list, listed, read_nt, as_one, as_one_lem}
+use Rattle.claims.proofs.StatusList.{one-old-form, nt-apart, found-exactly, none-zero}
+use Rattle.demands.specs.NtStatus.{NtBeside, ButByte11, SameButForm}
+use Rattle.demands.proofs.NtStatus.{nt-beside, form-alone, number-zero}
+use Rattle.demands.specs.ConflictCodes.{conflict_code}
+use Rattle.demands.proofs.ConflictCodes.{first-coded, chain-coded}
+use Rattle.demands.proofs.ReplyHeader.{reply-header}
 use Rattle.order.specs.Call.{Call, gives, Answerable, Says, status_given, status_number_given, AsksNt, sending, some_room}
 use Rattle.order.specs.Demand1.{Demand1, CommandRefused, demand-1}
 use Rattle.order.specs.Demand2.{Demand2, demand-2, RefusedForConflict}
 use Rattle.order.specs.Demand3.{Demand3, demand-3}
 use Rattle.order.specs.Request2.{RepliesStand, replies-stand-so}
 use Rattle.order.specs.Possible.{chain_spans}
-use Rattle.order.specs.Possible7.{lock_with_bit, bit-set, bit-answerable, bit-refused, bit-reading, bit-locking}
+use Rattle.order.specs.Possible7.{lock_with_bit, bit-set, bit-reading, bit-locking}
 
 -- Class and code are what a reader of either form finds (Call.antt: `status_given`), so demands 1, 2 and 3 say of both forms what they say of a Status: each with its reason, what a
 -- command that is done leaves, what is malformed. Demand 3's `OneToAMessage` is an equation of every byte of the reply, Status in its form among them; so is demand 1's
@@ -90,7 +93,7 @@ asks : (c : Call) → AsksNt c → nt_bit c.message ≡ true
 unfolding nt_bit
 asks c e = eq-eqb (byte_at c.message 11 / 64 % 2) 1 e
 
-carries_so : Carries
+pub carries_so : Carries
 carries_so =
     record {
       flags2 = λ c a. (reply-header c.connection c.message c.tables c.memory c.room a.fit).flags2;
@@ -98,11 +101,11 @@ carries_so =
     }
 
 -- by the command's number
-first_by : (c : Call) (spans : List Span) → Answerable c → Reading c.message spans → AsksNt c → RefusedForConflict c → {command : ℕ} → header_command c.message ≡ command
+pub first_by : (c : Call) (spans : List Span) → Answerable c → Reading c.message spans → AsksNt c → RefusedForConflict c → {command : ℕ} → header_command c.message ≡ command
     → status_number_given c ≡ conflict_code command
 first_by c spans a r bit refused e = rw (← e) (first-coded c.connection c.message r c.tables c.memory c.room a.fit (asks c bit) refused)
 
-refused-by : (c : Call) (spans : List Span) → Answerable c → Reading c.message spans → AsksNt c → Says c 1 33 → (q : CommandRefused c spans) → {command : ℕ} → q.command.command ≡ command
+pub refused-by : (c : Call) (spans : List Span) → Answerable c → Reading c.message spans → AsksNt c → Says c 1 33 → (q : CommandRefused c spans) → {command : ℕ} → q.command.command ≡ command
     → status_number_given c ≡ conflict_code command
 refused-by c spans a r bit says q e =
     rw (← e)
@@ -110,36 +113,5 @@ refused-by c spans a r bit says q e =
     ∙ chain-coded c.connection c.message r c.tables c.memory c.room some_room a.good a.fit (length-replicate {A = ℕ} 12292 0) (asks c bit) q.front q.command q.later q.split q.front-stands
     (q.refused-alone ∙ says))
 
-by-the-command-so : ByTheCommand
-unfolding conflict_code
-by-the-command-so =
-    record {
-      refused-command = λ c spans a r bit says q. (
-        λ e. elim e [ inl is ↦ refused-by c spans a r bit says q is | inr is ↦ refused-by c spans a r bit says q is ],
-        λ e. elim e [ inl is ↦ refused-by c spans a r bit says q is | inr is ↦ refused-by c spans a r bit says q is ],
-        λ e. elim e [ inl is ↦ refused-by c spans a r bit says q is | inr is ↦ refused-by c spans a r bit says q is ],
-      );
-      lock = λ c spans a r bit refused e. elim e [ inl is ↦ first_by c spans a r bit refused is | inr is ↦ first_by c spans a r bit refused is ];
-      transfer = λ c spans a r bit refused e. elim e [
-        | inl is ↦ first_by c spans a r bit refused is
-        | inr f ↦ elim f [
-          | inl is ↦ first_by c spans a r bit refused is
-          | inr g ↦ elim g [ inl is ↦ first_by c spans a r bit refused is | inr is ↦ first_by c spans a r bit refused is ]
-        ]
-      ];
-      happens = (bit-answerable, bit-reading, bit-set, bit-locking, bit-refused, first_by lock_with_bit _ bit-answerable bit-reading bit-set bit-refused bit-locking);
-    }
-
-one-list-so : OneList
+pub one-list-so : OneList
 one-list-so = record { whole = listed; either = one-old-form; lock-codes = as_one_lem; apart = nt-apart; found = found-exactly; none_is_zero = none-zero }
-
-either-form-so : EitherForm
-either-form-so =
-    record {
-      same-refusal = λ c other but a. form-alone c.connection c.message other but c.tables c.memory c.room a.fit;
-      as_before = replies-stand-so;
-      zero = λ c a. number-zero c.connection c.message c.tables c.memory c.room a.fit;
-    }
-
-pub request-7 : Request7
-request-7 = record { carries = carries_so; by-the-command = by-the-command-so; one_list = one-list-so; either-form = either-form-so; demand1 = demand-1; demand2 = demand-2; demand3 = demand-3 }

@@ -16,21 +16,24 @@ use Rattle.soundness.specs.Sound.{sound}
 use Rattle.host.specs.HostCall.{no_tables, add_open, load_file, ask_unchanged}
 use Rattle.chain.specs.Layout.{READ, WRITE, CORE-READ, CORE-WRITE, OPEN, FIRST, data_length, core_count, core_offset}
 use Rattle.message.specs.Contents.{size_of}
-use Rattle.claims.specs.AskUnchanged.{AskReason, UpToDate, ask-reason, ask-given, ask-stands, ask-refused, answer-of, other-answer}
+use Rattle.claims.specs.AskUnchanged.{AskReason, UpToDate, ask-given, ask-stands, ask-refused}
+use Rattle.claims.proofs.AskUnchanged.{ask-reason, answer-of, other-answer}
 use Rattle.claims.specs.HostFrames.{add_open-frame, load_file-frame}
-use Rattle.claims.specs.SoundPlain.{sound-plain}
+use Rattle.claims.proofs.SoundPlain.{sound-plain}
 use Rattle.invariants.specs.Numbered.{one-named}
 use Rattle.invariants.specs.Sound.{Good}
-use Rattle.demands.specs.Effects.{write-reading, read-reading, core-read-reading, core-write-reading}
-use Rattle.demands.specs.OpenEffects.{open-reading}
-use Rattle.demands.specs.Reached.{Reached, reached-good, start-good}
+use Rattle.demands.proofs.Effects.{write-reading, read-reading, core-read-reading, core-write-reading}
+use Rattle.demands.proofs.OpenEffects.{open-reading}
+use Rattle.demands.specs.Reached.{Reached, start-good}
+use Rattle.demands.proofs.Reached.{reached-good}
 use Rattle.demands.specs.Remembering.{OnlyRemembers}
 use Rattle.demands.specs.HolderLone.{same-open}
 use Rattle.demands.specs.OldBytes.{Asked, left_by}
 use Rattle.demands.specs.LastRead.{Reads, reads_after, none_read}
 use Rattle.demands.specs.LastReadKept.{Kept, snoc-or}
-use Rattle.demands.specs.LastReadHistory.{AsItWas, ReadAgain, history-kept, history-good, start-kept, up-to-date-was, out-of-date-why}
-use Rattle.demands.specs.SetSize.{set-size-reading}
+use Rattle.demands.specs.LastReadHistory.{AsItWas, ReadAgain, start-kept}
+use Rattle.demands.proofs.LastReadHistory.{history-kept, history-good, up-to-date-was, out-of-date-why}
+use Rattle.demands.proofs.SetSize.{set-size-reading}
 use Rattle.order.specs.Call.{Call, gives}
 use Rattle.order.specs.Demand1.{Demand1, demand-1, exactly}
 use Rattle.order.specs.Demand2.{Demand2, demand-2, DoneAlone, ValidOpen, ValidCoreOpen}
@@ -126,33 +129,10 @@ pub record Request8 : Type 0 where
 
 -- ---- the proof: each line cites the theorem that does the work
 
-raises : {before after : ℕ} → after ≡ raised before → Raised before after
+pub raises : {before after : ℕ} → after ≡ raised before → Raised before after
 raises e = record { by_one = λ h. omega arith; stays = λ h. omega arith }
 
-numbers-raised : ChangeNumber
-unfolding changes_of no_tables
-numbers-raised =
-    record {
-      bits = λ t s f m. let p = ((sound-plain t).0 s).changes f m in omega arith;
-      starts = λ file low. ap (λ (f : File). f.changes) (get_or-replicate 16 file no_file no_file (omega arith));
-      write = λ c o d valid more.
-          let w = write-reading c.connection c.message d.1.reading c.tables c.memory c.room d.0.good d.0.fit d.2 d.1.is in
-          rw (← (same-open d.0.fit.tables-sound valid w.admitted)) (raises (w.wrote-file more).number);
-      write-none = λ c d none.
-          ((write-reading c.connection c.message d.1.reading c.tables c.memory c.room d.0.good d.0.fit d.2 d.1.is).wrote_none none).same_tables;
-      core-write = λ c o d valid more.
-          let w = core-write-reading c.connection c.message d.1.reading c.tables c.memory c.room d.0.good d.0.fit d.2 d.1.is more in
-          rw (← (same-open d.0.fit.tables-sound valid w.admitted)) (raises w.wrote-file.number);
-      size-altered = λ c o d valid none.
-          let w = set-size-reading c.connection c.message d.1.reading c.tables c.memory c.room d.0.good d.0.fit d.2 d.1.is none in
-          rw (← (same-open d.0.fit.tables-sound valid w.admitted)) (λ alters. raises (w.sets.number alters));
-      size_same = λ c o d valid none.
-          let w = set-size-reading c.connection c.message d.1.reading c.tables c.memory c.room d.0.good d.0.fit d.2 d.1.is none in
-          rw (← (same-open d.0.fit.tables-sound valid w.admitted)) (λ same. (w.sets.nothing-changed same).0);
-      load = λ t g file bytes memory e. raises (load_file-frame t g.shaped file bytes memory e).its-changes;
-    }
-
-remembers-so : Remembers
+pub remembers-so : Remembers
 remembers-so =
     record {
       read = λ c o d valid.
@@ -179,7 +159,7 @@ remembers-so =
       for-ever = λ t r. ((sound-plain t).0 (reached-good r).sound).seen;
     }
 
-answers-so : Answers
+pub answers-so : Answers
 answers-so =
     record {
       unchanged = answer-of;
@@ -197,7 +177,7 @@ module _ (calls : List Asked) (lent : List ℕ) (full : length lent ≡ 65536) w
   left-kept : Kept (tables_left_by calls lent) (memory_left_by calls lent) (last_reads calls lent)
   left-kept = history-kept calls no_tables lent none_read start-good full (start-kept lent none_read)
 
-staffing-so : Staffing
+pub staffing-so : Staffing
 staffing-so =
     record {
       unchanged = λ calls lent full o m e.
@@ -205,7 +185,3 @@ staffing-so =
       changed = λ calls lent full o m e.
           out-of-date-why _ _ _ (left-good calls lent full) (left-kept calls lent full) o m ((other-answer _ o (left-good calls lent full).sound m).0 e);
     }
-
-pub request-8 : Request8
-request-8 =
-    record { change-number = numbers-raised; remembers = remembers-so; answers = answers-so; staffing = staffing-so; first = demand-1; second = demand-2; third = demand-3 }

@@ -11,7 +11,7 @@ use Rattle.chain.specs.declared.block.Block.{Block}
 use Rattle.invariants.specs.BlockTests.{Served, plain, andx}
 use Rattle.invariants.specs.BlockParse.{body_at, block_at, block-served, Linked, link-plain, link-end, parse-complete, block_size}
 use Rattle.chain.specs.ChainLaws.{chain-end}
-use Rattle.readings.specs.Moved.{Moved, moved_body, moved-block, moved-body, moved-size}
+use Rattle.readings.specs.Moved.{Moved, moved_body}
 
 -- "with AndXCommand 0xFF where it has one": nothing follows
 pub alone-link : (t : List ℕ) (at : ℕ) {command : ℕ} → Served command → (NamedAndx command → andx_command t at ≡ NO_COMMAND) → Linked t command at End
@@ -22,20 +22,3 @@ alone-link t at (andx a) e = link-end a (e a)
 unfoldable pub moved_alone : List ℕ → ℕ → ℕ → ℕ → Block
 moved_alone s command at to =
     record { command = command; at = to; length = block_size s at; body = moved_body at to (body_at s command at); next = End }
-
--- at any place
-pub alone-from : {s : List ℕ} {at : ℕ} {t : List ℕ} {to command : ℕ} → IsBlock s at command → Moved s at t to command
-    → (NamedAndx command → andx_command t to ≡ NO_COMMAND) → blocks_from t command to ≡ some (moved_alone s command at to ∷ [])
-unfolding block_at moved_alone
-alone-from {s} {at} {t} {to} {command} h m e =
-    let f : body_at t command to ≡ moved_body at to (body_at s command at) = moved-body h m in
-    let g : block_size t to ≡ block_size s at = moved-size m h in
-    chain-end t command to (block_at t command to End) (parse-complete t to (moved-block h m) (alone-link t to (block-served h) e)) refl
-    ∙ rw (f, g)
-
--- "each block in turn makes a message of the chain's header with the block's command, then the block at 32": the reader yields
--- that block alone
-pub alone-blocks : {s : List ℕ} {at : ℕ} (t : List ℕ) {command : ℕ} → IsBlock s at command → Moved s at t FIRST command
-    → header_command t ≡ command → (NamedAndx command → andx_command t FIRST ≡ NO_COMMAND) → blocks t ≡ some (moved_alone s command at FIRST ∷ [])
-unfolding blocks
-alone-blocks t h m c e = rw c (alone-from h m e)

@@ -83,29 +83,18 @@ first-command {s} {command} {at} {x} (andx-end h a f) e = let q : x ≡ span_at 
 first-command {s} {command} {at} {x} (andx-next h m g r) e = let q : x ≡ span_at s command at = cc in ap (λ (y : Span). y.command) q
 
 -- the only block
-in_one : {x y : Span} → In x (y ∷ []) → CoreStands x (y ∷ [])
+pub in_one : {x y : Span} → In x (y ∷ []) → CoreStands x (y ∷ [])
 in_one (first e) = rw e alone
 in_one {y = y} (later x5) = elim x5 [ ]
 
 -- a block in front of a reading in which a core command stands
-in-front : {s : List ℕ} {command c at : ℕ} {x y : Span} {spans : List Span} → MayFollow command c → y.command ≡ command → ReadingFrom s c at spans → Core x.command
+pub in-front : {s : List ℕ} {command c at : ℕ} {x y : Span} {spans : List Span} → MayFollow command c → y.command ≡ command → ReadingFrom s c at spans → Core x.command
     → CoreStands x spans → CoreStands x (y ∷ spans)
 in-front m e r core alone =
     let f = first-command r refl in
     let g = core-behind m (rw f at core) in
     behind-locking (e ∙ g.0) (rw f g.1)
 in-front m e r core (behind-locking is-locking ends) = absurd (locking-first m (sym (first-command r refl) ∙ is-locking))
-
-stands_from : {s : List ℕ} {command at : ℕ} {spans : List Span} → ReadingFrom s command at spans → (x : Span) → In x spans → Core x.command → CoreStands x spans
-unfolding span_at
-stands_from (plain_end h p) x i core = in_one i
-stands_from (andx-end h a e) x i core = in_one i
-stands_from (andx-next h m g r) x (first e) core = absurd (core-last (rw e at core) m)
-stands_from (andx-next h m g r) x (later i) core = in-front m refl r core (stands_from r x i core)
-
--- "Each stands alone in a message, save that READ and WRITE may end a chain after LOCKING_ANDX"
-pub core-stands : {s : List ℕ} {spans : List Span} → Reading s spans → (x : Span) → In x spans → Core x.command → CoreStands x spans
-core-stands r = stands_from r
 
 -- both happen: a core command's block at 32 is a reading
 pub core-alone : {s : List ℕ} {command : ℕ} → Core command → header_command s ≡ command → IsBlock s FIRST command → Reading s (span_at s command FIRST ∷ [])

@@ -11,7 +11,7 @@ use Rattle.std.proofs.Common.{ltb-false}
 use Rattle.chain.specs.Layout.{FIRST, header_command, block_end}
 use Rattle.chain.specs.Header.{dropped}
 use Rattle.chain.specs.Parse.{parse}
-use Rattle.chain.specs.ParseLaws.{placed}
+use Rattle.chain.proofs.ParseLaws.{placed}
 use Rattle.chain.specs.Chain.{blocks_from, blocks}
 use Rattle.chain.specs.declared.block.Next.{Next}
 use Rattle.chain.specs.declared.block.Next.TheVariants.{End, Follow}

@@ -9,7 +9,8 @@ use Rattle.chain.specs.Chain.{before, blocks_from, blocks}
 use Rattle.chain.specs.declared.block.Next.TheVariants.{End, Follow}
 use Rattle.chain.specs.declared.block.Block.{Block}
 use Rattle.invariants.specs.BlockParse.{block_at, Linked, link-plain, link-end, link-next, parse-complete}
-use Rattle.chain.specs.ChainLaws.{chain-end, chain_more}
+use Rattle.chain.specs.ChainLaws.{chain-end}
+use Rattle.chain.proofs.ChainLaws.{chain_more}
 use Rattle.invariants.specs.ReaderSound.{span_of, span-of-block, reader-sound-from}
 
 -- the reader's answer with those blocks

@@ -10,7 +10,7 @@ use Rattle.chain.specs.Layout.{header_command, FIRST}
 use Rattle.chain.specs.Chain.{blocks_from, blocks}
 use Rattle.chain.specs.Judged.{is_whole, readable}
 use Rattle.chain.specs.Parse.{parse}
-use Rattle.chain.specs.ParseLaws.{placed}
+use Rattle.chain.proofs.ParseLaws.{placed}
 use Rattle.chain.specs.Request.{request_named, is_served}
 use Rattle.chain.specs.RequestLaws.{by-request}
 use Rattle.chain.specs.declared.command.ServedRequest.{ServedRequest}

@@ -157,7 +157,7 @@ row_code r = tree_code (tree_of r)
 abbrev pub tree_rule : List ℕ → List ℕ → List (List ℕ) → Bool
 tree_rule uids = in_order tree_limits tree_of 32 tid_of (tree_in uids)
 
-tree-words : (a b c : ℕ) (later : List (List ℕ)) (uids codes : List ℕ) → length uids ≤ 65536 → all_tails (tree_rule uids) later ≡ true
+pub tree-words : (a b c : ℕ) (later : List (List ℕ)) (uids codes : List ℕ) → length uids ≤ 65536 → all_tails (tree_rule uids) later ≡ true
     → codes ≡ by_number row_tid row_code 0 33 later → tree_stands uids codes (a ∷ b ∷ c ∷ []) ≡ tree_rule uids (a ∷ b ∷ c ∷ []) later
 unfolding tree_stands in_order tree_of within tree_in marked
 tree-words a b c later uids codes h e q =
@@ -167,13 +167,6 @@ tree-words a b c later uids codes h e q =
       looked uids b 65535 0 (λ x. eqb x 1) h refl,
     )
     (tree-sorted (leb a 65535) (number_ok 32 (a % 65536) (map row_tid later)) (leb b 65535) (eqb (get_or uids (b % 65536) 0) 1) (leb c 255) (leb (c % 256) 1))
-
-pub tree-stands : (w : List ℕ) (i : ℕ) (later : List (List ℕ)) (uids codes : List ℕ) → length w ≡ 97 → i < 32 → length uids ≤ 65536
-    → all_tails (tree_rule uids) later ≡ true → codes ≡ by_number row_tid row_code 0 33 later
-    → tree_stands uids codes (record_at 3 w i) ≡ tree_rule uids (record_at 3 w i) later
-tree-stands w i later uids codes long few h e q =
-    rw (part-row w (1 + 3 * i) 3 (omega arith))
-    (tree-words (word w (1 + 3 * i)) (word w (1 + 3 * i + 1)) (word w (1 + 3 * i + 2)) later uids codes h e q)
 
 -- opens
 open-sorted : (a o u t p e e' g g' s s' r h h' : Bool) → (g ≡ true → h ≡ h')

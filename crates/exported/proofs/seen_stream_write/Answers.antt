@@ -1,6 +1,6 @@
 -- `exported::seen_stream_write` meets its contract: the contract of `gateway_stream_write` is the law's premises. Assumes nothing.
 use borrow.Author.Rules.{rules}
-use Rattle.demands.specs.StreamSeen.{written-seen}
+use Rattle.demands.proofs.StreamSeen.{written-seen}
 use Rattle.exported.proofs.seen_stream_write.Goals as goal
 
 pub returns : goal.returns

@@ -1,7 +1,8 @@
 -- `gateway::gateway_set_catalogue` meets its contract: the host call on the words. Assumes nothing.
 use borrow.Author.Rules.{rules}
 use Rattle.boundary.specs.Boundary.{catalogue_set}
-use Rattle.boundary.specs.BoundaryLaws.{set-on-words, set-sound}
+use Rattle.boundary.specs.BoundaryLaws.{set-on-words}
+use Rattle.boundary.proofs.BoundaryLaws.{set-sound}
 use Rattle.gateway.proofs.HostCalls.{alike, refused-call, done-call}
 use Rattle.gateway.proofs.gateway_set_catalogue.Goals as goal
 

@@ -4,7 +4,8 @@ use mathlib.Core.Path.{refl, sym, ap, ◌∙◌}
 use Rattle.message.specs.Message.{Taken}
 use Rattle.server.specs.TakenOf.{taken_of}
 use Rattle.boundary.specs.Boundary.{message_taken, holder_words}
-use Rattle.boundary.specs.MessageLaws.{length-stands, length-given, holder-stands, holder-given, message-next}
+use Rattle.boundary.specs.MessageLaws.{length-stands, length-given, holder-stands, holder-given}
+use Rattle.boundary.proofs.MessageLawsStated.{message-next}
 use Rattle.gateway.proofs.gateway_take_message.Goals as goal
 
 pub returns-then-number-ne-DONE : goal.returns-then-number-ne-DONE

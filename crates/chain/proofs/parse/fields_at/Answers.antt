@@ -6,9 +6,10 @@ use native.Mathlib.Omega.{arith}
 use lib.ListN.{length}
 use Rattle.chain.specs.Layout.{block_end}
 use Rattle.chain.specs.Parse.{answer, parse}
-use Rattle.chain.specs.ParseLaws.{placed}
+use Rattle.chain.proofs.ParseLaws.{placed}
 use Rattle.chain.specs.Judged.{whole-block}
-use Rattle.chain.specs.Rows.{taken-apart, whole-andx}
+use Rattle.chain.specs.Rows.{taken-apart}
+use Rattle.chain.proofs.Rows.{whole-andx}
 use borrow.Author.Rules.{rules}
 use Rattle.chain.proofs.parse.fields_at.Goals as goal
 use Rattle.chain.proofs.parse.fields_at.Goals.{Start}

@@ -9,7 +9,8 @@ use Rattle.soundness.specs.Sound.{sound}
 use Rattle.tables.specs.Words.{tables_of, in_use_fit}
 use Rattle.lists.specs.Truth.{both_hold}
 use Rattle.boundary.specs.BoundaryLaws.{words-good}
-use Rattle.boundary.specs.MessageLaws.{room-short, memory-wrong, room-right, row_room, row-sound, row-dropped, row-answered}
+use Rattle.boundary.specs.MessageLaws.{room-short, memory-wrong, room-right, row_room, row-dropped, row-answered}
+use Rattle.boundary.proofs.MessageLaws.{row-sound}
 use Rattle.server.specs.Rows.{refusal-taken, answered-number, kept-length}
 use Rattle.server.proofs.call.take_message.Goals as goal
 

@@ -15,7 +15,8 @@ use Rattle.tables.specs.Words.{word, up_to, record_at, tree_of, tree_array, tree
 use Rattle.tables.specs.PartLaws.{part-row}
 use Rattle.numbers.specs.ByNumber.{entry, by_number, number_free, uncut, marked_start}
 use Rattle.soundness.specs.InWords.{rows, marked, code_of, tree_code, tree_in, tree_stands}
-use Rattle.soundness.specs.InWordsLaws.{row_tid, row_code, tree-stands}
+use Rattle.soundness.specs.InWordsLaws.{row_tid, row_code}
+use Rattle.soundness.proofs.InWordsLaws.{tree-stands}
 use Rattle.soundness.specs.RowWalk.{free-inside, marked-length, row-yes, row-no, told-yes, told-no}
 use native.Mathlib.Omega.{arith}
 use Rattle.soundness.proofs.tree_words.trees_marked.Goals as goal

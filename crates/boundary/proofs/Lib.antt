@@ -1,0 +1,3 @@
+pub mod BoundaryLaws
+pub mod MessageLaws
+pub mod MessageLawsStated

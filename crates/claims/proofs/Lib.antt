@@ -1,0 +1,14 @@
+pub mod AskUnchanged
+pub mod BeforeHolder
+pub mod CataloguePlain
+pub mod EndOne
+pub mod HostFrames
+pub mod HostReasons
+pub mod RemovalPlain
+pub mod SoundPlain
+pub mod StatusList
+pub mod StreamBack
+pub mod StreamBackStated
+pub mod StreamCut
+pub mod StreamStates
+pub mod StreamStatesStated

@@ -1,0 +1,20 @@
+-- Of specs/StreamBack.antt: what rests on its other theorems. Assumes nothing.
+use Rattle.std.specs.Prelude.{◌≡◌, refl, ℕ, suc, ◌+◌, ◌≤◌, length, take, drop}
+use Rattle.std.proofs.Common.{sym, ap, ◌∙◌, length-append, drop-drop, arith, le-ltb, le-leb}
+use mathlib.Core.List.{List, [], ◌∷◌, ◌++◌, append-nil, flatten, map}
+use Rattle.std.proofs.Math.Seq.{take-append_seam, drop-append_seam}
+use Rattle.lists.specs.Put.{put}
+use Rattle.stream.specs.Stream.{header_of, begins, whole, first_of, first, with_message, carried_by, carried_within, carried, begun}
+use Rattle.stream.specs.State.{none_begun}
+use Rattle.stream.specs.Writer.{written_of, framed, write}
+use Rattle.stream.specs.BeginsLaws.{header-begins}
+use Rattle.claims.specs.StreamLaws.{carried_step}
+use Rattle.claims.specs.StreamCut.{Same, drained_all, AllBytes}
+use Rattle.claims.proofs.StreamCut.{reader-in-one}
+use Rattle.claims.specs.StreamBack.{AllShort, carried-back}
+
+-- and a reader that has nothing begun hands out these messages, however the bytes come
+pub read_back : {ms : List (List ℕ)} → AllShort ms → (pieces : List (List ℕ)) → AllBytes pieces → flatten pieces ≡ flatten (map framed ms)
+    → (buffer : List ℕ) → length buffer ≡ 8192 → Same (drained_all none_begun buffer pieces) (record { messages = ms; left = begun [] })
+read_back {ms} short pieces b same buffer room =
+    rw (← carried-back short, ← same) (reader-in-one pieces b buffer room)

@@ -1,0 +1,11 @@
+pub mod Possible
+pub mod Possible2
+pub mod Possible3
+pub mod Possible6
+pub mod Possible7
+pub mod Request2
+pub mod Request3
+pub mod Request4
+pub mod Request6
+pub mod Request7
+pub mod Request8

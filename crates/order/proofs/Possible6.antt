@@ -1,0 +1,128 @@
+-- Of specs/Possible6.antt: what rests on its other theorems. Assumes nothing.
+use Rattle.std.specs.Prelude.{◌≡◌, refl, ℕ, true, false, List, [], ◌∷◌, ◌++◌, length, replicate}
+use Rattle.std.proofs.Common.{sym, subst, ◌∙◌, arith}
+use mathlib.Core.List.Memᴰ.{head as first}
+use Rattle.std.proofs.lemmas.List.{length-replicate}
+use Rattle.lists.specs.Walk.{any, all, all_tails, found, found_from}
+use Rattle.lists.specs.Stored.{stored}
+use Rattle.wire.specs.LittleEndian.{le16_at, le32_at}
+use Rattle.records.specs.declared.Name.{Name}
+use Rattle.records.specs.declared.Tables.{Tables}
+use Rattle.records.specs.Empty.{no_session, no_tree, no_open, no_lock, no_file, no_name}
+use Rattle.records.specs.Held.{with_opens, with_catalogue}
+use Rattle.numbers.specs.Number.{contains, number_ok, numbered, free_from, smallest_free}
+use Rattle.locks.specs.Range.{overlaps, passes_end}
+use Rattle.catalogue.specs.Name.{folded, same_name, name_bytes, is_named, not_zero, name_ok, differ, none_doubled, catalogue_ok}
+use Rattle.soundness.specs.File.{file_of}
+use Rattle.soundness.specs.Lookup.{is_tree}
+use Rattle.soundness.specs.Sound.{within_room, file_ok, tree_ok, permits, holds_open, sharing_ok, open_ok, sound_records, lock_ok, agree, agree_all, sound_locks, sound, seen_ok}
+use Rattle.host.specs.HostCall.{done, set_catalogue}
+use Rattle.chain.specs.Layout.{READ, OPEN, FIRST, fid_after_andx}
+use Rattle.chain.specs.Grammar.{Span, Reading}
+use Rattle.chain.specs.Header.{starts_smb, is_reply, dropped}
+use Rattle.chain.specs.Parse.{shaped, bare, read_fits, terminated, open_fits, may_follow, link_fits, link_at, answer, wide_offset, parse_read, parse_open, open_fields, parse}
+use Rattle.chain.specs.Chain.{before, after_block, after_parse, blocks_within, blocks_from, blocks}
+use Rattle.message.specs.Caller.{caller_of}
+use Rattle.message.specs.Refusal.{status, forms_of}
+use Rattle.message.specs.declared.refusal.Status.{Status}
+use Rattle.message.specs.Contents.{size_of, contents, read_bytes}
+use Rattle.message.specs.Sharing.{reads, writes, denies_reading, denies_writing, denied, kept_out}
+use Rattle.message.specs.Command.{is_session, with_session, with_tree, is_open, open_at, with_open, ask_by, unless_barred, barring, do_read, codes_served, name_asked, open_by, opened_said, open_file, open_named, do_open, perform}
+use Rattle.message.specs.Reply.{reply_size}
+use Rattle.message.specs.JustOpened.{opened_by, fid_meant, body_meant}
+use Rattle.message.specs.Message.{area_of, data_of, after, after_given, run, served, run_chain, answered}
+use Rattle.invariants.specs.Sound.{Good}
+use Rattle.invariants.specs.ReaderSound.{span_of, reader-sound}
+use Rattle.claims.specs.HostReasons.{HasTree, HasPermitting}
+use Rattle.claims.proofs.CataloguePlain.{same-name-plain}
+use Rattle.literals.specs.State.{name, memory}
+use Rattle.literals.specs.Replies.{message}
+use Rattle.literals.specs.Opening.{crl, open_words, opening, crl_bytes, open_crl, crl_then_read, read_of, asking}
+use Rattle.demands.proofs.Calls.{status-call}
+use Rattle.demands.specs.Admitted.{SessionHere}
+use Rattle.demands.specs.Alone.{named_andx, end_set, data_set}
+use Rattle.demands.specs.Carrying.{asks_opened, carrying}
+use Rattle.demands.specs.Sharing.{writes-1, writing, writing-by-2, asks-denied, KeptOut}
+use Rattle.demands.specs.OpenReasons.{NamesFile, OpenPermitted}
+use Rattle.demands.specs.OpenEffects.{OpenDone}
+use Rattle.demands.specs.SpansOneByOne.{alone_span, own_span}
+use Rattle.demands.specs.SpansRefused.{last_returned}
+use Rattle.demands.specs.WireFields.{open_name}
+use Rattle.order.specs.Call.{Call, gives, Answerable, OneCommand, Says, sender, some_room, own_message}
+use Rattle.order.specs.Demand2.{DoneAlone, demand-2}
+use Rattle.order.proofs.Request6.{request-6}
+use Rattle.records.specs.Change.{changes_of, noting}
+use Rattle.order.specs.Possible6.{DoneBy, asked, call-says, chain-nobody, chain-reading, first-message, given-here, good, kept, memory-whole, named_here, office, office-sound, one-open, open_first, open_span, open_then_read, read_span, to_read, to_write, two_names, write-kept-out}
+
+pub answerable : (s : List ℕ) (others : ℕ) → Good (office two_names 2 others) → dropped s ≡ false → Answerable (asked s others)
+unfolding asked
+answerable s others ok kept =
+    record {
+      fit = record {
+        room-enough = rw (length-replicate {A = ℕ} 12292 0) (omega arith);
+        memory-whole = memory-whole;
+        tables-sound = ok.sound;
+        not-dropped = kept;
+      };
+      good = ok;
+    }
+
+pub read-answerable : Answerable (asked to_read 0)
+read-answerable = answerable to_read 0 (good 0 office-sound.0) kept.0
+
+pub read_done : DoneAlone (asked to_read 0) OPEN
+unfolding status
+read_done = (read-answerable, one-open.0, call-says to_read 0 read-answerable (status 0 0) given-here.0)
+
+-- so there is an open more, and its reply returns its FID
+pub read_opened : OpenDone 5 to_read (office two_names 2 0) memory (gives (asked to_read 0))
+unfolding asked
+read_opened = demand-2.carried-out.opening (asked to_read 0) read_done
+
+pub write-answerable : Answerable (asked to_write 1)
+write-answerable = answerable to_write 1 (good 1 office-sound.1) kept.1
+
+pub write-permitted : OpenPermitted (sender (asked to_write 1)) (office two_names 2 1) (open_fields to_write FIRST) (open_name to_write) 1
+unfolding asked office to_write asking message open_crl opening open_words crl_bytes caller_of le16_at SessionHere HasTree HasPermitting
+write-permitted =
+    record {
+      served = record {
+        session = (_, first refl, refl, refl);
+        tree = (_, first refl, refl, refl);
+        mode = refl;
+        codes = record { access-code = omega arith; some-sharing = omega arith; sharing-code = omega arith };
+      };
+      named = named_here;
+      permitted = (_, first refl, refl, refl, λ e. let z : ◌≡◌ {A = ℕ} 1 0 = e in absurd (omega arith));
+    }
+
+pub write-refused : Says (asked to_write 1) 1 32
+unfolding status
+write-refused = call-says to_write 1 write-answerable (status 1 32) given-here.1
+
+-- and so the page says
+pub write-refused-for-it : Says (asked to_write 1) 1 32
+unfolding asked to_write asking message open_crl opening open_words crl_bytes
+write-refused-for-it = (request-6.sharing.exactly (asked to_write 1) 1 write-answerable one-open.1 write-permitted).1 write-kept-out
+
+pub chain-answerable : Answerable (asked open_then_read 0)
+chain-answerable = answerable open_then_read 0 (good 0 office-sound.0) kept.2
+
+pub chain-done : Says (asked open_then_read 0) 0 0
+unfolding status
+chain-done = call-says open_then_read 0 chain-answerable (status 0 0) given-here.2
+
+pub first-answerable : Answerable (asked open_first 0)
+first-answerable = answerable open_first 0 (good 0 office-sound.0) kept.3
+
+pub first_done : DoneBy open_first
+unfolding asked status
+first_done = demand-2.carried-out.opening (asked open_first 0) (first-answerable, one-open.2, call-says open_first 0 first-answerable (status 0 0) given-here.3)
+
+pub chain-opened : DoneBy (own_message (asked open_then_read 0) [] open_span)
+chain-opened = subst DoneBy (sym first-message) first_done
+
+-- the READ's own message has the FID of the open that the OPEN_ANDX's own message added
+pub chain-meant : fid_after_andx (own_message (asked open_then_read 0) (open_span ∷ []) read_span) FIRST ≡ chain-opened.new.fid
+unfolding asked
+chain-meant = request-6.just-opened.meant (asked open_then_read 0) open_span read_span [] chain-answerable chain-reading refl chain-nobody chain-opened

@@ -1,0 +1,8 @@
+pub mod Alone
+pub mod CoreAlone
+pub mod FreeBytes
+pub mod ListingExact
+pub mod ListingExactStated
+pub mod Moved
+pub mod MovedBytes
+pub mod UnreadLaws
