@@ -1,29 +1,22 @@
 -- Of specs/BoundaryLaws.antt: what rests on its other theorems. Assumes nothing.
-use Rattle.std.specs.Prelude.{◌≡◌, ℕ, ◌+◌, ◌*◌, ◌≤◌, Bool, true, not, ◌&&◌, List, length, replicate}
+use Rattle.std.specs.Prelude.{◌≡◌, ℕ, true, List, length, replicate}
 use Rattle.std.proofs.Math.Path.{refl, ap}
 use Rattle.std.proofs.Common.{sym, ◌∙◌}
 use Rattle.std.proofs.Math.Logic.{⊎_elim}
 use Rattle.std.proofs.Math.Bool.{false}
-use Rattle.std.proofs.lemmas.Bool.{false≢true}
 use native.Mathlib.Omega.{arith}
 use Rattle.std.proofs.Math.Dec.{eqb}
-use borrow.Author.Tests.{eq-eqb, ne_eqb}
+use borrow.Author.Tests.{ne_eqb}
 use Rattle.host.specs.declared.answer.Returned.{Returned}
-use Rattle.host.specs.HostCall.{load_number, load_file, load_memory, refused, done, no_tables, set_catalogue}
-use Rattle.host.specs.OnWords.{on_words, set_on_sound, set_on_words}
+use Rattle.host.specs.HostCall.{load_file, load_memory, refused, done, no_tables, set_catalogue}
 use Rattle.lists.specs.Walk.{all}
-use Rattle.lists.specs.Truth.{decided, both_hold, hold-both}
-use Rattle.records.specs.declared.Tables.{Tables}
+use Rattle.lists.specs.Truth.{decided}
 use Rattle.soundness.specs.Sound.{sound}
-use Rattle.invariants.specs.Shaped.{Shaped}
-use Rattle.invariants.specs.Sound.{Good}
-use Rattle.invariants.specs.HostCases.{by-test, set_catalogue-either}
+use Rattle.invariants.specs.HostCases.{set_catalogue-either}
 use Rattle.invariants.specs.HostSound.{start-sound, set_catalogue-sound}
-use Rattle.tables.specs.Words.{word, part, up_to, array_of, session_of, tree_of, open_of, lock_of, name_of, file_of, session_array, tree_array, open_array, lock_array, name_array, file_array, tables_of, name_limits, records_fit, table_fits, in_use_fit}
-use Rattle.tables.specs.ArrayLaws.{length-up_to, length-array}
-use Rattle.boundary.specs.Boundary.{ready, ForNext, number_of, is_done, id_after, file_loaded, load_number_of, memory_after, catalogue_set}
+use Rattle.tables.specs.Words.{word, up_to, name_array, tables_of, name_limits, records_fit, table_fits, in_use_fit}
+use Rattle.boundary.specs.Boundary.{ready, number_of, is_done, id_after, memory_after, catalogue_set}
 use Rattle.boundary.specs.BoundaryLaws.{Leaves, core-refuses, core-sound, core-unsound, done-memory, done_next, empty-tables, ready_of, refused-memory, set-either, set-no-bytes, set-unsound, undone-next, wrong-undone}
-
 
 module _ (w : List ℕ) (id : ℕ) (a : Returned) where
   pub unfit : in_use_fit w ≡ false → Leaves w id a 4 w id

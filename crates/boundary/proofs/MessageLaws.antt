@@ -1,23 +1,16 @@
 -- Of specs/MessageLaws.antt: what rests on its other theorems. Assumes nothing.
-use Rattle.std.specs.Prelude.{◌≡◌, ℕ, ◌<◌, ◌≤◌, Bool, cond, not, ◌&&◌, ◌||◌, List, length, eqb, ltb}
+use Rattle.std.specs.Prelude.{◌≡◌, ℕ, Bool, ◌&&◌, List}
 use Rattle.std.proofs.Math.Path.{refl}
 use Rattle.std.proofs.Math.Bool.{true, false}
-use Rattle.std.proofs.Common.{eq-eqb, ne_eqb, lt-ltb, le-ltb}
-use Rattle.lists.specs.Truth.{holds-second, both_hold}
-use Rattle.records.specs.declared.Tables.{Tables}
 use Rattle.soundness.specs.Sound.{sound}
-use Rattle.chain.specs.Header.{dropped}
-use Rattle.message.specs.Message.{Taken, not_taken, replied, answered, take-message}
+use Rattle.message.specs.Message.{not_taken}
 use Rattle.invariants.specs.Fit.{take-message-good}
 use Rattle.tables.specs.Words.{tables_of, in_use_fit}
-use Rattle.boundary.specs.BoundaryLaws.{words-good, ready_of}
-use Rattle.boundary.specs.OutParameter.{stands-else, given-done}
-use Rattle.boundary.specs.Boundary.{ready, ForNext, wrong_room, message_taken, length_after, holder_words, holder_after}
+use Rattle.boundary.specs.BoundaryLaws.{words-good}
+use Rattle.boundary.specs.Boundary.{wrong_room, message_taken}
 use Rattle.boundary.specs.MessageLaws.{message-fit, message-unfit, unfit-tables, unsound-by}
 
-
 module _ (connection : ℕ) (s w memory room : List ℕ) where
-
   module _ (right : wrong_room memory room ≡ false) where
     pub row-sound : (in_use_fit w && sound (tables_of w)) ≡ false → not_taken 4 (tables_of w) memory room ≡ message_taken connection s w memory room
     row-sound e = (unsound-by connection s w memory room right) (in_use_fit w) refl e

@@ -1,20 +1,13 @@
 -- Of specs/MessageLaws.antt: what rests on its other theorems. Assumes nothing.
-use Rattle.std.specs.Prelude.{◌≡◌, ℕ, ◌<◌, ◌≤◌, Bool, cond, not, ◌&&◌, ◌||◌, List, length, eqb, ltb}
+use Rattle.std.specs.Prelude.{◌≡◌, ℕ, List}
 use Rattle.std.proofs.Math.Path.{refl}
-use Rattle.std.proofs.Math.Bool.{true, false}
-use Rattle.std.proofs.Common.{eq-eqb, ne_eqb, lt-ltb, le-ltb}
-use Rattle.lists.specs.Truth.{holds-second, both_hold}
-use Rattle.records.specs.declared.Tables.{Tables}
+use Rattle.std.proofs.Math.Bool.{true}
+use Rattle.lists.specs.Truth.{both_hold}
 use Rattle.soundness.specs.Sound.{sound}
-use Rattle.chain.specs.Header.{dropped}
-use Rattle.message.specs.Message.{Taken, not_taken, replied, answered, take-message}
-use Rattle.invariants.specs.Fit.{take-message-good}
 use Rattle.tables.specs.Words.{tables_of, in_use_fit}
-use Rattle.boundary.specs.BoundaryLaws.{words-good, ready_of}
-use Rattle.boundary.specs.OutParameter.{stands-else, given-done}
-use Rattle.boundary.specs.Boundary.{ready, ForNext, wrong_room, message_taken, length_after, holder_words, holder_after}
+use Rattle.boundary.specs.BoundaryLaws.{ready_of}
+use Rattle.boundary.specs.Boundary.{ready, ForNext, message_taken}
 use Rattle.boundary.proofs.MessageLaws.{keeps-by}
-
 
 module _ (connection : ℕ) (s w memory room : List ℕ) where
   -- the words out, as the call leaves them

@@ -4,15 +4,12 @@ use Rattle.std.proofs.Math.Path.{refl}
 use Rattle.std.proofs.Math.Bool.{true, false}
 use Rattle.std.proofs.Common.{eq-eqb, ne_eqb, lt-ltb, le-ltb}
 use Rattle.lists.specs.Truth.{holds-second, both_hold}
-use Rattle.records.specs.declared.Tables.{Tables}
 use Rattle.soundness.specs.Sound.{sound}
 use Rattle.chain.specs.Header.{dropped}
 use Rattle.message.specs.Message.{Taken, not_taken, replied, answered, take-message}
-use Rattle.invariants.specs.Fit.{take-message-good}
 use Rattle.tables.specs.Words.{tables_of, in_use_fit}
-use Rattle.boundary.specs.BoundaryLaws.{words-good, ready_of}
 use Rattle.boundary.specs.OutParameter.{stands-else, given-done}
-use Rattle.boundary.specs.Boundary.{ready, ForNext, wrong_room, message_taken, length_after, holder_words, holder_after}
+use Rattle.boundary.specs.Boundary.{wrong_room, message_taken, length_after, holder_words, holder_after}
 
 pub room-short : (memory room : List ℕ) → length room < 12292 → wrong_room memory room ≡ true
 unfolding wrong_room

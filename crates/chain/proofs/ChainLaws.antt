@@ -1,8 +1,7 @@
 -- Of specs/ChainLaws.antt: what rests on its other theorems. Assumes nothing.
-use Rattle.std.specs.Prelude.{◌≡◌, refl, ℕ, zero, suc, ◌-◌, ◌≤◌, ◌<◌, List, [], ◌∷◌}
+use Rattle.std.specs.Prelude.{◌≡◌, ℕ, zero, suc, ◌-◌, ◌≤◌, ◌<◌, List}
 use Rattle.std.proofs.Math.Path.{ap}
 use Rattle.std.proofs.Common.{◌∙◌, arith}
-use Rattle.std.proofs.Math.Option.{Option, none, some}
 use Rattle.std.proofs.Math.ListN.{length}
 use Rattle.chain.specs.Layout.{block_end}
 use Rattle.chain.specs.Parse.{parse}
@@ -10,9 +9,9 @@ use Rattle.chain.proofs.ParseLaws.{placed}
 use Rattle.chain.specs.Chain.{before, after_block, after_parse, blocks_within, blocks_from}
 use Rattle.chain.specs.declared.block.Block.{Block}
 use Rattle.chain.specs.declared.block.Next.{Next}
-use Rattle.chain.specs.declared.block.Next.TheVariants.{End, Follow}
+use Rattle.chain.specs.declared.block.Next.TheVariants.{Follow}
 use Rattle.chain.specs.declared.block.Parsed.{Parsed}
-use Rattle.chain.specs.declared.block.Parsed.TheVariants.{Whole, Malformed}
+use Rattle.chain.specs.declared.block.Parsed.TheVariants.{Whole}
 use Rattle.chain.specs.ChainLaws.{parse-same}
 
 -- turns enough give the same reading, however many they are
@@ -28,7 +27,6 @@ turns_same (suc n) (suc m) s command at h k =
     turns_same n m s c a (omega arith) (omega arith))
 
 module _ (s : List ℕ) (command at : ℕ) where
-
   module _ (b : Block) (e : parse s command at ≡ Whole b) where
     -- a block that is followed stands before the reading there
     pub chain_more : (c a : ℕ) → b.next ≡ Follow c a → blocks_from s command at ≡ before b (blocks_from s c a)

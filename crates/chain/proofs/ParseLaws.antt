@@ -1,25 +1,16 @@
 -- Of specs/ParseLaws.antt: what rests on its other theorems. Assumes nothing.
-use Rattle.std.specs.Prelude.{◌≡◌, refl, ℕ, ◌+◌, ◌*◌, ◌≤◌, ◌<◌, Bool, true, false, cond, ◌&&◌, ◌||◌, List, leb}
+use Rattle.std.specs.Prelude.{◌≡◌, ℕ, ◌≤◌, Bool, true, ◌&&◌, List}
 use Rattle.std.proofs.Common.{sym, ◌∙◌}
-use native.Mathlib.Omega.{arith}
-use Rattle.std.proofs.Math.Bool.{and-false}
 use Rattle.std.proofs.Math.ListN.{length}
 use Rattle.std.proofs.Math.Dec.{eqb}
-use borrow.Author.Tests.{leb-true, eqb-true, lt-leb}
-use Rattle.lists.specs.Truth.{both_hold, either-cases, chosen}
-use Rattle.wire.specs.LittleEndian.{byte_at, le16_at}
-use Rattle.locks.specs.Wire.{range_size}
-use Rattle.chain.specs.Layout.{CLOSE, PROCESS_EXIT, LOCKING, READ, WRITE, TREE_DISCONNECT, LOGOFF, CORE-READ, CORE-WRITE, LOCK_BYTE_RANGE, UNLOCK_BYTE_RANGE, OPEN, NO_COMMAND, word_count, byte_count, block_end, andx_command, andx_offset, lock_type, unlock_count, lock_count, first_fid, core_count, data_mark, marked_length}
-use Rattle.chain.specs.Parse.{shaped, bare, is_large, locking_fits, read_fits, data_inside, write_fits, may_follow, link_fits, link_at, answer, core_write_fits, terminated, bytes_at, open_fits, parse_locking, parse_read, parse_write, parse_open, parse_logoff, parse_bare, core_read_at, parse_core_write, range_fields, parse}
+use Rattle.lists.specs.Truth.{both_hold, chosen}
+use Rattle.chain.specs.Layout.{CLOSE, PROCESS_EXIT, LOCKING, READ, WRITE, TREE_DISCONNECT, LOGOFF, CORE-READ, CORE-WRITE, LOCK_BYTE_RANGE, UNLOCK_BYTE_RANGE, OPEN, block_end, first_fid}
+use Rattle.chain.specs.Parse.{bare, locking_fits, read_fits, write_fits, link_fits, link_at, answer, open_fits, parse_locking, parse_read, parse_write, parse_open, parse_logoff, parse_bare, core_read_at, parse_core_write, range_fields, parse}
 use Rattle.chain.specs.declared.block.Body.{Body}
 use Rattle.chain.specs.declared.block.Body.TheVariants.{Close, Logoff, TreeDisconnect, ProcessExit, LockByteRange, UnlockByteRange}
-use Rattle.chain.specs.declared.block.Next.{Next}
-use Rattle.chain.specs.declared.block.Next.TheVariants.{End, Follow}
 use Rattle.chain.specs.declared.block.Block.{Block}
-use Rattle.chain.specs.declared.block.Parsed.{Parsed}
 use Rattle.chain.specs.declared.block.Parsed.TheVariants.{Whole, Malformed}
 use Rattle.chain.specs.ParseLaws.{Placed, answer-whole, bare-inside, link-ahead, locking-inside, open-inside, placed-bare, placed-core-write, read-inside, unserved, write-inside}
-
 
 module _ (s : List ℕ) (command at : ℕ) (fits : Bool) (body : Body) (b : Block) (inside : fits ≡ true → block_end s at ≤ length s) where
   -- a block with AndX words, both of them fitting

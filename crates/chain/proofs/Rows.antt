@@ -1,25 +1,16 @@
 -- Of specs/Rows.antt: what rests on its other theorems. Assumes nothing.
-use Rattle.std.specs.Prelude.{◌≡◌, ℕ, ◌+◌, ◌≤◌, Bool, true, false, cond, ◌&&◌, ◌||◌, List, length}
-use Rattle.std.proofs.Math.Path.{refl}
-use Rattle.std.proofs.Common.{sym, ap, ◌∙◌, arith}
-use Rattle.std.proofs.lemmas.Bool.{false≢true}
-use Rattle.lists.specs.Truth.{both_hold, either-cases}
-use Rattle.chain.specs.Layout.{CLOSE, PROCESS_EXIT, LOCKING, READ, WRITE, TREE_DISCONNECT, LOGOFF, CORE-READ, CORE-WRITE, LOCK_BYTE_RANGE, UNLOCK_BYTE_RANGE, OPEN, word_count, block_end}
-use Rattle.chain.specs.Parse.{shaped, bare, locking_fits, read_fits, data_inside, write_fits, core_write_fits, open_fits, link_fits, link_at, answer, parse_locking, parse_read, parse_write, parse_open, parse_logoff, parse_bare, parse_core_write, parse}
-use Rattle.chain.specs.ParseLaws.{shaped-words, bare-words, bare-inside, locking-inside, read-inside, write-inside, core-write-inside, open-inside}
+use Rattle.std.specs.Prelude.{◌≡◌, ℕ, ◌+◌, ◌≤◌, true, false, cond, List, length}
+use Rattle.std.proofs.Common.{sym, ap, ◌∙◌}
+use Rattle.lists.specs.Truth.{both_hold}
+use Rattle.chain.specs.Parse.{link_fits, parse}
 use Rattle.chain.specs.Request.{request_named, is_andx}
-use Rattle.chain.specs.RequestLaws.{Unserved, by-request}
+use Rattle.chain.specs.RequestLaws.{by-request}
 use Rattle.chain.specs.Judged.{is_whole, judged}
-use Rattle.chain.specs.declared.block.Body.{Body}
 use Rattle.chain.specs.declared.block.Body.TheVariants.{ProcessExit}
-use Rattle.chain.specs.declared.block.Next.{Next}
 use Rattle.chain.specs.declared.block.Next.TheVariants.{End}
-use Rattle.chain.specs.declared.block.Judged.{Judged}
 use Rattle.chain.specs.declared.block.Judged.TheVariants as judge
 use Rattle.chain.specs.declared.command.ServedRequest.{ServedRequest}
-use Rattle.chain.specs.declared.command.ServedRequest.TheVariants as named
 use Rattle.chain.specs.Rows.{Row, andx-inside, fits, judged-answer, link_judged, neither, next_at, row-close, row-core-read, row-core-write, row-lock-byte-range, row-locking, row-logoff, row-none, row-process-exit, row-tree-disconnect, row-unlock-byte-range, row_fits, row_open, row_read, row_write, whole-fits}
-
 
 module _ (s : List ℕ) (at : ℕ) where
   pub parse-row : (command : ℕ) → (Row s at) command

@@ -1,11 +1,8 @@
 -- The laws of a chain's reading that hide its count of turns: a block that is refused, one that ends the chain, and one that is followed.
 -- Assumes nothing.
-use Rattle.std.specs.Prelude.{◌≡◌, refl, ℕ, zero, suc, ◌-◌, ◌≤◌, ◌<◌, List, [], ◌∷◌}
+use Rattle.std.specs.Prelude.{◌≡◌, refl, ℕ, List, [], ◌∷◌}
 use Rattle.std.proofs.Math.Path.{ap}
-use Rattle.std.proofs.Common.{◌∙◌, arith}
 use Rattle.std.proofs.Math.Option.{Option, none, some}
-use Rattle.std.proofs.Math.ListN.{length}
-use Rattle.chain.specs.Layout.{block_end}
 use Rattle.chain.specs.Parse.{parse}
 use Rattle.chain.specs.Chain.{before, after_block, after_parse, blocks_within, blocks_from}
 use Rattle.chain.specs.declared.block.Block.{Block}

@@ -1,23 +1,20 @@
 -- Laws of the reader of one block: a block that it yields stands inside the message, and its follower not before its end.
 -- Assumes nothing.
 use Rattle.std.specs.Prelude.{◌≡◌, refl, ℕ, ◌+◌, ◌*◌, ◌≤◌, ◌<◌, Bool, true, false, cond, ◌&&◌, ◌||◌, List, leb}
-use Rattle.std.proofs.Common.{sym, ◌∙◌}
 use native.Mathlib.Omega.{arith}
 use Rattle.std.proofs.Math.Bool.{and-false}
 use Rattle.std.proofs.Math.ListN.{length}
 use Rattle.std.proofs.Math.Dec.{eqb}
 use borrow.Author.Tests.{leb-true, eqb-true, lt-leb}
-use Rattle.lists.specs.Truth.{both_hold, either-cases, chosen}
+use Rattle.lists.specs.Truth.{both_hold, either-cases}
 use Rattle.wire.specs.LittleEndian.{byte_at, le16_at}
 use Rattle.locks.specs.Wire.{range_size}
-use Rattle.chain.specs.Layout.{CLOSE, PROCESS_EXIT, LOCKING, READ, WRITE, TREE_DISCONNECT, LOGOFF, CORE-READ, CORE-WRITE, LOCK_BYTE_RANGE, UNLOCK_BYTE_RANGE, OPEN, NO_COMMAND, word_count, byte_count, block_end, andx_command, andx_offset, lock_type, unlock_count, lock_count, first_fid, core_count, data_mark, marked_length}
-use Rattle.chain.specs.Parse.{shaped, bare, is_large, locking_fits, read_fits, data_inside, write_fits, may_follow, link_fits, link_at, answer, core_write_fits, terminated, bytes_at, open_fits, parse_locking, parse_read, parse_write, parse_open, parse_logoff, parse_bare, core_read_at, parse_core_write, range_fields, parse}
+use Rattle.chain.specs.Layout.{CORE-WRITE, NO_COMMAND, word_count, byte_count, block_end, andx_command, andx_offset, lock_type, unlock_count, lock_count, core_count, data_mark, marked_length}
+use Rattle.chain.specs.Parse.{shaped, bare, is_large, locking_fits, read_fits, data_inside, write_fits, may_follow, link_fits, link_at, answer, core_write_fits, terminated, bytes_at, open_fits, parse_bare, parse_core_write}
 use Rattle.chain.specs.declared.block.Body.{Body}
-use Rattle.chain.specs.declared.block.Body.TheVariants.{Close, Logoff, TreeDisconnect, ProcessExit, LockByteRange, UnlockByteRange}
 use Rattle.chain.specs.declared.block.Next.{Next}
 use Rattle.chain.specs.declared.block.Next.TheVariants.{End, Follow}
 use Rattle.chain.specs.declared.block.Block.{Block}
-use Rattle.chain.specs.declared.block.Parsed.{Parsed}
 use Rattle.chain.specs.declared.block.Parsed.TheVariants.{Whole, Malformed}
 
 module _ (s : List ℕ) (at : ℕ) where
@@ -109,7 +106,6 @@ answer-whole s command at true body next b e = (refl, cc)
 answer-whole s command at false body next b e = let never : ◌≡◌ {A = ℕ} 0 1 = cc in absurd (omega arith)
 
 module _ (s : List ℕ) (command at : ℕ) (fits : Bool) (body : Body) (b : Block) (inside : fits ≡ true → block_end s at ≤ length s) where
-
   -- one that nothing follows
   placed_end : answer s command at fits body End ≡ Whole b → Placed s at b
   placed_end e =
@@ -117,7 +113,6 @@ module _ (s : List ℕ) (command at : ℕ) (fits : Bool) (body : Body) (b : Bloc
       record { inside = inside told.0; ahead = λ c a f. let never : ◌≡◌ {A = ℕ} 0 1 = cc told.1 in absurd (omega arith) }
 
 module _ (s : List ℕ) (at : ℕ) (b : Block) where
-
   pub placed-bare : (command words : ℕ) (body : Body) → parse_bare s command at words body ≡ Whole b → Placed s at b
   unfolding parse_bare
   placed-bare command words body e = placed_end s command at (bare s at words) body b (bare-inside s at words) e

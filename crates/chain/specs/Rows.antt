@@ -10,7 +10,7 @@ use Rattle.chain.specs.Layout.{CLOSE, PROCESS_EXIT, LOCKING, READ, WRITE, TREE_D
 use Rattle.chain.specs.Parse.{shaped, bare, locking_fits, read_fits, data_inside, write_fits, core_write_fits, open_fits, link_fits, link_at, answer, parse_locking, parse_read, parse_write, parse_open, parse_logoff, parse_bare, parse_core_write, parse}
 use Rattle.chain.specs.ParseLaws.{shaped-words, bare-words, bare-inside, locking-inside, read-inside, write-inside, core-write-inside, open-inside}
 use Rattle.chain.specs.Request.{request_named, is_andx}
-use Rattle.chain.specs.RequestLaws.{Unserved, by-request}
+use Rattle.chain.specs.RequestLaws.{Unserved}
 use Rattle.chain.specs.Judged.{is_whole, judged}
 use Rattle.chain.specs.declared.block.Body.{Body}
 use Rattle.chain.specs.declared.block.Body.TheVariants.{ProcessExit}
@@ -165,7 +165,6 @@ judged-answer s command at true body next = refl
 judged-answer s command at false body next = refl
 
 module _ (s : List ℕ) (command at : ℕ) where
-
   pub neither : (t u : Bool) → cond t (false && u) false ≡ false
   neither true u = refl
   neither false u = refl

@@ -1,28 +1,19 @@
 -- Of specs/AskUnchanged.antt: what rests on its other theorems. Assumes nothing.
-use Rattle.std.specs.Prelude.{◌≡◌, ◌↔◌, ℕ, ◌<◌, Bool, cond, not, get_or, ltb, eqb}
+use Rattle.std.specs.Prelude.{◌≡◌, ◌↔◌, ℕ, Bool, cond, not}
 use Rattle.std.proofs.Math.Path.{refl, sym, ap}
-use Rattle.std.proofs.Common.{◌∙◌, arith, eqb-true, eq-eqb, ltb-true, lt-ltb}
+use Rattle.std.proofs.Common.{◌∙◌, arith}
 use Rattle.std.proofs.Math.Bool.{true, false}
 use mathlib.Core.List.{Memᴰ as In}
-use Rattle.lists.specs.Truth.{both_hold, hold-both, fails, not-decided-twice, test-cases}
+use Rattle.lists.specs.Truth.{fails}
 use Rattle.lists.specs.Walk.{found}
-use Rattle.lists.specs.declared.Found.{Found}
-use Rattle.lists.specs.declared.Found.TheVariants.{At, Nothing}
 use Rattle.records.specs.declared.Open.{Open}
 use Rattle.records.specs.declared.Tables.{Tables}
-use Rattle.records.specs.Change.{LARGEST, changes_of}
-use Rattle.records.specs.Empty.{no_open}
 use Rattle.records.specs.Held.{opens_of}
-use Rattle.numbers.specs.Column.{fid_of}
 use Rattle.soundness.specs.Sound.{sound}
 use Rattle.host.specs.declared.answer.Returned.{Returned}
 use Rattle.host.specs.HostCall.{refused, done, is_unchanged, unchanged_at, ask_unchanged}
-use Rattle.invariants.specs.FoundFacts.{found-hit, found-miss}
-use Rattle.invariants.specs.Numbered.{numbered-same}
-use Rattle.invariants.specs.SoundParts.{sound-says}
 use Rattle.claims.specs.AskUnchanged.{AskReason, UpToDate, ask-open, asked_of, has-fid, up-to-date}
 use Rattle.claims.specs.AskUnchanged.{ask-unsound}
-
 
 module _ (t : Tables) (fid : ℕ) where
   pub by-sound : (b : Bool) → sound t ≡ b → AskReason t fid (cond (not b) (refused 4 t) (unchanged_at t (found (has-fid t fid) (opens_of t)))).number

@@ -1,25 +1,23 @@
 -- Of specs/CataloguePlain.antt: what rests on its other theorems. Assumes nothing.
-use Rattle.std.specs.Prelude.{◌≡◌, ◌⊎◌, ◌↔◌, Bool, true, false, cond, not, ◌&&◌, take, get_or, eqb}
+use Rattle.std.specs.Prelude.{◌≡◌, ◌↔◌, true, false, ◌&&◌, get_or, eqb}
 use Rattle.std.proofs.Math.Path.{refl, ap}
-use Rattle.std.proofs.Common.{sym, ◌∙◌}
+use Rattle.std.proofs.Common.{sym}
 use Rattle.std.proofs.Math.Logic.{inl, inr}
 use Rattle.std.proofs.lemmas.Bool.{false≢true}
-use mathlib.Core.List.Memᴰ.{head as here}
-use mathlib.Core.List.Memᴰ.{tail as there}
-use mathlib.Core.List.{List, [], ◌∷◌, Memᴰ as In}
-use Prim.Native.Nat.{ℕ, zero, suc, ◌+◌, ◌≤◌, ◌<◌}
+use mathlib.Core.List.{List, [], ◌∷◌}
+use Prim.Native.Nat.{ℕ, zero, suc, ◌<◌}
 use Rattle.std.proofs.Math.ListN.{length}
 use Rattle.std.proofs.Math.Dec.{leb}
-use borrow.Author.Tests.{leb-true, le-leb, leb-false, lt-leb, eqb-true, eq-eqb, eqb-false, ne_eqb, not-true, not-false}
+use borrow.Author.Tests.{leb-true, le-leb, leb-false, eqb-true, eq-eqb, not-true, not-false}
 use native.Mathlib.Omega.{arith}
 use Rattle.std.proofs.Math.Decide.{dec_lt}
-use Rattle.lists.specs.Walk.{all, all_tails}
-use Rattle.lists.specs.Truth.{both_hold, hold-both, not-holds, decided, fails, not-decided-twice}
+use Rattle.lists.specs.Walk.{all}
+use Rattle.lists.specs.Truth.{both_hold, hold-both, not-holds, fails, not-decided-twice}
 use Rattle.lists.specs.Members.{all-each, each_all}
-use Rattle.lists.specs.PairLaws.{tails-pairs, pairs-tails, place_in, in_place}
+use Rattle.lists.specs.PairLaws.{tails-pairs, pairs-tails}
 use Rattle.records.specs.Empty.{no_name}
 use Rattle.records.specs.declared.Name.{Name}
-use Rattle.catalogue.specs.Name.{folded, same_name, name_bytes, is_named, not_zero, name_ok, differ, none_doubled, catalogue_ok}
+use Rattle.catalogue.specs.Name.{folded, same_name, name_bytes, is_named, name_ok, differ, none_doubled, catalogue_ok}
 use Rattle.claims.specs.CataloguePlain.{BrokenRule, PlainCatalogue, SameByte, SameName, broken-fails, byte-back, byte-ok, byte-says, bytes_at, computed-name, held, name-broken, not-all, not-pairs, one-fails, plain-name}
 use Rattle.claims.specs.CataloguePlain.{doubled}
 use Rattle.claims.specs.CataloguePlain.{over-16}

@@ -1,22 +1,14 @@
 -- Of specs/EndOne.antt: what rests on its other theorems. Assumes nothing.
-use Rattle.std.specs.Prelude.{◌≡◌, refl, true, false, not, ℕ}
-use mathlib.Core.List.{map, Memᴰ as In}
-use Rattle.std.proofs.lemmas.Bool.{not-true, not-false}
-use Rattle.lists.specs.Truth.{fails, not-decided-twice}
+use Rattle.std.specs.Prelude.{◌≡◌, refl, true}
 use Rattle.records.specs.declared.Tables.{Tables}
-use Rattle.records.specs.Held.{sessions_of, trees_of, opens_of}
-use Rattle.numbers.specs.Column.{uid_of, tid_of, fid_of}
 use Rattle.soundness.specs.Sound.{sound}
 use Rattle.removal.specs.Removal.{remove}
-use Rattle.host.specs.declared.answer.Returned.{Returned}
 use Rattle.host.specs.declared.ending.One.{One}
 use Rattle.host.specs.declared.ending.One.TheVariants.{Session as OneSession, Tree as OneTree, Open as OneOpen}
-use Rattle.host.specs.HostCall.{refused, done, is_there, gone_with, end_one}
-use Rattle.invariants.specs.HostCases.{by-test, end_one-either}
-use Rattle.invariants.specs.Numbered.{contains-in, in-contains}
+use Rattle.host.specs.HostCall.{done, gone_with, end_one}
+use Rattle.invariants.specs.HostCases.{end_one-either}
 use Rattle.claims.specs.HostAnswer.{refused-not-done}
-use Rattle.claims.specs.HostFrames.{Counted, removed-counts}
-use Rattle.claims.specs.RemovalPlain.{Closed, Disconnected, LoggedOff}
+use Rattle.claims.specs.HostFrames.{removed-counts}
 use Rattle.claims.proofs.RemovalPlain.{close-plain, disconnect-plain, logoff-plain}
 use Rattle.claims.specs.EndOne.{OneEnded, WithoutOne}
 

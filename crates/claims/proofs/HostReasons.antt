@@ -1,33 +1,14 @@
 -- Of specs/HostReasons.antt: what rests on its other theorems. Assumes nothing.
-use Rattle.std.specs.Prelude.{◌≡◌, ◌⊎◌, true, false, not, ◌||◌, ℕ, ◌≤◌, ◌<◌, length, leb, ltb, eqb}
-use Rattle.std.proofs.Common.{sym, ap, ◌∙◌, inl, inr, leb-true, leb-false, ltb-true, ltb-false, eqb-true, eq-eqb, ne_eqb, le-leb, lt-ltb, le-ltb, arith}
-use mathlib.Core.List.{List, map, Memᴰ as In}
-use Rattle.std.proofs.lemmas.Bool.{not-true, not-false, eqb-false, lt-leb}
-use Rattle.std.proofs.Math.Decide.{ℕ_discrete}
-use Rattle.lists.specs.Walk.{any}
-use Rattle.lists.specs.Truth.{decided, fails, holds-second, both_hold, hold-both, either-holds, neither-holds, not-decided-twice}
-use Rattle.lists.specs.Members.{any-one, one-any}
-use Rattle.records.specs.declared.Session.{Session}
-use Rattle.records.specs.declared.Tree.{Tree}
-use Rattle.records.specs.declared.Open.{Open}
+use Rattle.std.specs.Prelude.{◌≡◌, true, not, ℕ}
+use mathlib.Core.List.{List}
+use Rattle.std.proofs.lemmas.Bool.{not-true, not-false}
 use Rattle.records.specs.declared.Name.{Name}
 use Rattle.records.specs.declared.Tables.{Tables}
-use Rattle.records.specs.Held.{sessions_of, trees_of, opens_of}
-use Rattle.numbers.specs.Number.{contains}
-use Rattle.numbers.specs.Column.{uid_of, tid_of}
 use Rattle.catalogue.specs.Name.{catalogue_ok}
-use Rattle.soundness.specs.Sound.{sound, holds_open}
-use Rattle.host.specs.HostCall.{refused, done, add_session, add_tree, new_open, add_open, is_of, load_number, load_file, drop_connection, set_catalogue}
-use Rattle.soundness.specs.Lookup.{is_tree}
-use Rattle.host.specs.declared.answer.Returned.{Returned}
-use Rattle.invariants.specs.Numbered.{named-one, one-named, numbered-same}
-use Rattle.invariants.specs.SoundParts.{sound-says}
-use Rattle.invariants.specs.RuleLaws.{holds-says}
-use Rattle.claims.specs.SoundPlain.{holds-ok, permits-says}
+use Rattle.soundness.specs.Sound.{sound}
+use Rattle.host.specs.HostCall.{refused, done, set_catalogue}
 use Rattle.invariants.specs.HostCases.{by-test}
-use Rattle.claims.specs.CataloguePlain.{PlainCatalogue, BrokenRule}
 use Rattle.claims.proofs.CataloguePlain.{catalogue-says, catalogue-ok, rule-broken, rule-fails}
-use Rattle.claims.specs.HostAnswer.{load_file-number}
 use Rattle.claims.specs.HostReasons.{SetReason}
 use Rattle.claims.specs.HostReasons.{set-broken}
 use Rattle.claims.specs.HostReasons.{set-done}

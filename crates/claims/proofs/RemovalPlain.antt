@@ -1,30 +1,25 @@
 -- Of specs/RemovalPlain.antt: what rests on its other theorems. Assumes nothing.
-use Rattle.std.specs.Prelude.{◌≡◌, refl, Bool, true, false, ◌&&◌, ℕ, eqb}
+use Rattle.std.specs.Prelude.{◌≡◌, refl, true, ℕ, eqb}
 use Rattle.std.proofs.Common.{sym, ◌∙◌}
 use Rattle.std.proofs.Math.Path.{ap}
-use Rattle.std.proofs.Math.Bool.{not, and-true}
-use mathlib.Core.List.{List, map, Memᴰ as In}
-use Rattle.lists.specs.Walk.{any, keep}
-use Rattle.lists.specs.Truth.{same_truth}
-use Rattle.lists.specs.Members.{all-each, any-one, kept-was, was-kept, keep_same}
+use Rattle.std.proofs.Math.Bool.{not}
+use mathlib.Core.List.{List, map}
+use Rattle.lists.specs.Walk.{keep}
+use Rattle.lists.specs.Members.{keep_same}
 use Rattle.records.specs.declared.Session.{Session}
 use Rattle.records.specs.declared.Tree.{Tree}
 use Rattle.records.specs.declared.Open.{Open}
 use Rattle.records.specs.declared.Tables.{Tables}
-use Rattle.records.specs.Held.{sessions_of, trees_of, opens_of, locks_of, with_sessions, with_trees, with_opens, with_locks}
+use Rattle.records.specs.Held.{sessions_of, trees_of, opens_of, locks_of}
 use Rattle.numbers.specs.Number.{contains}
 use Rattle.numbers.specs.Column.{uid_of, tid_of, fid_of}
-use Rattle.soundness.specs.Sound.{sound, holds_open, open_ok}
-use Rattle.removal.specs.Removal.{session_named, tree_named, open_named, session_stays, tree_stays, open_stays, lock_stays, sweep_sessions, sweep_trees, sweep_opens, sweep_locks, remove}
-use Rattle.removal.specs.declared.Gone.{Gone}
+use Rattle.soundness.specs.Sound.{sound}
+use Rattle.removal.specs.Removal.{session_named, tree_named, open_named, session_stays, tree_stays, open_stays, lock_stays, remove}
 use Rattle.removal.specs.declared.Gone.TheVariants.{Connection, Session as UserGone, Tree as TreeGone, Open as OpenGone, Process}
-use Rattle.invariants.specs.Numbered.{named-one, one-named, numbered-same}
-use Rattle.invariants.specs.SoundParts.{Sound, sound-says}
-use Rattle.invariants.specs.RuleLaws.{holds-says, open-says}
-use Rattle.invariants.specs.RemovalSound.{sessions_left, trees_left, opens_left, locks_left, remove-left, left-sessions, left-trees, left-opens, left-locks}
+use Rattle.invariants.specs.SoundParts.{sound-says}
+use Rattle.invariants.specs.RemovalSound.{sessions_left, trees_left, opens_left}
 use Rattle.claims.specs.NothingNamed.{session-exists, tree-exists, open-exists, all-sessions-left, all-trees-left, none-false}
 use Rattle.claims.specs.RemovalPlain.{Closed, ConnectionGone, Disconnected, Exited, LoggedOff, after-locks, after-opens, after-sessions, after-trees, catalogue-stands, contains-kept, files-stand, locks-follow, open-follows, opens-not-named, trees-not-named}
-
 
 module _ (t : Tables) (e : sound t ≡ true) where
   -- "CLOSE removes the open and its locks"

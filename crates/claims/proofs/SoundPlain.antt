@@ -1,39 +1,26 @@
 -- Of specs/SoundPlain.antt: what rests on its other theorems. Assumes nothing.
-use Rattle.std.specs.Prelude.{◌≡◌, ◌↔◌, Bool, true, false, not, ◌&&◌, ℕ, ◌+◌, ◌^◌, ◌≤◌, ◌<◌, get_or, leb, ltb, eqb}
-use Rattle.std.proofs.Common.{sym, ap, ◌∙◌, inl, inr}
-use mathlib.Core.List.Memᴰ.{cases_cons as first-or-later}
-use mathlib.Core.List.{List, [], ◌∷◌, map, Memᴰ as In}
+use Rattle.std.specs.Prelude.{◌≡◌, ◌↔◌, true, ℕ, ◌<◌, leb}
+use mathlib.Core.List.{map, Memᴰ as In}
 use Rattle.std.proofs.Math.ListN.{length}
-use borrow.Author.Tests.{leb-true, le-leb, leb-false, eqb-true, eq-eqb, ltb-false, le-ltb, not-true, not-false}
+use borrow.Author.Tests.{leb-true, le-leb}
 use native.Mathlib.Omega.{arith}
-use Rattle.std.proofs.Math.Decide.{dec_lt}
-use Rattle.lists.specs.Walk.{all_tails}
-use Rattle.lists.specs.Truth.{both_hold, hold-both, either-holds, holds-second, not-holds, decided, fails, not-decided-twice}
-use Rattle.lists.specs.Members.{all-each, each_all, any-one, one-any}
-use Rattle.lists.specs.PairLaws.{tails-pairs, pairs-tails, place_in}
-use Rattle.locks.specs.Range.{Overlap, overlaps, overlap-iff, overlaps-sym, passes_end}
+use Rattle.lists.specs.Truth.{both_hold, hold-both}
+use Rattle.lists.specs.Members.{all-each, each_all}
+use Rattle.lists.specs.PairLaws.{place_in}
 use Rattle.records.specs.Change.{LARGEST, changes_of}
 use Rattle.records.specs.Empty.{no_lock}
-use Rattle.records.specs.declared.Session.{Session}
-use Rattle.records.specs.declared.Tree.{Tree}
 use Rattle.records.specs.declared.Open.{Open}
-use Rattle.records.specs.declared.Lock.{Lock}
-use Rattle.records.specs.declared.File.{File}
 use Rattle.records.specs.declared.Tables.{Tables}
 use Rattle.records.specs.Held.{sessions_of, trees_of, opens_of, locks_of}
-use Rattle.numbers.specs.Number.{contains, numbered, number_ok}
+use Rattle.numbers.specs.Number.{contains}
 use Rattle.numbers.specs.Column.{uid_of, tid_of, fid_of}
 use Rattle.soundness.specs.File.{file_of}
-use Rattle.soundness.specs.Sound.{sharing_ok, sound, file_ok, tree_ok, permits, holds_open, open_ok, lock_ok, agree, agree_all, seen_ok}
-use Rattle.invariants.specs.Numbered.{number-says, named-one, one-named}
-use Rattle.soundness.specs.SoundLaws.{Room}
+use Rattle.soundness.specs.Sound.{sound, file_ok, tree_ok, open_ok, lock_ok, seen_ok}
+use Rattle.invariants.specs.Numbered.{named-one, one-named}
 use Rattle.invariants.specs.SoundParts.{Sound, sound-says, sound-ok}
-use Rattle.invariants.specs.RuleLaws.{TreeOk, tree-says, tree-ok, holds-says, OpenOk, open-says, open-ok, LockOk, lock-says, lock-ok, file_of-here, file_of-other}
-use Rattle.claims.specs.Distinct.{Numbers, numbered-says, numbered-ok}
-use Rattle.claims.specs.CataloguePlain.{PlainCatalogue}
+use Rattle.claims.specs.Distinct.{numbered-says, numbered-ok}
 use Rattle.claims.proofs.CataloguePlain.{catalogue-says, catalogue-ok}
 use Rattle.claims.specs.SoundPlain.{LocksOverlap, PlainSound, computed-fids, computed-lock, computed-open, computed-tree, ends-says, lock_at, one-file-ok, pairs-ok, pairs-says, plain-lock, plain-open, plain-open-session, plain-open-tree, plain-tree, plain-tree-session, sharing-says}
-
 
 module _ (t : Tables) (s : Sound t) where
   pub plain : PlainSound t

@@ -1,35 +1,19 @@
 -- Of specs/StatusList.antt: what rests on its other theorems. Assumes nothing.
-use Rattle.std.specs.Prelude.{◌≡◌, refl, ◌↔◌, ℕ, ◌+◌, ◌*◌, ◌/◌, ◌%◌, ◌<◌, Bool, true, false, cond, not, ◌&&◌, eqb, ltb, get_or}
-use Rattle.std.proofs.Common.{sym, ap, ◌∙◌, arith, eqb-true, eq-eqb, ne_eqb, ltb-true}
+use Rattle.std.specs.Prelude.{◌≡◌, refl, ◌↔◌, ℕ, true, not, ◌&&◌, eqb, ltb}
+use Rattle.std.proofs.Common.{sym, ap, ◌∙◌, arith, eqb-true, eq-eqb, ltb-true}
 use mathlib.Core.List.Memᴰ.{head as first}
 use mathlib.Core.List.Memᴰ.{tail as later}
-use mathlib.Core.List.{List, [], ◌∷◌, map, Memᴰ as In}
-use Rattle.std.proofs.Math.Option.{Option, none, some}
+use mathlib.Core.List.{◌∷◌}
 use Rattle.std.proofs.lemmas.Bool.{eqb-false, not-true}
 use Rattle.lists.specs.Walk.{all}
-use Rattle.lists.specs.Truth.{both_hold, hold-both, not-decided-twice, test-cases}
+use Rattle.lists.specs.Truth.{both_hold, not-decided-twice, test-cases}
 use Rattle.lists.specs.Members.{all-each}
-use Rattle.lists.specs.PairLaws.{place_in}
-use Rattle.records.specs.Empty.{no_lock}
-use Rattle.records.specs.declared.Tables.{Tables}
-use Rattle.locks.specs.declared.types.Holder.{Holder}
-use Rattle.chain.specs.Layout.{header_command, FIRST}
-use Rattle.chain.specs.Chain.{blocks}
-use Rattle.chain.specs.declared.block.Block.{Block}
-use Rattle.message.specs.Caller.{caller_of}
-use Rattle.message.specs.declared.caller.Caller.{Caller}
-use Rattle.message.specs.Refusal.{status, forms, success, forms_of, status_of, nt_of, holder_of}
+use Rattle.message.specs.Refusal.{status, success, forms_of, status_of, nt_of}
 use Rattle.message.specs.declared.refusal.Status.{Status}
 use Rattle.message.specs.declared.refusal.Forms.{Forms}
 use Rattle.message.specs.declared.refusal.HeldBy.{HeldBy}
-use Rattle.message.specs.declared.refusal.HeldBy.TheVariants.{Nobody}
 use Rattle.message.specs.declared.refusal.Refusal.{Refusal}
-use Rattle.message.specs.declared.refusal.Refusal.TheVariants.{NotServed, NotSentence, NoSession, NoTree, NoOpen, NoAccess, LockType, NoSuchLock, PassesEnd, LockNotGranted, FileLockConflict, NoRecord, NoSpace, OpenMode, BadAccess, NoSuchFile, BadShare, NoFids}
-use Rattle.message.specs.Reply.{smb_number}
-use Rattle.message.specs.Command.{Given, refused, done, perform}
-use Rattle.message.specs.JustOpened.{NOBODY, body_meant}
-use Rattle.message.specs.Message.{area_of, data_of, Ran, after, after_given, run, served, only_status, run_chain, answered}
-use Rattle.invariants.specs.GivenCases.{cond-case}
+use Rattle.message.specs.declared.refusal.Refusal.TheVariants.{LockNotGranted}
 use Rattle.claims.specs.StatusList.{Ended, FormsSay, FoundIn, RowSays, alike_same, as_one, as_one_lem, found_in, listed, lock-codes-read, pair_test, pairs-tested, read_nt, row_test, rows-tested, same-status, same_status, some_holder, status-same, status_list, zero-read}
 use Rattle.claims.specs.StatusList.{a-refusal}
 use Rattle.claims.specs.StatusList.{all_done}

@@ -1,14 +1,9 @@
 -- Of specs/StreamBack.antt: what rests on its other theorems. Assumes nothing.
-use Rattle.std.specs.Prelude.{◌≡◌, refl, ℕ, suc, ◌+◌, ◌≤◌, length, take, drop}
-use Rattle.std.proofs.Common.{sym, ap, ◌∙◌, length-append, drop-drop, arith, le-ltb, le-leb}
-use mathlib.Core.List.{List, [], ◌∷◌, ◌++◌, append-nil, flatten, map}
-use Rattle.std.proofs.Math.Seq.{take-append_seam, drop-append_seam}
-use Rattle.lists.specs.Put.{put}
-use Rattle.stream.specs.Stream.{header_of, begins, whole, first_of, first, with_message, carried_by, carried_within, carried, begun}
+use Rattle.std.specs.Prelude.{◌≡◌, ℕ, length}
+use mathlib.Core.List.{List, [], flatten, map}
+use Rattle.stream.specs.Stream.{begun}
 use Rattle.stream.specs.State.{none_begun}
-use Rattle.stream.specs.Writer.{written_of, framed, write}
-use Rattle.stream.specs.BeginsLaws.{header-begins}
-use Rattle.claims.specs.StreamLaws.{carried_step}
+use Rattle.stream.specs.Writer.{framed}
 use Rattle.claims.specs.StreamCut.{Same, drained_all, AllBytes}
 use Rattle.claims.proofs.StreamCut.{reader-in-one}
 use Rattle.claims.specs.StreamBack.{AllShort, carried-back}

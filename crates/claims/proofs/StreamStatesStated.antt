@@ -1,22 +1,16 @@
 -- Of specs/StreamStates.antt: what rests on its other theorems. Assumes nothing.
-use Rattle.std.specs.Prelude.{◌≡◌, refl, ℕ, zero, suc, ◌/◌, ◌%◌, ◌≤◌, ◌<◌, true, eqb, ltb, length, take, get_or, replicate}
-use Rattle.std.proofs.Common.{sym, ap, ◌∙◌, arith, eqb-true, ltb-true, ltb-false}
-use mathlib.Core.List.{List, [], ◌∷◌, ◌++◌, append-nil, flatten}
-use Rattle.std.proofs.lemmas.List.{length-replicate, get_or-replicate}
-use Rattle.std.proofs.Math.ListN.{get_or-eq_default}
+use Rattle.std.specs.Prelude.{◌≡◌, refl, ℕ, ◌≤◌, true, eqb}
+use Rattle.std.proofs.Common.{eqb-true}
+use mathlib.Core.List.{List, ◌++◌}
 use Rattle.std.proofs.lemmas.Bool.{eqb-false}
 use Rattle.lists.specs.Truth.{test-cases, fails}
 use Rattle.stream.specs.declared.state.State.{State}
 use Rattle.stream.specs.declared.reader.Event.TheVariants.{NoMessage}
-use Rattle.stream.specs.Stream.{header_of, length_of, known, judge_length, judge, begins_by, begins, First, wanted, stops, whole, first_of, first, carried_by, carried_within, carried, stopped}
-use Rattle.stream.specs.State.{state_of, begun_bytes, pending, is_left}
-use Rattle.stream.specs.Reader.{step_of, refused, handed, read_by, read}
-use Rattle.stream.specs.StateLaws.{header-says, is-left-stopped, is-left-header, is-left-message}
+use Rattle.stream.specs.Stream.{first}
+use Rattle.stream.specs.State.{pending, is_left}
+use Rattle.stream.specs.Reader.{step_of, refused, read}
+use Rattle.stream.specs.StateLaws.{is-left-stopped}
 use Rattle.stream.specs.ReaderLaws.{read-not-left, read-stopped, read-going}
-use Rattle.claims.specs.StreamLaws.{carried_step}
-use Rattle.claims.specs.StreamKept.{Bytes, bytes-header, bytes_take, bytes-append, pending-header, pending-message, going-state, pending-wanted}
-use Rattle.claims.proofs.StreamCut.{reader-in-one}
-use Rattle.claims.specs.StreamCut.{no_pieces, one_more, stopped-words, stops-number}
 use Rattle.claims.proofs.StreamStates.{left-passes, passes-left}
 use Rattle.claims.specs.StreamStates.{LeftBySome, number_by}
 

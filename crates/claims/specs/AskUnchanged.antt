@@ -5,7 +5,7 @@ use Rattle.std.proofs.Math.Path.{refl, sym, ap}
 use Rattle.std.proofs.Common.{◌∙◌, arith, eqb-true, eq-eqb, ltb-true, lt-ltb}
 use Rattle.std.proofs.Math.Bool.{true, false}
 use mathlib.Core.List.{Memᴰ as In}
-use Rattle.lists.specs.Truth.{both_hold, hold-both, fails, not-decided-twice, test-cases}
+use Rattle.lists.specs.Truth.{both_hold, hold-both, not-decided-twice, test-cases}
 use Rattle.lists.specs.Walk.{found}
 use Rattle.lists.specs.declared.Found.{Found}
 use Rattle.lists.specs.declared.Found.TheVariants.{At, Nothing}

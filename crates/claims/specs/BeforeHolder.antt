@@ -1,14 +1,12 @@
 -- Document 02, CR 2: "The reply bytes do not change." What a message gives, the holder left out, is what it gives where a conflict is yes or no and Status has one form
 -- (YesOrNo.antt): number, reply, tables and files, of every message without CR 7's bit; and of every message at all but the reply's Status and that bit. Assumes nothing.
-use Rattle.std.specs.Prelude.{◌≡◌, ℕ, zero, suc, ◌+◌, ◌*◌, ◌/◌, ◌%◌, ◌<◌, Bool, true, false, cond, not, ◌||◌, length, drop, get_or, set, leb, ltb, eqb}
+use Rattle.std.specs.Prelude.{◌≡◌, ℕ, zero, suc, ◌+◌, ◌<◌, Bool, true, false, cond, ◌||◌, length, get_or, set, leb, eqb}
 use Rattle.std.proofs.Math.Path.{refl}
-use Rattle.std.proofs.Common.{◌∙◌, ap, arith}
+use Rattle.std.proofs.Common.{ap, arith}
 use mathlib.Core.List.{List, [], ◌∷◌, ◌++◌}
-use Rattle.std.proofs.Math.Option.{Option, none, some}
 use Rattle.std.proofs.lemmas.Bool.{eqb-false}
 use Rattle.lists.specs.Walk.{any, found_from, found}
 use Rattle.lists.specs.Put.{put}
-use Rattle.wire.specs.LittleEndian.{byte_at}
 use Rattle.lists.specs.declared.Found.{Found}
 use Rattle.lists.specs.declared.Found.TheVariants.{At, Nothing}
 use Rattle.records.specs.declared.Lock.{Lock}
@@ -17,36 +15,21 @@ use Rattle.records.specs.declared.Tables.{Tables}
 use Rattle.records.specs.Empty.{no_open}
 use Rattle.records.specs.Held.{sessions_of, trees_of, opens_of, locks_of, with_locks}
 use Rattle.locks.specs.Answer.{answers}
-use Rattle.locks.specs.Wire.{range_size, small_form}
-use Rattle.locks.specs.Request.{ranges_of, ask_of, lock_of, release_all, after_walk, grant_all, Result, after_grants, range_passes, after_releases, request, settle, locking}
+use Rattle.locks.specs.Request.{ask_of, lock_of, after_walk, grant_all, Result, after_grants, settle}
 use Rattle.locks.specs.declared.types.Ask.{Ask}
 use Rattle.locks.specs.declared.types.LockRange.{LockRange}
-use Rattle.locks.specs.declared.types.Request.{Request}
-use Rattle.locks.specs.declared.types.Purpose.TheVariants.{Grant, Read as Reading, Write as Writing}
+use Rattle.locks.specs.declared.types.Purpose.TheVariants.{Grant, Read as Reading}
 use Rattle.soundness.specs.File.{file_of}
 use Rattle.soundness.specs.Lookup.{is_tree}
-use Rattle.soundness.specs.Sound.{sound}
-use Rattle.chain.specs.Layout.{header_command, FIRST}
-use Rattle.chain.specs.Header.{dropped}
-use Rattle.chain.specs.Chain.{blocks}
-use Rattle.chain.specs.declared.block.LockingFields.{LockingFields}
 use Rattle.chain.specs.declared.block.ReadFields.{ReadFields}
-use Rattle.chain.specs.declared.block.WriteFields.{WriteFields}
-use Rattle.chain.specs.declared.block.RangeFields.{RangeFields}
-use Rattle.chain.specs.declared.block.Body.{Body}
-use Rattle.chain.specs.declared.block.Body.TheVariants.{Locking as LockingBody, Read as ReadBody, Write as WriteBody, Close, Logoff, TreeDisconnect, ProcessExit, CoreRead as CoreReadBody, CoreWrite as CoreWriteBody, LockByteRange, UnlockByteRange, Open as OpenBody}
 use Rattle.chain.specs.declared.block.Block.{Block}
-use Rattle.message.specs.Caller.{caller_of}
 use Rattle.message.specs.declared.caller.Caller.{Caller}
-use Rattle.message.specs.Contents.{size_of}
 use Rattle.message.specs.Refusal.{status, forms_of}
-use Rattle.message.specs.Command.{plain, Given, refused, done, is_session, with_session, with_tree, is_open, open_at, with_open, served_type, request_of, with_lock_list, locking_end, locking_after, do_locking, ask_by, unless_barred, barring, do_read, writing, ends_past, do_write, as_core, range_by, one_range, do_range, between_sizes, do_set_size, do_core_write, perform}
-use Rattle.message.specs.JustOpened.{NOBODY, opened_by, body_meant}
-use Rattle.message.specs.Message.{area_of, data_of, link_to, Ran, after, after_given, run, served, only_status, run_chain, answered, reply_of, Taken, not_taken, replied, take-message}
-use Rattle.message.specs.Reply.{two, four, nt_bit, status_number, reply_header, reply_block, reply_size}
-use Rattle.message.specs.declared.refusal.Forms.{Forms}
-use Rattle.claims.specs.StatusList.{smb-bytes, answered-ended}
-use Rattle.claims.specs.YesOrNo.{Gave, refused_with, onward, plainly, open_in, opened, grants_before, after_releases_before, request_before, locking_before, unless_conflict, read_before, writing_before, write_before, core_gave, range_before, set_size_before, core_write_before, perform_before, RanBefore, refused_before, in_front, after_gave, run_before, chain_before, answered_before, TakenBefore, header01, untaken, replied_before, take_before}
+use Rattle.message.specs.Command.{plain, Given, refused, done, is_session, with_session, with_tree, is_open, open_at, with_open, with_lock_list, locking_end, locking_after, ask_by, unless_barred, barring, do_read, writing, as_core}
+use Rattle.message.specs.JustOpened.{opened_by}
+use Rattle.message.specs.Message.{link_to, Ran, after, after_given, reply_of, Taken, replied}
+use Rattle.message.specs.Reply.{two, four, reply_header, reply_block, reply_size}
+use Rattle.claims.specs.YesOrNo.{Gave, refused_with, onward, plainly, open_in, opened, grants_before, unless_conflict, read_before, writing_before, core_gave, RanBefore, refused_before, in_front, after_gave, TakenBefore, header01, replied_before}
 
 -- what the call gives back, the holder left out
 unfoldable pub without_holder : Taken → TakenBefore
@@ -160,7 +143,6 @@ core-before x (refused why) e = ap core_gave e
 core-before x (done t memory said) e = ap core_gave e
 
 module _ (c : Caller) (t : Tables) (memory : List ℕ) where
-
   pub read-before : (f : ReadFields) → read_before c t memory f ≡ plainly (do_read c t memory f)
   unfolding read_before do_read plainly onward forms_of
   read-before f =

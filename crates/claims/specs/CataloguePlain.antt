@@ -1,6 +1,6 @@
 -- The catalogue's rules in plain words (document 02, CR 6: "up to 16 names of 1 to 12 bytes, each with a file number, compared with ASCII letters
 -- caseless"), that `catalogue_ok` says just that, and which rule is broken where it fails. Assumes nothing.
-use Rattle.std.specs.Prelude.{◌≡◌, ◌⊎◌, ◌↔◌, Bool, true, false, cond, not, ◌&&◌, take, get_or, eqb}
+use Rattle.std.specs.Prelude.{◌≡◌, ◌⊎◌, Bool, true, false, ◌&&◌, take, get_or, eqb}
 use Rattle.std.proofs.Math.Path.{refl, ap}
 use Rattle.std.proofs.Common.{sym, ◌∙◌}
 use Rattle.std.proofs.Math.Logic.{inl, inr}
@@ -8,19 +8,19 @@ use Rattle.std.proofs.lemmas.Bool.{false≢true}
 use mathlib.Core.List.Memᴰ.{head as here}
 use mathlib.Core.List.Memᴰ.{tail as there}
 use mathlib.Core.List.{List, [], ◌∷◌, Memᴰ as In}
-use Prim.Native.Nat.{ℕ, zero, suc, ◌+◌, ◌≤◌, ◌<◌}
+use Prim.Native.Nat.{ℕ, suc, ◌+◌, ◌≤◌, ◌<◌}
 use Rattle.std.proofs.Math.ListN.{length}
 use Rattle.std.proofs.Math.Dec.{leb}
-use borrow.Author.Tests.{leb-true, le-leb, leb-false, lt-leb, eqb-true, eq-eqb, eqb-false, ne_eqb, not-true, not-false}
+use borrow.Author.Tests.{leb-true, le-leb, leb-false, lt-leb, eqb-true, eqb-false, ne_eqb, not-true, not-false}
 use native.Mathlib.Omega.{arith}
 use Rattle.std.proofs.Math.Decide.{dec_lt}
 use Rattle.lists.specs.Walk.{all, all_tails}
-use Rattle.lists.specs.Truth.{both_hold, hold-both, not-holds, decided, fails, not-decided-twice}
+use Rattle.lists.specs.Truth.{both_hold, hold-both, not-holds}
 use Rattle.lists.specs.Members.{all-each, each_all}
-use Rattle.lists.specs.PairLaws.{tails-pairs, pairs-tails, place_in, in_place}
+use Rattle.lists.specs.PairLaws.{in_place}
 use Rattle.records.specs.Empty.{no_name}
 use Rattle.records.specs.declared.Name.{Name}
-use Rattle.catalogue.specs.Name.{folded, same_name, name_bytes, is_named, not_zero, name_ok, differ, none_doubled, catalogue_ok}
+use Rattle.catalogue.specs.Name.{folded, name_bytes, not_zero, name_ok}
 
 -- ---- the plain words
 

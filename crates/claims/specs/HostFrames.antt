@@ -15,11 +15,10 @@ use Rattle.records.specs.Held.{sessions_of, trees_of, opens_of, locks_of, with_s
 use Rattle.numbers.specs.Column.{uid_of, tid_of, fid_of}
 use Rattle.removal.specs.Removal.{remove}
 use Rattle.removal.specs.declared.Gone.{Gone}
-use Rattle.removal.specs.declared.Gone.TheVariants.{Connection}
-use Rattle.host.specs.HostCall.{refused, done, new_session, add_session, new_tree, add_tree, new_open, add_open, load_file, load_memory, drop_connection, set_catalogue}
+use Rattle.host.specs.HostCall.{refused, done, new_session, add_session, new_tree, add_tree, new_open, add_open, load_file, load_memory, set_catalogue}
 use Rattle.host.specs.declared.answer.Returned.{Returned}
 use Rattle.invariants.specs.Shaped.{Shaped, sessions-with, trees-with, opens-with}
-use Rattle.invariants.specs.HostCases.{add_session-either, add_tree-either, add_open-either, load_file-either, drop_connection-either, set_catalogue-either}
+use Rattle.invariants.specs.HostCases.{add_session-either, add_tree-either, add_open-either, load_file-either, set_catalogue-either}
 use Rattle.invariants.specs.RemovalSound.{left, remove-left, left-sessions, left-trees, left-opens, left-locks}
 use Rattle.claims.specs.HostAnswer.{NewNumber, smallest-new, refused-not-done}
 use Rattle.claims.specs.LoadBytes.{Loaded, load_memory-done, load_file-size, load_file-changes, load_file-others, load_file-records}

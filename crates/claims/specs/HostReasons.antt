@@ -17,9 +17,8 @@ use Rattle.records.specs.declared.Tables.{Tables}
 use Rattle.records.specs.Held.{sessions_of, trees_of, opens_of}
 use Rattle.numbers.specs.Number.{contains}
 use Rattle.numbers.specs.Column.{uid_of, tid_of}
-use Rattle.catalogue.specs.Name.{catalogue_ok}
 use Rattle.soundness.specs.Sound.{sound, holds_open}
-use Rattle.host.specs.HostCall.{refused, done, add_session, add_tree, new_open, add_open, is_of, load_number, load_file, drop_connection, set_catalogue}
+use Rattle.host.specs.HostCall.{refused, done, add_session, add_tree, new_open, add_open, is_of, load_number, load_file, drop_connection}
 use Rattle.soundness.specs.Lookup.{is_tree}
 use Rattle.host.specs.declared.answer.Returned.{Returned}
 use Rattle.invariants.specs.Numbered.{named-one, one-named, numbered-same}

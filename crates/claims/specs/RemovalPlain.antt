@@ -16,15 +16,14 @@ use Rattle.records.specs.declared.Tables.{Tables}
 use Rattle.records.specs.Held.{sessions_of, trees_of, opens_of, locks_of, with_sessions, with_trees, with_opens, with_locks}
 use Rattle.numbers.specs.Number.{contains}
 use Rattle.numbers.specs.Column.{uid_of, tid_of, fid_of}
-use Rattle.soundness.specs.Sound.{sound, holds_open, open_ok}
-use Rattle.removal.specs.Removal.{session_named, tree_named, open_named, session_stays, tree_stays, open_stays, lock_stays, sweep_sessions, sweep_trees, sweep_opens, sweep_locks, remove}
+use Rattle.soundness.specs.Sound.{holds_open, open_ok}
+use Rattle.removal.specs.Removal.{session_named, tree_named, open_named, tree_stays, open_stays, lock_stays, sweep_sessions, sweep_trees, sweep_opens, sweep_locks, remove}
 use Rattle.removal.specs.declared.Gone.{Gone}
-use Rattle.removal.specs.declared.Gone.TheVariants.{Connection, Session as UserGone, Tree as TreeGone, Open as OpenGone, Process}
 use Rattle.invariants.specs.Numbered.{named-one, one-named, numbered-same}
-use Rattle.invariants.specs.SoundParts.{Sound, sound-says}
+use Rattle.invariants.specs.SoundParts.{Sound}
 use Rattle.invariants.specs.RuleLaws.{holds-says, open-says}
 use Rattle.invariants.specs.RemovalSound.{sessions_left, trees_left, opens_left, locks_left, remove-left, left-sessions, left-trees, left-opens, left-locks}
-use Rattle.claims.specs.NothingNamed.{session-exists, tree-exists, open-exists, all-sessions-left, all-trees-left, none-false}
+use Rattle.claims.specs.NothingNamed.{session-exists, tree-exists, all-sessions-left, all-trees-left}
 
 -- ---- the records that the tables hold after a removal
 

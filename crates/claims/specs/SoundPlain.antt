@@ -1,6 +1,6 @@
 -- Sound tables in plain words: document 01, "Tables and room", second paragraph, and document 02, CR 6 ("Soundness gains sharing codes and the
 -- catalogue's rules") and CR 8 ("By soundness an open's remembered number doesn't exceed its file's"), clause by clause, and that `sound` says just that. Assumes nothing.
-use Rattle.std.specs.Prelude.{◌≡◌, ◌↔◌, Bool, true, false, not, ◌&&◌, ℕ, ◌+◌, ◌^◌, ◌≤◌, ◌<◌, get_or, leb, ltb, eqb}
+use Rattle.std.specs.Prelude.{◌≡◌, Bool, true, false, not, ◌&&◌, ℕ, ◌+◌, ◌^◌, ◌≤◌, ◌<◌, get_or, leb, ltb, eqb}
 use Rattle.std.proofs.Common.{sym, ap, ◌∙◌, inl, inr}
 use mathlib.Core.List.Memᴰ.{cases_cons as first-or-later}
 use mathlib.Core.List.{List, [], ◌∷◌, map, Memᴰ as In}
@@ -10,10 +10,10 @@ use native.Mathlib.Omega.{arith}
 use Rattle.std.proofs.Math.Decide.{dec_lt}
 use Rattle.lists.specs.Walk.{all_tails}
 use Rattle.lists.specs.Truth.{both_hold, hold-both, either-holds, holds-second, not-holds, decided, fails, not-decided-twice}
-use Rattle.lists.specs.Members.{all-each, each_all, any-one, one-any}
+use Rattle.lists.specs.Members.{all-each, any-one, one-any}
 use Rattle.lists.specs.PairLaws.{tails-pairs, pairs-tails, place_in}
 use Rattle.locks.specs.Range.{Overlap, overlaps, overlap-iff, overlaps-sym, passes_end}
-use Rattle.records.specs.Change.{LARGEST, changes_of}
+use Rattle.records.specs.Change.{changes_of}
 use Rattle.records.specs.Empty.{no_lock}
 use Rattle.records.specs.declared.Session.{Session}
 use Rattle.records.specs.declared.Tree.{Tree}
@@ -25,12 +25,12 @@ use Rattle.records.specs.Held.{sessions_of, trees_of, opens_of, locks_of}
 use Rattle.numbers.specs.Number.{contains, numbered, number_ok}
 use Rattle.numbers.specs.Column.{uid_of, tid_of, fid_of}
 use Rattle.soundness.specs.File.{file_of}
-use Rattle.soundness.specs.Sound.{sharing_ok, sound, file_ok, tree_ok, permits, holds_open, open_ok, lock_ok, agree, agree_all, seen_ok}
+use Rattle.soundness.specs.Sound.{sharing_ok, tree_ok, permits, holds_open, open_ok, lock_ok, agree, agree_all}
 use Rattle.invariants.specs.Numbered.{number-says, named-one, one-named}
 use Rattle.soundness.specs.SoundLaws.{Room}
-use Rattle.invariants.specs.SoundParts.{Sound, sound-says, sound-ok}
+use Rattle.invariants.specs.SoundParts.{Sound}
 use Rattle.invariants.specs.RuleLaws.{TreeOk, tree-says, tree-ok, holds-says, OpenOk, open-says, open-ok, LockOk, lock-says, lock-ok, file_of-here, file_of-other}
-use Rattle.claims.specs.Distinct.{Numbers, numbered-says, numbered-ok}
+use Rattle.claims.specs.Distinct.{Numbers, numbered-ok}
 use Rattle.claims.specs.CataloguePlain.{PlainCatalogue}
 
 -- ---- the plain words

@@ -1,15 +1,14 @@
 -- The list of refusals in both forms, as a whole (document 02, CR 7): "A reader of either form must find the same refusal, the two lock codes being one in the old form: one
 -- proof over the whole list." Assumes nothing.
-use Rattle.std.specs.Prelude.{◌≡◌, refl, ◌↔◌, ℕ, ◌+◌, ◌*◌, ◌/◌, ◌%◌, ◌<◌, Bool, true, false, cond, not, ◌&&◌, eqb, ltb, get_or}
-use Rattle.std.proofs.Common.{sym, ap, ◌∙◌, arith, eqb-true, eq-eqb, ne_eqb, ltb-true}
+use Rattle.std.specs.Prelude.{◌≡◌, refl, ℕ, ◌+◌, ◌*◌, ◌/◌, ◌%◌, ◌<◌, Bool, true, false, cond, not, ◌&&◌, eqb, ltb, get_or}
+use Rattle.std.proofs.Common.{sym, ap, ◌∙◌, arith, eqb-true, eq-eqb, ne_eqb}
 use mathlib.Core.List.Memᴰ.{head as first}
 use mathlib.Core.List.Memᴰ.{tail as later}
 use mathlib.Core.List.{List, [], ◌∷◌, map, Memᴰ as In}
 use Rattle.std.proofs.Math.Option.{Option, none, some}
-use Rattle.std.proofs.lemmas.Bool.{eqb-false, not-true}
+use Rattle.std.proofs.lemmas.Bool.{not-true}
 use Rattle.lists.specs.Walk.{all}
-use Rattle.lists.specs.Truth.{both_hold, hold-both, not-decided-twice, test-cases}
-use Rattle.lists.specs.Members.{all-each}
+use Rattle.lists.specs.Truth.{both_hold, hold-both, test-cases}
 use Rattle.lists.specs.PairLaws.{place_in}
 use Rattle.records.specs.Empty.{no_lock}
 use Rattle.records.specs.declared.Tables.{Tables}
@@ -19,7 +18,7 @@ use Rattle.chain.specs.Chain.{blocks}
 use Rattle.chain.specs.declared.block.Block.{Block}
 use Rattle.message.specs.Caller.{caller_of}
 use Rattle.message.specs.declared.caller.Caller.{Caller}
-use Rattle.message.specs.Refusal.{status, forms, success, forms_of, status_of, nt_of, holder_of}
+use Rattle.message.specs.Refusal.{status, success, forms_of, holder_of}
 use Rattle.message.specs.declared.refusal.Status.{Status}
 use Rattle.message.specs.declared.refusal.Forms.{Forms}
 use Rattle.message.specs.declared.refusal.HeldBy.{HeldBy}

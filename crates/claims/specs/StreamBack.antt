@@ -2,15 +2,13 @@
 -- Assumes nothing.
 use Rattle.std.specs.Prelude.{◌≡◌, refl, ℕ, suc, ◌+◌, ◌≤◌, length, take, drop}
 use Rattle.std.proofs.Common.{sym, ap, ◌∙◌, length-append, drop-drop, arith, le-ltb, le-leb}
-use mathlib.Core.List.{List, [], ◌∷◌, ◌++◌, append-nil, flatten, map}
+use mathlib.Core.List.{List, [], ◌∷◌, ◌++◌, flatten, map}
 use Rattle.std.proofs.Math.Seq.{take-append_seam, drop-append_seam}
 use Rattle.lists.specs.Put.{put}
 use Rattle.stream.specs.Stream.{header_of, begins, whole, first_of, first, with_message, carried_by, carried_within, carried, begun}
-use Rattle.stream.specs.State.{none_begun}
 use Rattle.stream.specs.Writer.{written_of, framed, write}
 use Rattle.stream.specs.BeginsLaws.{header-begins}
 use Rattle.claims.specs.StreamLaws.{carried_step}
-use Rattle.claims.specs.StreamCut.{Same, drained_all, AllBytes}
 
 -- ---- what the writer wrote
 

@@ -1,11 +1,11 @@
 -- The numbers of the stream's reader and writer and the one reason for each, in plain words (document 02, CR 1: "Refusals that stop the reader, in this order", "Writer's,
 -- nothing written"). Assumes nothing.
 use Rattle.std.proofs.Math.Path.{◌≡◌}
-use Rattle.std.specs.Prelude.{refl, ◌↔◌, ◌⊎◌, ℕ, ◌+◌, ◌*◌, ◌/◌, ◌%◌, ◌≤◌, ◌<◌, Bool, true, false, cond, not, ◌||◌, List, [], ◌∷◌, ◌++◌, length, eqb, ltb}
-use Rattle.std.proofs.Common.{sym, ap, ◌∙◌, arith}
+use Rattle.std.specs.Prelude.{refl, ◌↔◌, ◌⊎◌, ℕ, ◌+◌, ◌*◌, ◌/◌, ◌%◌, ◌≤◌, ◌<◌, true, not, List, [], ◌∷◌, length, eqb, ltb}
+use Rattle.std.proofs.Common.{sym, ◌∙◌, arith}
 use Rattle.std.proofs.Math.Logic.{inl, inr}
 use borrow.Author.Tests.{ltb-true, ltb-false, lt-ltb, le-ltb, eqb-true, eqb-false, eq-eqb, ne_eqb, not-true, not-false}
-use Rattle.lists.specs.Truth.{either-holds, neither-holds, holds-second, fails}
+use Rattle.lists.specs.Truth.{either-holds, neither-holds, holds-second}
 use Rattle.lists.specs.Put.{put}
 use Rattle.stream.specs.Stream.{length_of, known, judge_length, judge, header_of, begins, begins_by, first, first_of, begun, stopped, carried_by, carried}
 use Rattle.stream.specs.Writer.{Wrote, written_of, framed, write}

@@ -1,1 +1,3 @@
+#![tactic(auto)]
+
 // Theorems over the definitions; no code.

@@ -1,16 +1,11 @@
 -- Of specs/Admitted.antt: what rests on its other theorems. Assumes nothing.
-use Rattle.std.specs.Prelude.{◌≡◌, ◌⊎◌, ℕ, true, false, cond, ◌&&◌, get_or}
+use Rattle.std.specs.Prelude.{◌≡◌, ◌⊎◌, ℕ, true, false, cond, get_or}
 use Rattle.std.proofs.Math.Path.{refl}
 use Rattle.std.proofs.Common.{sym, ◌∙◌, inl, inr}
-use mathlib.Core.List.{Memᴰ as In}
-use Rattle.std.proofs.Math.Dec.{eqb}
-use borrow.Author.Tests.{eqb-true, eq-eqb}
 use Rattle.lists.specs.Walk.{any, found}
-use Rattle.lists.specs.Truth.{both_hold, hold-both, fails, decided, not-decided-twice}
-use Rattle.lists.specs.Members.{any-one, one-any}
+use Rattle.lists.specs.Truth.{fails, decided, not-decided-twice}
 use Rattle.lists.specs.declared.Found.{Found}
 use Rattle.lists.specs.declared.Found.TheVariants.{At, Nothing}
-use Rattle.records.specs.declared.Session.{Session}
 use Rattle.records.specs.declared.Open.{Open}
 use Rattle.records.specs.declared.Tables.{Tables}
 use Rattle.records.specs.Empty.{no_open}
@@ -27,7 +22,6 @@ use Rattle.message.specs.Refusal.{status, forms_of}
 use Rattle.message.specs.declared.refusal.Status.{Status}
 use Rattle.message.specs.declared.refusal.Refusal.TheVariants.{NoTree}
 use Rattle.message.specs.Command.{Given, refused, is_session, with_session, with_tree, is_open, open_at, with_open}
-use Rattle.invariants.specs.FoundFacts.{found-hit, found-miss}
 use Rattle.demands.specs.LoneLock.{May, some_at}
 use Rattle.demands.specs.Admitted.{Admitted, NoOpenFor, NoSessionFor, NoTreeFor, SessionHere, here-session, nowhere-open, open-found, open-nowhere, session-here, test-open}
 use Rattle.demands.specs.Admitted.{before-open}
@@ -35,7 +29,6 @@ use Rattle.demands.specs.Admitted.{before-tree}
 use Rattle.demands.specs.Admitted.{no-open}
 use Rattle.demands.specs.Admitted.{no-session}
 use Rattle.demands.specs.Admitted.{no-tree}
-
 
 module _ (c : Caller) (t : Tables) where
   pub nowhere-session : (SessionHere c t → ⊥) → any (is_session c) (sessions_of t) ≡ false

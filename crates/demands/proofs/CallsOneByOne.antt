@@ -1,27 +1,18 @@
 -- Of specs/CallsOneByOne.antt: what rests on its other theorems. Assumes nothing.
-use Rattle.std.specs.Prelude.{◌≡◌, refl, ℕ, ◌≤◌, Bool, true, false, cond, ◌&&◌, List, [], ◌∷◌, ◌++◌, length, take, set, eqb}
-use Rattle.std.proofs.Common.{sym, ◌∙◌, ap, arith}
-use Rattle.std.proofs.lemmas.Bool.{false≢true}
+use Rattle.std.specs.Prelude.{◌≡◌, ℕ, ◌≤◌, List, [], ◌∷◌, length}
+use Rattle.std.proofs.Common.{◌∙◌, ap, arith}
 use Rattle.std.proofs.Math.Option.{some}
-use Rattle.std.proofs.Math.Seq.{take-append_seam}
-use Rattle.lists.specs.Put.{put}
 use Rattle.records.specs.declared.Tables.{Tables}
-use Rattle.chain.specs.Layout.{header_command, FIRST}
 use Rattle.chain.specs.Chain.{blocks}
 use Rattle.chain.specs.declared.block.Block.{Block}
-use Rattle.message.specs.declared.refusal.Forms.{Forms}
-use Rattle.message.specs.Refusal.{status, success}
-use Rattle.message.specs.declared.refusal.HeldBy.{HeldBy}
-use Rattle.message.specs.declared.refusal.HeldBy.TheVariants.{Nobody}
-use Rattle.message.specs.Message.{Ran, answered, reply_of, Taken, replied, take-message}
+use Rattle.message.specs.Message.{answered, reply_of, Taken, replied, take-message}
 use Rattle.message.specs.JustOpened.{NOBODY}
 use Rattle.claims.specs.StatusList.{answered-ended}
 use Rattle.claims.proofs.StatusList.{ended-says}
-use Rattle.demands.specs.StatusRead.{status_zero, succeeded, status-zero}
+use Rattle.demands.specs.StatusRead.{succeeded, status-zero}
 use Rattle.demands.specs.Returned.{returned_fid}
-use Rattle.demands.specs.HolderBeside.{nobody-exact, answered-beside}
-use Rattle.demands.specs.OneByOne.{Sent, reply_then, send_on, own, send_all, joined, compared, one_by_one}
-use Rattle.demands.specs.OneByOneReply.{last_reply, compared_reply, one-by-one-reply}
+use Rattle.demands.specs.OneByOne.{send_on, own, send_all, compared, one_by_one}
+use Rattle.demands.specs.OneByOneReply.{compared_reply, one-by-one-reply}
 use Rattle.invariants.specs.Sound.{Good}
 use Rattle.invariants.specs.Fit.{Fit, fit-answered}
 use Rattle.demands.specs.Taken.{not-long, AllFit, none_left, next_fits, all_fit}

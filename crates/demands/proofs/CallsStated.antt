@@ -1,34 +1,15 @@
 -- Of specs/Calls.antt: what rests on its other theorems. Assumes nothing.
-use Rattle.std.specs.Prelude.{◌≡◌, ◌↔◌, ℕ, ◌+◌, ◌≤◌, true, List, map}
-use Rattle.std.proofs.Common.{sym, ◌∙◌, arith, length-append}
+use Rattle.std.specs.Prelude.{◌≡◌, ◌↔◌, ℕ, true, List}
+use Rattle.std.proofs.Common.{sym, ◌∙◌}
 use Rattle.std.proofs.Math.Path.{ap}
-use Rattle.std.proofs.Math.Option.{some}
-use Rattle.std.proofs.Math.ListN.{length}
-use Rattle.wire.specs.LittleEndian.{le32_at}
 use Rattle.records.specs.declared.Tables.{Tables}
-use Rattle.chain.specs.Layout.{header_command, FIRST}
-use Rattle.chain.specs.Grammar.{Span, Reading, Sentence}
-use Rattle.chain.specs.Chain.{blocks}
-use Rattle.chain.specs.declared.block.Block.{Block}
-use Rattle.readings.specs.ReaderComplete.{reader-complete}
-use Rattle.invariants.specs.ReaderSound.{span_of}
-use Rattle.invariants.specs.Chained.{read-chained}
-use Rattle.message.specs.Caller.{caller_of}
+use Rattle.chain.specs.Layout.{header_command}
+use Rattle.chain.specs.Grammar.{Sentence}
 use Rattle.message.specs.Refusal.{status}
-use Rattle.message.specs.JustOpened.{NOBODY}
-use Rattle.message.specs.Reply.{status_number, reply_header}
-use Rattle.message.specs.Message.{run, run_chain, served, answered, reply_of, Taken, replied, take-message}
-use Rattle.claims.specs.StatusList.{answered-ended}
-use Rattle.claims.proofs.StatusList.{ended-says}
-use Rattle.demands.specs.StatusRead.{status_read, status-number-replied, status-replied}
+use Rattle.message.specs.Message.{served, answered, Taken, replied, take-message}
+use Rattle.demands.specs.StatusRead.{status_read}
 use Rattle.demands.specs.Malformed.{malformed}
-use Rattle.invariants.specs.ReplySize.{length-header}
-use Rattle.demands.specs.OneByOne.{chained-served}
-use Rattle.invariants.specs.Sound.{Good}
 use Rattle.invariants.specs.Fit.{Fit, fit-answered}
-use Rattle.demands.specs.Taken.{not_short}
-use Rattle.demands.specs.CallsOneByOne.{call_all, compared_call}
-use Rattle.demands.proofs.CallsOneByOne.{calls-one-by-one}
 use Rattle.demands.proofs.Calls.{status-call}
 
 -- "A message fit to be answered that begins with a known command is answered as malformed exactly if it is not a sentence": "Answered as malformed: 0,

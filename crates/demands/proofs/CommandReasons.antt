@@ -1,33 +1,27 @@
 -- Of specs/CommandReasons.antt: what rests on its other theorems. Assumes nothing.
-use Rattle.std.specs.Prelude.{◌≡◌, ◌⊎◌, ◌↔◌, ℕ, ◌+◌, ◌*◌, ◌/◌, ◌%◌, ◌^◌, ◌≤◌, ◌<◌, true, not, ◌||◌, get_or, leb, ltb, eqb}
+use Rattle.std.specs.Prelude.{◌≡◌, ◌↔◌, ℕ, ◌+◌, ◌*◌, ◌/◌, ◌%◌, true, get_or, ltb, eqb}
 use Rattle.std.proofs.Math.Path.{refl, ap}
 use Rattle.std.proofs.Common.{sym, ◌∙◌}
 use Rattle.std.proofs.Math.Logic.{inl, inr}
 use native.Mathlib.Omega.{arith}
-use Rattle.std.proofs.Math.Bool.{false, and-false}
-use mathlib.Core.List.{List, [], ◌∷◌, ◌++◌, map}
+use Rattle.std.proofs.Math.Bool.{false}
+use mathlib.Core.List.{List, [], ◌∷◌, ◌++◌}
 use Rattle.std.proofs.Math.Option.{Option, none, some}
 use Rattle.std.proofs.Math.ListN.{length}
-use Rattle.std.proofs.Math.Decide.{ℕ_discrete}
-use borrow.Author.Tests.{leb-true, leb-false, le-leb, lt-leb, ltb-true, ltb-false, lt-ltb, le-ltb, eqb-true, eqb-false, eq-eqb, ne_eqb, not-true}
+use borrow.Author.Tests.{le-leb, lt-leb, ltb-true, ltb-false, lt-ltb, le-ltb, eqb-true, eqb-false, eq-eqb, ne_eqb}
 use Rattle.lists.specs.Walk.{any}
-use Rattle.lists.specs.Truth.{both_hold, either-holds, fails, decided, not-decided-twice}
-use Rattle.lists.specs.declared.Found.{Found}
-use Rattle.lists.specs.declared.Found.TheVariants.{At, Nothing}
+use Rattle.lists.specs.Truth.{fails, decided, not-decided-twice}
 use Rattle.records.specs.declared.Open.{Open}
 use Rattle.records.specs.declared.Lock.{Lock}
 use Rattle.records.specs.declared.Tables.{Tables}
-use Rattle.records.specs.Change.{changes_of, with_read}
 use Rattle.records.specs.Empty.{no_open}
 use Rattle.records.specs.Held.{opens_of, locks_of}
-use Rattle.locks.specs.Wire.{range_size, range_at, ranges_at, small_form}
-use Rattle.locks.specs.Request.{of_header, lock_of, ranges_of, release_all, Grants, granted, blocked, grant_all, after_grants, range_passes, after_releases, Result, request, settle, locking}
+use Rattle.locks.specs.Wire.{range_size, ranges_at}
+use Rattle.locks.specs.Request.{lock_of, ranges_of, release_all, Grants, grant_all, after_grants, range_passes, after_releases, request, settle, locking}
 use Rattle.locks.specs.declared.types.LockRange.{LockRange}
 use Rattle.locks.specs.declared.types.Purpose.TheVariants.{Read as Reading}
-use Rattle.soundness.specs.File.{file_of}
 use Rattle.soundness.specs.Sound.{sound}
 use Rattle.claims.proofs.SoundPlain.{sound-plain}
-use Rattle.claims.specs.HostReasons.{HasTree}
 use Rattle.claims.specs.Cases.{status_in}
 use Rattle.invariants.specs.GivenCases.{cond-case}
 use Rattle.chain.specs.declared.block.LockingFields.{LockingFields}
@@ -40,16 +34,13 @@ use Rattle.message.specs.declared.caller.Caller.{Caller}
 use Rattle.message.specs.Refusal.{status, forms_of}
 use Rattle.message.specs.declared.refusal.Status.{Status}
 use Rattle.message.specs.declared.refusal.Refusal.TheVariants.{NoAccess, LockType}
-use Rattle.message.specs.Contents.{read_bytes}
-use Rattle.message.specs.Command.{Given, refused, done, read, with_session, with_tree, with_open, served_type, request_of, locking_end, locking_after, do_locking, ask_by, unless_barred, barring, do_read, ends_past, do_write, as_core, range_by, one_range, do_range, between_sizes, do_set_size, do_core_write, name_asked, perform}
-use Rattle.demands.specs.LoneLock.{held_in, May, InWay, Owner, BarsLock, lower_size, sizes_apart, BarsSize, BarsRange, read-conflict as read-exact, shared_in, exclusive-way, range_back}
-use Rattle.demands.specs.Admitted.{SessionHere, Admitted, NoSessionFor, NoTreeFor, NoOpenFor, with-open}
+use Rattle.message.specs.Command.{Given, refused, with_session, with_tree, with_open, served_type, request_of, locking_end, locking_after, do_locking, ask_by, unless_barred, barring, do_read, ends_past, do_write, as_core, one_range, do_range, between_sizes, do_set_size, do_core_write, name_asked, perform}
+use Rattle.demands.specs.LoneLock.{May, lower_size, sizes_apart, BarsRange, shared_in, range_back}
+use Rattle.demands.specs.Admitted.{Admitted, NoOpenFor, with-open}
 use Rattle.demands.proofs.Admitted.{admitted-may, session-or, tree-or, open-or, with-session, with-tree, session-given, tree-given, open-given}
-use Rattle.demands.specs.LockWords.{Released, Unnamed, Releasing, all-released, one-unnamed, PastEnd, past-means, past_is, one-past, AllGranted, OneBlocked, Opened, Granting, all-granted, one-blocked, none-to-release, none-released, none-unnamed, one-released, names-none, none-to-grant, grant-then, none-granted, blocked-here, none-blocked, one_more, one-granted}
+use Rattle.demands.specs.LockWords.{Released, Releasing, all-released, one-unnamed, PastEnd, past-means, past_is, AllGranted, Opened, none-to-release, none-released, none-unnamed, one-released, names-none, none-to-grant, grant-then, none-granted, blocked-here, none-blocked, one_more, one-granted}
 use Rattle.demands.proofs.LockWords.{release-means, released-is, unnamed-is, released-was, grant-means, granted-is, blocked-is, one-names-none, one-barred}
-use Rattle.demands.specs.WritingReasons.{WritingStatus, conflicts-status, other-status}
 use Rattle.demands.proofs.WritingReasons.{writing-reason, writing-given}
-use Rattle.demands.specs.OpenReasons.{OpenStatus}
 use Rattle.demands.proofs.OpenReasons.{opening-reason, opening-given}
 use Rattle.demands.specs.CoreReasons.{LockStatus, lock-not, lock-barred, lock-full, lock-done, UnlockStatus, unlock-not, unlock-unnamed, unlock-done}
 use Rattle.demands.proofs.CoreReasons.{out_listed, listed-out, out-fits}
@@ -74,9 +65,7 @@ use Rattle.demands.specs.CommandReasons.{some-count}
 use Rattle.demands.specs.CommandReasons.{tree-not}
 use Rattle.demands.specs.CommandReasons.{tree-there}
 
-
 module _ (c : Caller) (t : Tables) (memory : List ℕ) (ok : sound t ≡ true) where
-
   module _ (f : ReadFields) (k : ℕ) (may : May c t f.fid k) where
     pub read-refused : eqb (read-open c t memory ok f k may).access 1 ≡ true → do_read c t memory f ≡ refused NoAccess
     unfolding do_read

@@ -1,29 +1,18 @@
 -- Of specs/CoreMoved.antt: what rests on its other theorems. Assumes nothing.
-use Rattle.std.specs.Prelude.{◌≡◌, refl, ℕ, ◌≤◌, length, drop}
-use Rattle.std.proofs.Common.{sym, ap, ◌∙◌, arith}
-use mathlib.Core.List.Memᴰ.{head as first}
-use mathlib.Core.List.Memᴰ.{tail as later}
+use Rattle.std.specs.Prelude.{◌≡◌, ℕ, ◌≤◌, length}
+use Rattle.std.proofs.Common.{sym, ◌∙◌, arith}
 use mathlib.Core.List.{List, Memᴰ as In}
-use Rattle.chain.specs.Layout.{READ, CORE-WRITE, header_command, FIRST, first_fid, core_count, core_offset, marked_data}
-use Rattle.chain.specs.Grammar.{IsBlock, Span, span_at, ReadingFrom, plain_end, andx-end, andx-next, Reading}
-use Rattle.chain.specs.declared.block.ReadFields.{ReadFields}
-use Rattle.chain.specs.declared.block.WriteFields.{WriteFields}
-use Rattle.chain.specs.declared.block.Body.TheVariants.{Logoff, CoreRead, CoreWrite}
+use Rattle.chain.specs.Layout.{READ}
+use Rattle.chain.specs.Grammar.{Span, Reading}
+use Rattle.chain.specs.declared.block.Body.TheVariants.{Logoff}
 use Rattle.chain.specs.declared.block.Next.TheVariants.{End}
 use Rattle.chain.specs.declared.block.Block.{Block}
-use Rattle.invariants.specs.BlockParse.{block_inside, block_size, body_at}
+use Rattle.invariants.specs.BlockParse.{block_inside}
 use Rattle.invariants.specs.ReaderSound.{span_of}
 use Rattle.readings.specs.CoreAlone.{EndsChain, ends_read, ends-write}
-use Rattle.readings.specs.Moved.{Moved, moved_body}
-use Rattle.readings.proofs.Moved.{moved-block, moved-body}
-use Rattle.readings.specs.MovedBytes.{part}
-use Rattle.readings.proofs.MovedBytes.{moved-marked-area}
 use Rattle.demands.specs.Alone.{alone-command, alone-moved}
 use Rattle.demands.specs.Carrying.{carrying-other}
 use Rattle.demands.specs.SpansOneByOne.{alone_span, alone-span, own_span}
-use Rattle.demands.specs.WireFields.{core_data}
-use Rattle.demands.specs.DataBlock.{marked-block}
-use Rattle.demands.specs.CorePairCalls.{marked-part}
 use Rattle.demands.specs.CoreMoved.{SameBlock, same_block, stands-in}
 
 -- "each block in turn makes a message .., then the block at 32": of a core READ or WRITE, alone or behind a LOCKING

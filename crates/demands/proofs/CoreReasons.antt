@@ -1,9 +1,8 @@
 -- Of specs/CoreReasons.antt: what rests on its other theorems. Assumes nothing.
-use Rattle.std.specs.Prelude.{◌≡◌, ℕ, min, ◌≤◌, ◌<◌, true, length}
+use Rattle.std.specs.Prelude.{◌≡◌, ℕ, min, ◌≤◌, true, length}
 use Rattle.std.proofs.Common.{arith, length-take}
 use mathlib.Core.List.{List, [], ◌∷◌, Memᴰ as In}
 use Rattle.std.proofs.Math.Option.{Option}
-use Rattle.records.specs.declared.Open.{Open}
 use Rattle.records.specs.declared.Lock.{Lock}
 use Rattle.records.specs.declared.Tables.{Tables}
 use Rattle.records.specs.Held.{locks_of}
@@ -12,11 +11,8 @@ use Rattle.soundness.specs.Sound.{sound}
 use Rattle.claims.proofs.SoundPlain.{sound-plain}
 use Rattle.chain.specs.declared.block.RangeFields.{RangeFields}
 use Rattle.message.specs.declared.caller.Caller.{Caller}
-use Rattle.message.specs.Refusal.{status}
-use Rattle.message.specs.declared.refusal.Status.{Status}
-use Rattle.demands.specs.LoneLock.{core_range, BarsRange}
-use Rattle.demands.specs.Admitted.{Admitted, NoOpenFor}
-use Rattle.demands.specs.LockWords.{Named, TakenOut, this-one, later-one, out-named, Released, Releasing, all-released, one-unnamed}
+use Rattle.demands.specs.LoneLock.{core_range}
+use Rattle.demands.specs.LockWords.{Named, TakenOut, out-named, Released, Releasing, all-released, one-unnamed}
 use Rattle.demands.proofs.LockWords.{one-names-none, release-means}
 use Rattle.demands.specs.CoreReasons.{Listed, out-shorter}
 

@@ -1,19 +1,10 @@
 -- Of specs/DataBlock.antt: what rests on its other theorems. Assumes nothing.
-use Rattle.std.specs.Prelude.{◌≡◌, ℕ, ◌+◌, true, List}
-use Rattle.std.proofs.Common.{arith}
+use Rattle.std.specs.Prelude.{ℕ, List}
 use Rattle.records.specs.declared.Tables.{Tables}
-use Rattle.chain.specs.Layout.{LOCKING, CORE-WRITE, header_command, FIRST, byte_count, andx_command, andx_offset, core_count, data_mark, marked_length}
-use Rattle.chain.specs.Grammar.{IsBlock, MarkedData, locking-andx, Span, ReadingFrom, plain_end, andx-end, andx-next, Sentence}
-use Rattle.invariants.specs.BlockTests.{fits, fits-complete, core-write-exact}
-use Rattle.invariants.specs.BlockParse.{plain-not-andx}
+use Rattle.chain.specs.Grammar.{Sentence}
 use Rattle.invariants.specs.Fit.{Fit}
-use Rattle.message.specs.Refusal.{status}
-use Rattle.message.specs.declared.refusal.HeldBy.TheVariants.{Nobody}
-use Rattle.message.specs.Message.{served, Taken, take-message}
-use Rattle.demands.specs.StatusRead.{status_read}
+use Rattle.message.specs.Message.{take-message}
 use Rattle.demands.proofs.CallsStated.{malformed-call}
-use Rattle.demands.specs.RefusedCall.{Untouched}
-use Rattle.demands.specs.ReplyBytes.{PlainBlock}
 use Rattle.demands.proofs.NoSentence.{no-sentence-taken}
 use Rattle.demands.specs.DataBlock.{AnsweredMalformed, BadCoreWrite, bad-no-block, bad-served, reading-block, second_block}
 use Rattle.demands.specs.DataBlock.{alone}

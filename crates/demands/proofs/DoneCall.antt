@@ -1,43 +1,38 @@
 -- Of specs/DoneCall.antt: what rests on its other theorems. Assumes nothing.
-use Rattle.std.specs.Prelude.{◌≡◌, refl, ℕ, ◌+◌, ◌≤◌, false, length, get_or}
+use Rattle.std.specs.Prelude.{◌≡◌, refl, ℕ, ◌≤◌, get_or}
 use Rattle.std.proofs.Math.Path.{sym, ap}
 use Rattle.std.proofs.Common.{◌∙◌, arith}
 use Rattle.std.proofs.Math.Logic.{inl, inr}
-use mathlib.Core.List.{List, [], ◌∷◌, ◌++◌, append-nil}
+use mathlib.Core.List.{List, [], ◌∷◌}
 use Rattle.std.proofs.Math.Option.{some}
 use Rattle.std.proofs.Math.ListN.{length-append}
-use Rattle.lists.specs.Put.{put}
 use Rattle.records.specs.declared.Open.{Open}
 use Rattle.records.specs.declared.Tables.{Tables}
 use Rattle.records.specs.Empty.{no_open}
 use Rattle.records.specs.Held.{opens_of}
 use Rattle.claims.specs.Cases.{status_in}
 use Rattle.chain.specs.Layout.{FIRST}
-use Rattle.chain.specs.Header.{dropped}
 use Rattle.chain.specs.Chain.{blocks}
 use Rattle.chain.specs.declared.block.Block.{Block}
 use Rattle.message.specs.Caller.{caller_of}
 use Rattle.message.specs.declared.caller.Caller.{Caller}
 use Rattle.message.specs.Refusal.{status, success}
 use Rattle.message.specs.declared.refusal.Status.{Status}
-use Rattle.message.specs.declared.refusal.HeldBy.TheVariants.{Nobody}
 use Rattle.message.specs.declared.link.Link.TheVariants.{None as no_link}
 use Rattle.message.specs.Command.{Said, Given, refused, done, with_session, with_tree, with_open}
 use Rattle.message.specs.JustOpened.{NOBODY}
-use Rattle.message.specs.Reply.{reply_header, reply_block, reply_size}
-use Rattle.message.specs.Message.{after, link_to, after_given, run, Taken, reply_of, replied, take-message}
+use Rattle.message.specs.Reply.{reply_header, reply_block}
+use Rattle.message.specs.Message.{Taken, reply_of, replied, take-message}
 use Rattle.invariants.specs.ReplySize.{length-header, length-block}
 use Rattle.invariants.specs.Fit.{Fit, fit-answered}
-use Rattle.demands.specs.Taken.{not_short}
 use Rattle.claims.proofs.StatusList.{none-zero}
 use Rattle.demands.specs.StatusRead.{status_read}
 use Rattle.demands.specs.Calls.{sentence-answered}
 use Rattle.demands.specs.RefusedCall.{gives}
 use Rattle.demands.proofs.RefusedCall.{first-refused}
-use Rattle.demands.specs.Admitted.{Admitted, NoSessionFor, no-session, NoTreeFor, before-tree, no-tree, NoOpenFor, before-open, no-open, with-open}
+use Rattle.demands.specs.Admitted.{Admitted, NoTreeFor, before-tree, no-tree, NoOpenFor, before-open, no-open, with-open}
 use Rattle.demands.proofs.Admitted.{session-or, tree-or, open-or, with-session, with-tree, session-given, tree-given, open-given}
 use Rattle.demands.specs.DoneCall.{Carried, coded-not-done, long-enough, run-one, session-code}
-
 
 module _ (connection : ℕ) (s : List ℕ) (b : Block) (e : blocks s ≡ some (b ∷ [])) (t : Tables) (memory room : List ℕ) (fit : Fit s t memory room) where
   pub carried-by : (g : Given) → gives (caller_of connection s) s NOBODY b t memory ≡ g → status_read (take-message connection s t memory room).room ≡ status 0 0

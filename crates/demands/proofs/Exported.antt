@@ -1,40 +1,28 @@
 -- Of specs/Exported.antt: what rests on its other theorems. Assumes nothing.
-use Rattle.std.specs.Prelude.{◌≡◌, refl, ◌⊎◌, ◌↔◌, ℕ, ◌<◌, ◌≤◌, true, false, ◌&&◌, eqb}
+use Rattle.std.specs.Prelude.{◌≡◌, refl, ℕ, true, false, ◌&&◌, eqb}
 use Rattle.std.proofs.Math.Path.{sym, ap}
 use Rattle.std.proofs.Common.{◌∙◌, arith}
 use Rattle.std.proofs.Math.Logic.{⊎_elim}
 use Rattle.std.proofs.Math.Decide.{ℕ_discrete}
-use mathlib.Core.List.{List, [], ◌∷◌, Memᴰ as In}
+use mathlib.Core.List.{List}
 use Rattle.std.proofs.Math.ListN.{length}
 use borrow.Author.Tests.{eqb-true, eq-eqb}
 use Rattle.lists.specs.Truth.{decided, both_hold, hold-both, fails, not-decided-twice}
-use Rattle.records.specs.declared.Open.{Open}
-use Rattle.records.specs.Held.{opens_of}
 use Rattle.host.specs.declared.answer.Returned.{Returned}
 use Rattle.soundness.specs.Sound.{sound}
-use Rattle.host.specs.declared.ending.One.{One}
-use Rattle.host.specs.HostCall.{refused, done, add_session, add_tree, add_open, load_file, load_memory, drop_connection, set_catalogue, ask_unchanged, end_one}
-use Rattle.locks.specs.declared.types.Holder.{Holder}
-use Rattle.message.specs.declared.refusal.HeldBy.{HeldBy}
-use Rattle.message.specs.declared.refusal.HeldBy.TheVariants.{Nobody, Holder as held_by}
+use Rattle.host.specs.HostCall.{refused, load_file, load_memory, set_catalogue, ask_unchanged}
 use Rattle.message.specs.Message.{Taken, not_taken, take-message}
 use Rattle.invariants.specs.GivenCases.{cond-case}
-use Rattle.invariants.specs.HostCases.{load_file-either, drop_connection-either, end_one-either}
 use Rattle.tables.specs.Words.{word, name_array, name_limits, table_fits, in_use_fit, tables_of}
-use Rattle.boundary.specs.Boundary.{ready, ForNext, number_of, is_done, id_after, session_added, tree_added, open_added, connection_dropped, one_ended, file_loaded, load_number_of, memory_after, catalogue_set, unchanged_asked, wrong_room, message_taken, length_after, holder_words, holder_after}
-use Rattle.boundary.specs.BoundaryLaws.{words-shaped, wrong-number, unfit-memory, set-unsound, set-no-bytes}
-use Rattle.boundary.proofs.BoundaryLaws.{wrong-memory, fit-memory, set-core, set-done-fits, set-no-number}
-use Rattle.boundary.specs.MessageLaws.{room-short, memory-wrong, room-right, row_room, message-fit, message-unfit, length-stands, length-given, holder-stands, holder-given}
+use Rattle.boundary.specs.Boundary.{ready, ForNext, number_of, is_done, id_after, file_loaded, load_number_of, memory_after, catalogue_set, unchanged_asked, length_after, holder_words, holder_after}
+use Rattle.boundary.specs.BoundaryLaws.{words-shaped, unfit-memory, set-unsound, set-no-bytes}
+use Rattle.boundary.proofs.BoundaryLaws.{wrong-memory, fit-memory, set-core, set-done-fits}
+use Rattle.boundary.specs.MessageLaws.{room-short, memory-wrong, length-stands, length-given, holder-stands, holder-given}
 use Rattle.claims.specs.HostAnswer.{load_memory-refused}
-use Rattle.claims.specs.AskUnchanged.{UpToDate, ask-stands, ask-sound}
+use Rattle.claims.specs.AskUnchanged.{ask-stands, ask-sound}
 use Rattle.claims.proofs.AskUnchanged.{answer-of}
-use Rattle.claims.specs.EndOne.{OneEnded}
-use Rattle.claims.proofs.EndOne.{end_one-frame}
-use Rattle.claims.specs.HostFrames.{SessionAdded, TreeAdded, OpenAdded, FileLoaded, ConnectionDropped, CatalogueSet, add_session-frame, add_tree-frame, add_open-frame, load_file-frame, set_catalogue-frame}
-use Rattle.claims.proofs.HostFrames.{drop_connection-frame}
-use Rattle.demands.specs.RoomKept.{refused-writes-nothing}
+use Rattle.claims.specs.HostFrames.{FileLoaded, load_file-frame, set_catalogue-frame}
 use Rattle.demands.specs.Exported.{CallSeen, CatalogueSeen, LoadSeen, MessageSeen, UnchangedSeen, core, given, load-no-number, load-number, load-wrong, number-fit, number-unfit, read_off, refused-given-back, set_given, unfit-four, unfit-number, wrong-two}
-
 
 module _ (w : List ℕ) (id : ℕ) (a : Returned) (r : ℕ) (out : List ℕ) (after : ℕ)
     (number : r ≡ number_of w a) (given : after ≡ id_after id w a) (next : ForNext w out r a.tables) where
@@ -84,7 +72,6 @@ unchanged-seen w r fid answer after number given =
     }
 
 module _ (w : List ℕ) (r : ℕ) (out : List ℕ) where
-
   module _ (file : ℕ) (contents memory after : List ℕ) (number : r ≡ load_number_of w file contents memory)
       (bytes : after ≡ memory_after w file contents memory) (next : ForNext w out r (file_loaded w file contents memory).tables) where
     pub done-whole : r ≡ 0 → length memory ≡ 65536

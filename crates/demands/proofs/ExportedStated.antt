@@ -1,41 +1,16 @@
 -- Of specs/Exported.antt: what rests on its other theorems. Assumes nothing.
-use Rattle.std.specs.Prelude.{◌≡◌, refl, ◌⊎◌, ◌↔◌, ℕ, ◌<◌, ◌≤◌, true, false, ◌&&◌, eqb}
-use Rattle.std.proofs.Math.Path.{sym, ap}
-use Rattle.std.proofs.Common.{◌∙◌, arith}
-use Rattle.std.proofs.Math.Logic.{⊎_elim}
-use Rattle.std.proofs.Math.Decide.{ℕ_discrete}
-use mathlib.Core.List.{List, [], ◌∷◌, Memᴰ as In}
-use Rattle.std.proofs.Math.ListN.{length}
-use borrow.Author.Tests.{eqb-true, eq-eqb}
-use Rattle.lists.specs.Truth.{decided, both_hold, hold-both, fails, not-decided-twice}
-use Rattle.records.specs.declared.Open.{Open}
-use Rattle.records.specs.Held.{opens_of}
-use Rattle.host.specs.declared.answer.Returned.{Returned}
-use Rattle.soundness.specs.Sound.{sound}
+use Rattle.std.specs.Prelude.{◌≡◌, ℕ}
+use mathlib.Core.List.{List}
 use Rattle.host.specs.declared.ending.One.{One}
-use Rattle.host.specs.HostCall.{refused, done, add_session, add_tree, add_open, load_file, load_memory, drop_connection, set_catalogue, ask_unchanged, end_one}
-use Rattle.locks.specs.declared.types.Holder.{Holder}
-use Rattle.message.specs.declared.refusal.HeldBy.{HeldBy}
-use Rattle.message.specs.declared.refusal.HeldBy.TheVariants.{Nobody, Holder as held_by}
-use Rattle.message.specs.Message.{Taken, not_taken, take-message}
-use Rattle.invariants.specs.GivenCases.{cond-case}
-use Rattle.invariants.specs.HostCases.{load_file-either, drop_connection-either, end_one-either}
-use Rattle.tables.specs.Words.{word, name_array, name_limits, table_fits, in_use_fit, tables_of}
-use Rattle.boundary.specs.Boundary.{ready, ForNext, number_of, is_done, id_after, session_added, tree_added, open_added, connection_dropped, one_ended, file_loaded, load_number_of, memory_after, catalogue_set, unchanged_asked, wrong_room, message_taken, length_after, holder_words, holder_after}
-use Rattle.boundary.specs.BoundaryLaws.{words-shaped, wrong-number, unfit-memory, set-unsound, set-no-bytes}
-use Rattle.boundary.proofs.BoundaryLaws.{wrong-memory, fit-memory, set-core, set-done-fits, set-no-number}
-use Rattle.boundary.specs.MessageLaws.{room-short, memory-wrong, room-right, row_room, message-fit, message-unfit, length-stands, length-given, holder-stands, holder-given}
-use Rattle.claims.specs.HostAnswer.{load_memory-refused}
-use Rattle.claims.specs.AskUnchanged.{UpToDate, ask-stands, ask-sound}
-use Rattle.claims.proofs.AskUnchanged.{answer-of}
+use Rattle.host.specs.HostCall.{add_session, add_tree, add_open, drop_connection, end_one}
+use Rattle.tables.specs.Words.{tables_of}
+use Rattle.boundary.specs.Boundary.{ForNext, number_of, id_after, session_added, tree_added, open_added, connection_dropped, one_ended}
 use Rattle.claims.specs.EndOne.{OneEnded}
 use Rattle.claims.proofs.EndOne.{end_one-frame}
-use Rattle.claims.specs.HostFrames.{SessionAdded, TreeAdded, OpenAdded, FileLoaded, ConnectionDropped, CatalogueSet, add_session-frame, add_tree-frame, add_open-frame, load_file-frame, set_catalogue-frame}
+use Rattle.claims.specs.HostFrames.{SessionAdded, TreeAdded, OpenAdded, ConnectionDropped, add_session-frame, add_tree-frame, add_open-frame}
 use Rattle.claims.proofs.HostFrames.{drop_connection-frame}
-use Rattle.demands.specs.RoomKept.{refused-writes-nothing}
 use Rattle.demands.proofs.Exported.{seen}
 use Rattle.demands.specs.Exported.{CallSeen, drop-no-number, end-no-number, given}
-
 
 module _ (w : List ℕ) (r : ℕ) (out : List ℕ) where
   -- `gateway_add_session`

@@ -1,30 +1,16 @@
 -- Of specs/FileBytes.antt: what rests on its other theorems. Assumes nothing.
-use Rattle.std.specs.Prelude.{◌≡◌, ◌⊎◌, true, List, ℕ, min, max, ◌+◌, ◌-◌, ◌*◌, ◌≤◌, ◌<◌, drop, get_or, replicate, ltb}
-use Rattle.std.proofs.Math.Path.{refl, sym, ap}
-use Rattle.std.proofs.Common.{◌∙◌, inl, inr, length-take-le, get_or-take, get_or-drop, ext_get_or, ltb-true, ltb-false, eq-eqb, ne_eqb}
-use Rattle.std.proofs.Math.ListN.{length, length-take, length-drop}
-use Rattle.std.proofs.lemmas.List.{length-replicate, get_or-replicate}
-use Rattle.std.proofs.Math.Seq.{get_or-set_same, get_or-set_other}
-use Rattle.std.proofs.Math.Decide.{ℕ_discrete}
+use Rattle.std.specs.Prelude.{◌≡◌, true, List, ℕ, ◌+◌, ◌*◌, ◌≤◌, ◌<◌, get_or}
+use Rattle.std.proofs.Common.{◌∙◌, inl, inr}
+use Rattle.std.proofs.Math.ListN.{length}
 use native.Mathlib.Omega.{arith}
-use Rattle.lists.specs.Truth.{decided}
 use Rattle.lists.specs.Put.{put}
 use Rattle.lists.specs.PutLaws.{length-put, put_front, put-inside, put-behind}
-use Rattle.records.specs.Change.{raised, changes_of, file_after, with_change}
-use Rattle.records.specs.Empty.{no_file}
-use Rattle.records.specs.declared.File.{File}
 use Rattle.records.specs.declared.Tables.{Tables}
-use Rattle.records.specs.Held.{with_files}
 use Rattle.soundness.specs.Sound.{sound}
-use Rattle.invariants.specs.SoundParts.{sound-says}
-use Rattle.invariants.specs.Shaped.{Shaped}
-use Rattle.message.specs.Contents.{size_of, contents, read_bytes, grown, written, resized, sized_to}
-use Rattle.invariants.specs.Sound.{size-most}
+use Rattle.message.specs.Contents.{size_of, grown, written}
 use Rattle.demands.specs.FileBytes.{Grew, Wrote, beside, grown-bytes, written-put}
 
-
 module _ (t : Tables) (memory : List ℕ) (file offset : ℕ) (ok : sound t ≡ true) (full : length memory ≡ 65536) (low : file ≤ 15) where
-
   module _ (bytes : List ℕ) (some_bytes : 1 ≤ length bytes) (fits : offset + length bytes ≤ 4096) where
     pub grew : Grew file (size_of t file) offset memory (grown t memory file offset)
     grew = (grown-bytes t memory file offset ok full low) (omega arith)

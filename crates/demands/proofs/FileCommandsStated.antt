@@ -1,41 +1,13 @@
 -- Of specs/FileCommands.antt: what rests on its other theorems. Assumes nothing.
-use Rattle.std.specs.Prelude.{◌≡◌, refl, ℕ, min, max, ◌+◌, ◌-◌, ◌*◌, ◌≤◌, ◌<◌, Bool, true, false, cond, List, length, drop, get_or, eqb, ltb}
-use Rattle.std.proofs.Common.{sym, ◌∙◌, arith, length-drop, length-take-le, ltb-false, eq-eqb, ne_eqb}
-use Rattle.std.proofs.Math.Path.{ap}
-use Rattle.std.proofs.Math.Decide.{ℕ_discrete}
-use Rattle.lists.specs.declared.Found.{Found}
-use Rattle.lists.specs.declared.Found.TheVariants.{At, Nothing}
+use Rattle.std.specs.Prelude.{◌≡◌, ℕ, List, length}
 use Rattle.records.specs.declared.Open.{Open}
 use Rattle.records.specs.declared.Tables.{Tables}
-use Rattle.records.specs.Change.{raised, changes_of, with_read}
-use Rattle.records.specs.Empty.{no_open, no_file}
-use Rattle.records.specs.Held.{opens_of, with_files}
-use Rattle.locks.specs.declared.types.Ask.{Ask}
-use Rattle.claims.proofs.SoundPlain.{sound-plain}
-use Rattle.claims.specs.RemovalPlain.{CatalogueStands}
-use Rattle.chain.specs.Layout.{WRITE, CORE-WRITE, word_count, block_end, fid_after_andx, offset_low, write_offset_high, data_length, data_offset, first_fid, core_count, core_offset, marked_data}
-use Rattle.chain.specs.Parse.{wide_offset}
-use Rattle.chain.specs.Grammar.{IsBlock, Data, locking-10, locking-20, read-10, read-12, write-12, write-14, close, logoff, tree-disconnect, process-exit, core-read, core-write, lock-byte-range, unlock-byte-range, open-15}
-use Rattle.chain.specs.declared.block.Body.TheVariants.{Write as WriteBody, CoreWrite as CoreWriteBody}
-use Rattle.chain.specs.declared.block.Next.{Next}
-use Rattle.chain.specs.declared.block.ReadFields.{ReadFields}
 use Rattle.chain.specs.declared.block.WriteFields.{WriteFields}
-use Rattle.invariants.specs.BlockParse.{body_at, block_at}
 use Rattle.message.specs.declared.caller.Caller.{Caller}
-use Rattle.message.specs.declared.refusal.Refusal.{Refusal}
-use Rattle.message.specs.declared.refusal.Refusal.TheVariants.{NoAccess, NoSpace}
-use Rattle.message.specs.Contents.{size_of, read_bytes, grown, written, resized, sized_to}
-use Rattle.message.specs.Command.{Given, Said, refused, done, read, wrote, core_read, core_wrote, unless_barred, do_read, writing, ends_past, do_write, core_said, as_core, do_set_size, do_core_write}
-use Rattle.message.specs.Message.{area_of, data_of}
+use Rattle.message.specs.Command.{Said, done, wrote, do_write}
 use Rattle.invariants.specs.Sound.{Good}
-use Rattle.demands.specs.Malformed.{length-area}
-use Rattle.demands.specs.MemorySize.{write-ends}
-use Rattle.demands.specs.Admitted.{Admitted, with-open}
-use Rattle.demands.proofs.Admitted.{admitted-may}
-use Rattle.demands.specs.FileBytes.{Wrote, read_length, read_byte, resized-size, resized-number, resized-others, resized-records, written-nothing, resized-nothing}
-use Rattle.demands.proofs.FileBytes.{written-bytes}
+use Rattle.demands.specs.Admitted.{Admitted}
 use Rattle.demands.proofs.FileCommands.{write-left}
-
 
 module _ (c : Caller) (t : Tables) (memory : List ℕ) (full : length memory ≡ 65536) (g : Good t) {u : Tables} {m : List ℕ} where
   -- "WRITE: 6 words: AndX, count, ..": the count that its reply block says is the one asked for, whether 0 or more

@@ -6,22 +6,21 @@ use Rattle.std.proofs.Common.{eq-eqb, ne_eqb}
 use Rattle.records.specs.declared.Open.{Open}
 use Rattle.records.specs.declared.Tables.{Tables}
 use Rattle.records.specs.Empty.{no_open}
-use Rattle.records.specs.Held.{opens_of, locks_of}
-use Rattle.chain.specs.Layout.{CLOSE, PROCESS_EXIT, LOCKING, READ, WRITE, TREE_DISCONNECT, LOGOFF, CORE-READ, CORE-WRITE, LOCK_BYTE_RANGE, UNLOCK_BYTE_RANGE, OPEN, header_command, FIRST, fid_after_andx, read_max, data_length, first_fid, core_count, core_offset, range_length, range_offset, access_mode}
+use Rattle.records.specs.Held.{opens_of}
+use Rattle.chain.specs.Layout.{CLOSE, PROCESS_EXIT, LOCKING, READ, WRITE, LOGOFF, CORE-READ, CORE-WRITE, LOCK_BYTE_RANGE, UNLOCK_BYTE_RANGE, OPEN, header_command, FIRST, fid_after_andx, first_fid, core_count, access_mode}
 use Rattle.chain.specs.Grammar.{Span, Reading}
 use Rattle.chain.specs.Parse.{wide_offset, range_fields, open_fields}
 use Rattle.chain.specs.declared.block.Body.{Body}
-use Rattle.chain.specs.declared.block.Body.TheVariants.{Locking as LockingBody, Read as ReadBody, Write as WriteBody, Close, Logoff, TreeDisconnect, ProcessExit, CoreRead as CoreReadBody, CoreWrite as CoreWriteBody, LockByteRange, UnlockByteRange, Open as OpenBody}
+use Rattle.chain.specs.declared.block.Body.TheVariants.{Locking as LockingBody, Read as ReadBody, Write as WriteBody, Close, Logoff, ProcessExit, CoreRead as CoreReadBody, CoreWrite as CoreWriteBody, LockByteRange, UnlockByteRange, Open as OpenBody}
 use Rattle.invariants.specs.BlockParse.{body_at}
 use Rattle.invariants.specs.Fit.{Fit}
 use Rattle.message.specs.Caller.{caller_of}
 use Rattle.message.specs.Refusal.{status}
 use Rattle.message.specs.declared.refusal.Status.{Status}
-use Rattle.message.specs.declared.caller.Caller.{Caller}
 use Rattle.message.specs.Command.{do_read, do_write, do_core_write, name_asked, perform}
 use Rattle.message.specs.Message.{area_of, data_of, take-message}
 use Rattle.demands.specs.StatusRead.{status_read}
-use Rattle.demands.specs.LoneLock.{Conflicts, May, InWay, Owner, lower_size, sizes_apart, AnyLock, read-conflict, write-conflict, size-conflict, core-conflict}
+use Rattle.demands.specs.LoneLock.{Conflicts, May, read-conflict, write-conflict, size-conflict, core-conflict}
 use Rattle.demands.proofs.LoneLock.{range-conflict}
 use Rattle.demands.specs.LoneCall.{FirstConflict, locking_fields, locking_area}
 use Rattle.demands.proofs.LoneCall.{first-conflict, first-read-call, first-write-call, one-says}
@@ -31,11 +30,10 @@ use Rattle.demands.specs.CoreReasons.{LockStatus, UnlockStatus}
 use Rattle.demands.specs.OpenReasons.{OpenPermitted, OpenStatus, open_shared}
 use Rattle.demands.proofs.OpenReasons.{opening-given, shared-exact}
 use Rattle.demands.specs.Sharing.{KeptOut}
-use Rattle.demands.specs.CommandReasons.{SessionStatus, TreeStatus, CloseStatus, ReadStatus, WriteStatus, CoreWriteStatus, LockingStatus, Reason}
+use Rattle.demands.specs.CommandReasons.{SessionStatus, CloseStatus, ReadStatus, WriteStatus, CoreWriteStatus, LockingStatus, Reason}
 use Rattle.demands.proofs.ReasonCalls.{call-exact}
-use Rattle.demands.specs.WireFields.{sender_process, read_from, read_fields, write_from, write_fields, core_read_fields, core_write_fields, open_name, FirstBlock, reading-first, one-first, first_body, first-area, first-name}
+use Rattle.demands.specs.WireFields.{read_fields, write_fields, core_read_fields, core_write_fields, open_name, reading-first, first_body, first-area, first-name}
 use Rattle.demands.specs.FirstReadings.{BarsCoreReadOn, BarsCoreWriteOn, BarsRangeOn, BarsReadOn, BarsSizeOn, BarsWriteOn, caller, only}
-
 
 module _ (connection : ℕ) (s : List ℕ) {spans : List Span} (r : Reading s spans) (t : Tables) (memory room : List ℕ) (fit : Fit s t memory room) (o : Open)
     (valid : Admitted (caller_of connection s) t (fid_after_andx s FIRST) o) where

@@ -1,37 +1,21 @@
 -- Of specs/HolderBytes.antt: what rests on its other theorems. Assumes nothing.
-use Rattle.std.specs.Prelude.{◌≡◌, ℕ, zero, suc, ◌+◌, ◌^◌, ◌≤◌, ◌<◌, Bool, true, length}
-use Rattle.std.proofs.Common.{inl, inr, arith}
+use Rattle.std.specs.Prelude.{◌≡◌, ℕ, ◌+◌, ◌^◌, ◌≤◌, true, length}
+use Rattle.std.proofs.Common.{arith}
 use Rattle.std.proofs.Math.Decide.{dec_lt}
-use mathlib.Core.List.Memᴰ.{cases_cons as first-or-later}
-use mathlib.Core.List.Memᴰ.{head as here}
-use mathlib.Core.List.Memᴰ.{tail as there}
-use mathlib.Core.List.{List, Memᴰ as In, map}
-use Rattle.lists.specs.PairLaws.{place_in}
-use Rattle.records.specs.declared.Open.{Open}
-use Rattle.records.specs.declared.Lock.{Lock}
+use mathlib.Core.List.{List}
 use Rattle.records.specs.declared.Tables.{Tables}
-use Rattle.records.specs.Empty.{no_lock}
-use Rattle.records.specs.Held.{locks_of}
-use Rattle.locks.specs.Range.{InRange, Overlap}
-use Rattle.locks.specs.Wire.{ranges_at}
-use Rattle.locks.specs.declared.types.LockRange.{LockRange}
 use Rattle.locks.specs.declared.types.Holder.{Holder}
-use Rattle.chain.specs.declared.block.LockingFields.{LockingFields}
 use Rattle.soundness.specs.Sound.{sound}
 use Rattle.invariants.specs.Sound.{Good}
 use Rattle.invariants.specs.Fit.{take-message-good}
-use Rattle.claims.proofs.SoundPlain.{sound-plain}
 use Rattle.message.specs.declared.caller.Caller.{Caller}
 use Rattle.message.specs.declared.refusal.HeldBy.TheVariants.{Holder as held_by}
-use Rattle.demands.specs.LockWords.{PastEnd}
 use Rattle.demands.specs.HolderExactly.{call}
 use Rattle.demands.proofs.HolderExactly.{held-fit}
-use Rattle.demands.specs.HolderWords.{LockHeld, Stands, first-stands, HeldWhere, one-range, many-ranges}
+use Rattle.demands.specs.HolderWords.{first-stands, HeldWhere, one-range, many-ranges}
 use Rattle.demands.proofs.HolderStands.{holder-exact, where-then}
-use Rattle.demands.specs.HolderOpen.{OwnRange}
 use Rattle.demands.proofs.HolderOpen.{holder-own, holder-listed}
 use Rattle.demands.specs.HolderBytes.{listed-ends, own-ends, stands-ends, stands-some}
-
 
 module _ (t : Tables) (ok : sound t ≡ true) where
   pub held_bytes : {c : Caller} {area : List ℕ} {h : Holder} → HeldWhere c t area h → (1 ≤ h.lock.length) × (h.lock.offset + h.lock.length ≤ 2 ^ 64)

@@ -1,18 +1,16 @@
 -- Of specs/HolderCommand.antt: what rests on its other theorems. Assumes nothing.
-use Rattle.std.specs.Prelude.{◌≡◌, ◌↔◌, ℕ, ◌+◌, ◌*◌, ◌/◌, ◌%◌, ◌<◌, Bool, length, drop, get_or, leb, ltb, eqb}
+use Rattle.std.specs.Prelude.{◌≡◌, ◌↔◌, ℕ, ◌+◌, ◌*◌, ◌/◌, ◌%◌, ◌<◌, Bool, length, drop, get_or, ltb, eqb}
 use Rattle.std.proofs.Math.Path.{refl, sym, ap}
 use Rattle.std.proofs.Common.{◌∙◌}
 use Rattle.std.proofs.Math.Logic.{inl, inr}
 use Rattle.std.proofs.Math.Logic.Iff
 use native.Mathlib.Omega.{arith}
 use Rattle.std.proofs.Math.Bool.{true, false, cond}
-use mathlib.Core.List.{List, Memᴰ as In}
+use mathlib.Core.List.{List}
 use Rattle.std.proofs.Math.Option.{Option, none, some}
 use borrow.Author.Tests.{eqb-true, eqb-false, eq-eqb, ne_eqb}
 use Rattle.lists.specs.Walk.{any}
 use Rattle.lists.specs.Truth.{fails, decided, not-decided-twice}
-use Rattle.lists.specs.declared.Found.{Found}
-use Rattle.lists.specs.declared.Found.TheVariants.{At, Nothing}
 use Rattle.records.specs.declared.Open.{Open}
 use Rattle.records.specs.declared.Lock.{Lock}
 use Rattle.records.specs.declared.Tables.{Tables}
@@ -20,8 +18,7 @@ use Rattle.records.specs.Empty.{no_open}
 use Rattle.records.specs.Held.{opens_of, locks_of}
 use Rattle.locks.specs.Wire.{range_size, small_form}
 use Rattle.locks.specs.Answer.{bars, in_way, answers_for, answers}
-use Rattle.locks.specs.Request.{release_all, Grants, granted, blocked, grant_all, Result, after_grants, range_passes, after_releases, request, settle, locking, holder_at, ranges_of}
-use Rattle.locks.specs.declared.types.Ask.{Ask}
+use Rattle.locks.specs.Request.{release_all, after_grants, range_passes, after_releases, request, settle, locking, ranges_of}
 use Rattle.locks.specs.declared.types.LockRange.{LockRange}
 use Rattle.locks.specs.declared.types.Holder.{Holder}
 use Rattle.locks.specs.declared.types.Purpose.{Purpose}
@@ -42,9 +39,9 @@ use Rattle.message.specs.Refusal.{status, forms_of}
 use Rattle.message.specs.declared.refusal.Status.{Status}
 use Rattle.message.specs.declared.refusal.Refusal.TheVariants.{NoAccess, NoSpace}
 use Rattle.message.specs.declared.refusal.HeldBy.TheVariants.{Holder as held_by}
-use Rattle.message.specs.Command.{Given, refused, done, with_open, served_type, request_of, locking_end, locking_after, do_locking, ask_by, unless_barred, barring, do_read, writing, ends_past, do_write, as_core, range_by, one_range, do_range, between_sizes, do_set_size, do_core_write, perform}
+use Rattle.message.specs.Command.{Given, refused, with_open, served_type, request_of, locking_end, locking_after, do_locking, ask_by, unless_barred, barring, do_read, writing, ends_past, do_write, as_core, range_by, one_range, do_range, between_sizes, do_set_size, do_core_write, perform}
 use Rattle.demands.specs.LoneLock.{held_in, May, lower_size, sizes_apart, shared_in, read-bars, write-bars}
-use Rattle.demands.specs.Admitted.{Admitted, no-session, before-tree, no-tree, NoOpenFor, before-open, no-open, with-open}
+use Rattle.demands.specs.Admitted.{Admitted, NoOpenFor, with-open}
 use Rattle.demands.proofs.Admitted.{admitted-may, open-or, open-given}
 use Rattle.demands.specs.LockWords.{never, Released, Releasing, all-released, one-unnamed, past-means, past_is, Opened}
 use Rattle.demands.proofs.LockWords.{release-means, released-is, released-was}
@@ -52,10 +49,9 @@ use Rattle.demands.specs.WritingReasons.{conflicts-status}
 use Rattle.demands.specs.CommandReasons.{Announced, OnlyTwoBits, served-exact, unlocks_in, locks_in}
 use Rattle.demands.specs.HolderWords.{TransferHeld, ReadHeld, WritingHeld, WriteHeld, SizeHeld, CoreWriteHeld, write-held, size-held, LockHeld, CommandHeld}
 use Rattle.demands.proofs.HolderLone.{range-held}
-use Rattle.demands.specs.HolderWalk.{Way, found_first, first-place, asked-exact}
+use Rattle.demands.specs.HolderWalk.{found_first, first-place}
 use Rattle.demands.proofs.HolderWalk.{blocked-held, held-blocked}
 use Rattle.demands.specs.HolderCommand.{Names, after-unlocks, ask, barred-names, core-names, files, grants-name, open_code, transfer, walked, way-exact}
-
 
 module _ (c : Caller) (t : Tables) (memory : List ℕ) (ok : sound t ≡ true) where
   -- a caller that may not ask is not refused for conflict
@@ -66,7 +62,6 @@ module _ (c : Caller) (t : Tables) (memory : List ℕ) (ok : sound t ≡ true) w
       absurd (open_code no_one (ap (λ (s : Status). s.code) same))
 
   module _ (fid denied : ℕ) (from size : Open → ℕ) (purpose : Purpose) (h : Holder) where
-
     module _ {Clash : Lock → Type 0} (clashes : (o : Open) (l : Lock) → (bars ((ask c t memory ok fid denied from size purpose h) o).purpose ((ask c t memory ok fid denied from size purpose h) o) l ≡ true) ↔ Clash l)
         (asks : (o : Open) (l : Lock) → answers (file_of (opens_of t)) ((ask c t memory ok fid denied from size purpose h) o) l ≡ in_way (file_of (opens_of t)) ((ask c t memory ok fid denied from size purpose h) o) l) (next : Open → Given) (others : (o : Open) → Names (next o) h → ⊥) where
       pub transfer-may : (o : Open) → Admitted c t fid o → (b : Bool) → eqb o.access denied ≡ b → Names (cond b (refused NoAccess) (unless_barred t (barring t ((ask c t memory ok fid denied from size purpose h) o)) (next o))) h

@@ -21,20 +21,19 @@ use Rattle.message.specs.Refusal.{status, holder_of}
 use Rattle.message.specs.declared.refusal.Status.{Status}
 use Rattle.message.specs.declared.refusal.HeldBy.TheVariants.{Holder as held_by}
 use Rattle.message.specs.declared.refusal.Refusal.TheVariants.{}
-use Rattle.message.specs.Command.{Given}
 use Rattle.message.specs.JustOpened.{NOBODY}
-use Rattle.message.specs.Message.{area_of, data_of, Ran, Taken}
+use Rattle.message.specs.Message.{area_of, data_of, Ran}
 use Rattle.invariants.specs.JustOpenedLaws.{meant-nobody}
 use Rattle.demands.specs.Calls.{sentence-answered}
 use Rattle.demands.proofs.MessageReasons.{done-exact}
 use Rattle.demands.specs.LoneLock.{held-refused, Conflicts, Owner, lower_size, sizes_apart, AnyLock}
-use Rattle.demands.specs.LoneCall.{WithinRange, first-given, locking_fields, locking_area}
+use Rattle.demands.specs.LoneCall.{WithinRange, locking_fields, locking_area}
 use Rattle.demands.proofs.LoneCall.{first-conflict, alone-conflict}
 use Rattle.demands.specs.Admitted.{Admitted}
-use Rattle.demands.specs.CommandReasons.{Announced, OnlyTwoBits}
+use Rattle.demands.specs.CommandReasons.{OnlyTwoBits}
 use Rattle.demands.specs.RefusedCall.{step-refused, Untouched}
 use Rattle.demands.proofs.RefusedCall.{short-refusal}
-use Rattle.demands.specs.ChainReasons.{AllAnnounced, next-announced, chained-announced}
+use Rattle.demands.specs.ChainReasons.{chained-announced}
 use Rattle.demands.specs.WireFields.{sender_process, read_from, write_from, core_write_fields, reading-first, one-first, first_body, first-area}
 use Rattle.demands.specs.HolderExactly.{call, holder-answered}
 use Rattle.demands.proofs.HolderExactlyStated.{holder-exactly}
@@ -45,9 +44,7 @@ use Rattle.demands.specs.HolderCommand.{Names}
 use Rattle.demands.proofs.HolderCommand.{perform-held}
 use Rattle.demands.specs.HolderFirst.{FirstMeets, all_first, given}
 
-
 module _ (connection : ℕ) (s : List ℕ) (t : Tables) (memory room : List ℕ) (fit : Fit s t memory room) (h : Holder) where
-
   module _ (b : Block) (bs : List Block) (e : blocks s ≡ some (b ∷ bs)) where
     pub named-given : (g : Holder) → Names (given connection s t memory room fit h b bs e) g → (call connection s t memory room).holder ≡ held_by g
     unfolding holder_of

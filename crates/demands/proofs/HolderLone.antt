@@ -1,31 +1,26 @@
 -- Of specs/HolderLone.antt: what rests on its other theorems. Assumes nothing.
-use Rattle.std.specs.Prelude.{◌≡◌, refl, ◌↔◌, ℕ, ◌+◌, ◌/◌, ◌%◌, ◌^◌, ◌≤◌, ◌<◌, true, false, List, [], ◌∷◌}
-use Rattle.std.proofs.Common.{sym, ◌∙◌, add-zero}
+use Rattle.std.specs.Prelude.{◌≡◌, refl, ◌↔◌, ℕ, ◌+◌, ◌%◌, ◌^◌, ◌≤◌, ◌<◌, true, false, List}
+use Rattle.std.proofs.Common.{◌∙◌, add-zero}
 use native.Mathlib.Omega.{arith}
 use Rattle.records.specs.declared.Open.{Open}
 use Rattle.records.specs.declared.Lock.{Lock}
 use Rattle.records.specs.declared.Tables.{Tables}
-use Rattle.records.specs.Held.{opens_of, locks_of}
-use Rattle.numbers.specs.Column.{fid_of}
+use Rattle.records.specs.Held.{locks_of}
 use Rattle.locks.specs.Wire.{ranges_at, small_form}
-use Rattle.locks.specs.Request.{of_header}
 use Rattle.locks.specs.declared.types.Holder.{Holder}
 use Rattle.soundness.specs.Sound.{sound}
 use Rattle.chain.specs.declared.block.LockingFields.{LockingFields}
 use Rattle.chain.specs.declared.block.WriteFields.{WriteFields}
 use Rattle.chain.specs.declared.block.RangeFields.{RangeFields}
-use Rattle.invariants.specs.Numbered.{numbered-same}
-use Rattle.invariants.specs.SoundParts.{sound-says}
 use Rattle.message.specs.declared.caller.Caller.{Caller}
 use Rattle.message.specs.Command.{range_by, one_range}
-use Rattle.demands.specs.LoneLock.{Owner, lower_size, sizes_apart, AnyLock, core_range, lone_range, shared_in, any-clash, exclusive-way, lone-back}
+use Rattle.demands.specs.LoneLock.{Owner, lower_size, sizes_apart, AnyLock, core_range, lone-back}
 use Rattle.demands.specs.LoneCall.{WithinRange}
 use Rattle.demands.specs.Admitted.{Admitted}
-use Rattle.demands.specs.LockWords.{none-to-release, none-released, PastEnd, one-past, none-to-grant, none-granted}
-use Rattle.demands.specs.CommandReasons.{OnlyTwoBits, ranges_by, locks_in}
+use Rattle.demands.specs.LockWords.{none-to-release, none-released, none-to-grant, none-granted}
+use Rattle.demands.specs.CommandReasons.{OnlyTwoBits}
 use Rattle.demands.specs.HolderWords.{FirstInWay, TransferHeld, CoreWriteHeld, write-held, size-held, LockHeld, RangeLockHeld}
 use Rattle.demands.specs.HolderLone.{LoneHeld, exclusive-first, not-past, of_none, same-open}
-
 
 module _ {c : Caller} {t : Tables} (ok : sound t ≡ true) {fid : ℕ} {o : Open} (a : Admitted c t fid o) where
   pub through-exact : {denied : ℕ} {offset size : Open → ℕ} {Clash : Lock → Type 0} {h : Holder} → (o.access ≡ denied → ⊥)

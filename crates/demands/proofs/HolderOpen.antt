@@ -1,19 +1,16 @@
 -- Of specs/HolderOpen.antt: what rests on its other theorems. Assumes nothing.
-use Rattle.std.specs.Prelude.{◌≡◌, ℕ, ◌+◌, ◌-◌, ◌≤◌, ◌<◌, Bool, length, get_or}
+use Rattle.std.specs.Prelude.{◌≡◌, ℕ, ◌+◌, ◌-◌, ◌≤◌, ◌<◌, length, get_or}
 use Rattle.std.proofs.Common.{sym, ap, ◌∙◌, arith, length-append, get_or-append-add}
-use mathlib.Core.List.{List, [], ◌∷◌, ◌++◌, map, append-nil, append_assoc, Memᴰ as In}
+use mathlib.Core.List.{List, ◌++◌, Memᴰ as In}
 use Rattle.std.proofs.Math.ListN.{get_or-append}
 use Rattle.lists.specs.Members.{map-in}
 use Rattle.lists.specs.PairLaws.{place_in}
-use Rattle.records.specs.declared.Session.{Session}
-use Rattle.records.specs.declared.Open.{Open}
 use Rattle.records.specs.declared.Lock.{Lock}
 use Rattle.records.specs.declared.Tables.{Tables}
 use Rattle.records.specs.Empty.{no_lock}
 use Rattle.records.specs.Held.{sessions_of, opens_of, locks_of}
 use Rattle.numbers.specs.Column.{uid_of, fid_of}
 use Rattle.locks.specs.Request.{lock_of}
-use Rattle.locks.specs.declared.types.LockRange.{LockRange}
 use Rattle.locks.specs.declared.types.Holder.{Holder}
 use Rattle.chain.specs.declared.block.LockingFields.{LockingFields}
 use Rattle.invariants.specs.Numbered.{numbered-same}
@@ -25,14 +22,12 @@ use Rattle.message.specs.declared.caller.Caller.{Caller}
 use Rattle.message.specs.declared.refusal.HeldBy.TheVariants.{Holder as held_by}
 use Rattle.demands.specs.LoneLock.{shared_in}
 use Rattle.demands.proofs.LockWords.{released-was}
-use Rattle.demands.specs.LockWords.{AllGranted, none-to-grant, grant-then}
 use Rattle.demands.specs.CommandReasons.{ranges_by}
 use Rattle.demands.specs.HolderExactly.{call}
 use Rattle.demands.proofs.HolderExactly.{held-fit}
-use Rattle.demands.specs.HolderWords.{LockHeld, HeldWhere, one-range, many-ranges}
+use Rattle.demands.specs.HolderWords.{LockHeld}
 use Rattle.demands.proofs.HolderStands.{holder-exact, where-then}
 use Rattle.demands.specs.HolderOpen.{HolderFound, OwnRange, granted-list, held-open, own, own_range}
-
 
 module _ {c : Caller} {t : Tables} {f : LockingFields} {area : List ℕ} {h : Holder} (r : LockHeld c t f area h) where
   -- "the list as it then stands": those left, and behind them the own earlier ranges

@@ -3,24 +3,22 @@ use Rattle.std.specs.Prelude.{◌≡◌, ◌↔◌, ℕ, ◌+◌}
 use Rattle.std.proofs.Math.Path.{refl, sym, ap}
 use Rattle.std.proofs.Common.{◌∙◌}
 use mathlib.Core.List.{List, [], ◌∷◌, ◌++◌}
-use Rattle.std.proofs.Math.Option.{Option, none, some}
+use Rattle.std.proofs.Math.Option.{some}
 use Rattle.records.specs.declared.Tables.{Tables}
 use Rattle.locks.specs.declared.types.Holder.{Holder}
 use Rattle.chain.specs.Layout.{header_command, FIRST}
 use Rattle.chain.specs.Chain.{blocks}
 use Rattle.chain.specs.declared.block.Block.{Block}
 use Rattle.invariants.specs.Chained.{read-chained}
-use Rattle.invariants.specs.GivenCases.{cond-case}
 use Rattle.invariants.specs.Sound.{Good}
 use Rattle.invariants.specs.Fit.{Fit, fit-answered}
-use Rattle.message.specs.Caller.{caller_of}
 use Rattle.message.specs.declared.caller.Caller.{Caller}
 use Rattle.message.specs.Refusal.{status, holder_of}
 use Rattle.message.specs.declared.refusal.HeldBy.TheVariants.{Holder as held_by}
 use Rattle.message.specs.Command.{Said, Given, refused, done}
 use Rattle.message.specs.JustOpened.{NOBODY, opened_by, body_meant}
 use Rattle.message.specs.Reply.{reply_size}
-use Rattle.message.specs.Message.{area_of, data_of, Ran, after, run, served, only_status, run_chain, answered, Taken, replied}
+use Rattle.message.specs.Message.{area_of, data_of, Ran, after, run, Taken, replied}
 use Rattle.demands.specs.Calls.{sentence-answered}
 use Rattle.demands.specs.RefusedCall.{gives, meant_after, step-done, step-refused, meant-done}
 use Rattle.demands.specs.ChainReasons.{AllAnnounced, none_left, next-announced, chained-announced, refusal-not-zero, left-good, meant-announced}
@@ -33,7 +31,6 @@ use Rattle.demands.specs.HolderCommand.{Names}
 use Rattle.demands.proofs.HolderCommand.{perform-held}
 use Rattle.demands.specs.HolderStands.{Met, MetFrom, PassedUp, Sentenced, answered-sentenced, c}
 use Rattle.demands.specs.HolderStands.{read_as}
-
 
 module _ (c : Caller) (s : List ℕ) where
   -- by what the first gives

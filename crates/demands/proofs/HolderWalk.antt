@@ -1,44 +1,24 @@
 -- Of specs/HolderWalk.antt: what rests on its other theorems. Assumes nothing.
-use Rattle.std.proofs.Math.Path.{◌≡◌, refl, sym, ap}
-use Rattle.std.proofs.Common.{◌∙◌, add-zero, take-append-drop, get_or-take}
-use Rattle.std.specs.Prelude.{◌↔◌, Bool, true, false, ◌&&◌, take, drop, get_or}
-use Prim.Native.Nat.{ℕ, zero, suc, min, ◌+◌, ◌<◌}
+use Rattle.std.proofs.Math.Path.{◌≡◌, refl, ap}
+use Rattle.std.proofs.Common.{add-zero}
+use Rattle.std.specs.Prelude.{Bool, true}
+use Prim.Native.Nat.{ℕ, zero, suc, ◌+◌, ◌<◌}
 use native.Mathlib.Omega.{arith}
-use Rattle.std.proofs.Math.Decide.{dec_lt}
-use mathlib.Core.List.Memᴰ.{append_left as in_front}
 use mathlib.Core.List.{List, [], ◌∷◌, ◌++◌, Memᴰ as In, map}
-use Rattle.std.proofs.Math.ListN.{length, length-take}
-use Rattle.std.proofs.Math.Dec.{eqb}
-use borrow.Author.Tests.{eqb-true, eq-eqb}
 use Rattle.lists.specs.Walk.{found}
-use Rattle.lists.specs.FoundLaws.{first_of, shifted, found-append, found_below}
-use Rattle.lists.specs.PairLaws.{place_in}
-use Rattle.lists.specs.Truth.{both_hold, hold-both, not-decided-twice}
 use Rattle.lists.specs.declared.Found.{Found}
 use Rattle.lists.specs.declared.Found.TheVariants.{At, Nothing}
 use Rattle.records.specs.declared.Open.{Open}
 use Rattle.records.specs.declared.Lock.{Lock}
 use Rattle.records.specs.declared.Tables.{Tables}
-use Rattle.records.specs.Empty.{no_lock}
 use Rattle.records.specs.Held.{opens_of}
-use Rattle.locks.specs.Range.{Overlap, overlaps, overlap-iff}
 use Rattle.locks.specs.Wire.{range_at, ranges_at}
-use Rattle.locks.specs.Answer.{bars, in_way, answers_for, answers}
-use Rattle.locks.specs.Request.{ask_of, lock_of, holder_at, Grants, granted, blocked, after_walk, grant_all, of_header}
-use Rattle.locks.specs.declared.types.Ask.{Ask}
-use Rattle.locks.specs.declared.types.LockRange.{LockRange}
+use Rattle.locks.specs.Request.{holder_at, Grants, blocked, after_walk, grant_all, of_header}
 use Rattle.locks.specs.declared.types.Holder.{Holder}
-use Rattle.locks.specs.declared.types.Purpose.TheVariants.{Grant}
-use Rattle.soundness.specs.File.{file_of}
 use Rattle.soundness.specs.Sound.{sound}
-use Rattle.invariants.specs.SoundParts.{sound-says}
-use Rattle.invariants.specs.FoundFacts.{found-hit, found-miss}
-use Rattle.claims.specs.SoundPlain.{file_of-one}
-use Rattle.demands.specs.LoneLock.{OfFile, InWay, grant-bars}
 use Rattle.demands.specs.LockWords.{AllGranted, none-to-grant, grant-then, Opened, opened-more}
 use Rattle.demands.specs.HolderWords.{FirstInWay, RangeHeld}
 use Rattle.demands.specs.HolderWalk.{files, first-place, found_first, found_none, lock, none_found, range, test, test-exact}
-
 
 module _ (t : Tables) (ok : sound t ≡ true) (o : Open) (fid : ℕ) (there-is : In o (opens_of t)) (of : o.fid ≡ fid) (high : ℕ) (shared large : Bool) (area : List ℕ) where
   -- by what the walk of the first range finds

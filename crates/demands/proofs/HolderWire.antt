@@ -5,7 +5,6 @@ use Rattle.std.proofs.Math.Path.{subst}
 use Rattle.std.proofs.Math.Logic.Iff
 use mathlib.Core.List.{List, Memᴰ as In}
 use borrow.Author.Tests.{eqb-true, eq-eqb}
-use Rattle.records.specs.declared.Open.{Open}
 use Rattle.records.specs.declared.Lock.{Lock}
 use Rattle.records.specs.declared.Tables.{Tables}
 use Rattle.records.specs.Held.{locks_of}
@@ -19,22 +18,19 @@ use Rattle.chain.specs.Parse.{range_fields}
 use Rattle.invariants.specs.BlockParse.{body_at}
 use Rattle.invariants.specs.Fit.{Fit}
 use Rattle.message.specs.Caller.{caller_of}
-use Rattle.demands.specs.Admitted.{Admitted}
 use Rattle.demands.specs.LoneLock.{shared_in}
-use Rattle.demands.specs.LoneCall.{locking_fields, locking_area}
-use Rattle.demands.specs.CommandReasons.{OnlyTwoBits}
+use Rattle.demands.specs.LoneCall.{locking_fields}
 use Rattle.demands.specs.WireFields.{reading-first}
-use Rattle.demands.specs.LockEffects.{RangeOn, GrantedLock, Unlocked, Locked, large, granted-lock, locking-fits, range_in}
+use Rattle.demands.specs.LockEffects.{RangeOn, large, granted-lock, locking-fits, range_in}
 use Rattle.demands.proofs.LockEffects.{range-on, unlocked-from, locked-from}
-use Rattle.demands.specs.LockReasons.{PassesOn, ranges_in_lem}
+use Rattle.demands.specs.LockReasons.{ranges_in_lem}
 use Rattle.demands.proofs.LockReasons.{lock-is, released-from, passes-from, past-from, granted-from}
-use Rattle.demands.specs.HolderWords.{FirstInWay, LockHeld, RangeLockHeld, CommandHeld}
+use Rattle.demands.specs.HolderWords.{FirstInWay, RangeLockHeld, CommandHeld}
 use Rattle.demands.specs.HolderExactly.{call}
 use Rattle.demands.specs.HolderFirst.{FirstMeets}
 use Rattle.demands.proofs.HolderFirst.{first_by}
 use Rattle.demands.proofs.HolderOpen.{holder-own, holder-listed}
 use Rattle.demands.specs.HolderWire.{Fields, LockHeldOn, OwnRangeOn, m, u}
-
 
 module _ (connection : ℕ) (s : List ℕ) (t : Tables) (h : Holder) (fits : (unlock_count s FIRST + lock_count s FIRST) * range_size (large s) ≤ byte_count s FIRST) where
   pub to-wire : (Fields connection s t h fits) → LockHeldOn connection s t h

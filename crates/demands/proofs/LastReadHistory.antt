@@ -3,7 +3,7 @@ use Rattle.std.specs.Prelude.{◌≡◌, ℕ, ◌+◌, ◌*◌, ◌≤◌, ◌<�
 use Rattle.std.proofs.Math.Path.{refl, ap}
 use Rattle.std.proofs.Common.{sym, ◌∙◌, inl, inr}
 use native.Mathlib.Omega.{arith}
-use Rattle.std.proofs.Math.Decide.{ℕ_discrete, dec_lt}
+use Rattle.std.proofs.Math.Decide.{ℕ_discrete}
 use Rattle.std.proofs.Math.Bool.{true, false, cond, not}
 use mathlib.Core.List.{List, [], ◌∷◌, ◌++◌, map, Memᴰ as In}
 use Rattle.std.proofs.Math.Option.{Option, none, some}
@@ -12,39 +12,35 @@ use Rattle.std.proofs.Math.Dec.{ltb}
 use borrow.Author.Tests.{leb-false, ltb-false, eq-eqb, ne_eqb}
 use Rattle.lists.specs.Walk.{found}
 use Rattle.lists.specs.declared.Found.TheVariants.{At}
-use Rattle.lists.specs.Members.{kept-was}
 use Rattle.lists.specs.Truth.{test-cases, not-decided-twice}
 use Rattle.records.specs.declared.Open.{Open}
 use Rattle.records.specs.declared.File.{File}
 use Rattle.records.specs.declared.Tables.{Tables}
-use Rattle.records.specs.Change.{LARGEST, changes_of}
+use Rattle.records.specs.Change.{changes_of}
 use Rattle.records.specs.Empty.{no_open, no_file, no_name}
 use Rattle.records.specs.Held.{opens_of, names_of, with_sessions, with_trees, with_opens, with_files, with_catalogue}
 use Rattle.numbers.specs.Number.{contains}
-use Rattle.numbers.specs.Column.{tid_of, fid_of}
+use Rattle.numbers.specs.Column.{fid_of}
 use Rattle.soundness.specs.File.{file_of}
 use Rattle.soundness.specs.Sound.{sound}
-use Rattle.removal.specs.Removal.{open_stays, remove}
+use Rattle.removal.specs.Removal.{remove}
 use Rattle.removal.specs.declared.Gone.{Gone}
 use Rattle.removal.specs.declared.Gone.TheVariants.{Session as UserGone, Tree as TreeGone, Open as OpenGone, Process as ProcessGone}
 use Rattle.locks.specs.declared.types.Locking.{Locking}
 use Rattle.locks.specs.declared.types.Outcome.{Outcome}
 use Rattle.locks.specs.declared.types.Outcome.TheVariants.{Done, Malformed as BadRanges, NoSuchLock as NoLock, PassesEnd as PastEnd, Conflict as InWay, NoRecord as NoRoom}
-use Rattle.host.specs.declared.answer.Returned.{Returned}
-use Rattle.host.specs.HostCall.{no_tables, refused as host_refused, done as host_done, add_open, load_file, load_memory}
+use Rattle.host.specs.HostCall.{done as host_done, add_open, load_file, load_memory}
 use Rattle.invariants.specs.GivenCases.{cond-case, session-case, tree-case, open-case, barred-case, writing-case, opening-case}
 use Rattle.invariants.specs.HostCases.{add_session-either, add_tree-either, drop_connection-either, end_one-either, set_catalogue-either}
 use Rattle.invariants.specs.Numbered.{one-named}
-use Rattle.invariants.specs.RemovalSound.{trees_left, remove-left, left-opens}
 use Rattle.invariants.specs.Shaped.{opens-with}
-use Rattle.invariants.specs.Sound.{Good, Keeps, keeps-good, perform-keeps, open-hit, open-fid, open-file, changes-most}
+use Rattle.invariants.specs.Sound.{Good, perform-keeps, open-hit, open-fid, open-file}
 use Rattle.invariants.specs.SoundParts.{sound-says}
 use Rattle.invariants.specs.BlockParse.{body_at, block_at}
 use Rattle.invariants.specs.Chained.{Chained, chained-end, chained_more, read-chained}
 use Rattle.claims.specs.HostAnswer.{smallest-new, load_file-refused, load_memory-refused, add_open-refused}
 use Rattle.claims.specs.HostFrames.{add_open-frame, load_file-frame}
 use Rattle.claims.specs.RemovalPlain.{files-stand}
-use Rattle.claims.specs.SoundPlain.{file_of-one}
 use Rattle.claims.specs.AskUnchanged.{UpToDate, ask-stands}
 use Rattle.chain.specs.Layout.{header_command, FIRST}
 use Rattle.chain.specs.Header.{dropped}
@@ -59,12 +55,11 @@ use Rattle.chain.specs.declared.block.Body.{Body}
 use Rattle.chain.specs.declared.block.Body.TheVariants.{Locking as LockingBody, Read as ReadBody, Write as WriteBody, Close, Logoff, TreeDisconnect, ProcessExit, CoreRead as CoreReadBody, CoreWrite as CoreWriteBody, LockByteRange, UnlockByteRange, Open as OpenBody}
 use Rattle.message.specs.Caller.{caller_of}
 use Rattle.message.specs.declared.caller.Caller.{Caller}
-use Rattle.message.specs.declared.refusal.Refusal.{Refusal}
 use Rattle.message.specs.declared.refusal.Refusal.TheVariants.{NoAccess, LockType, NotServed}
-use Rattle.message.specs.Contents.{size_of, contents, grown, written, resized, sized_to}
-use Rattle.message.specs.Command.{Said, wrote, core_wrote, Given, refused, done, is_open, served_type, with_lock_list, locking_end, locking_after, do_locking, do_read, ends_past, do_write, as_core, one_range, do_range, do_set_size, do_core_write, open_by, opened_said, do_open, perform}
+use Rattle.message.specs.Contents.{size_of, grown, written, resized, sized_to}
+use Rattle.message.specs.Command.{Said, wrote, core_wrote, refused, done, is_open, served_type, with_lock_list, locking_end, locking_after, do_locking, do_read, ends_past, do_write, one_range, do_range, do_set_size, do_core_write, open_by, opened_said, do_open, perform}
 use Rattle.message.specs.JustOpened.{NOBODY, opened_by, body_meant}
-use Rattle.message.specs.Message.{Ran, after, after_given, run, served, only_status, run_chain, answered, Taken, not_taken, replied, take-message}
+use Rattle.message.specs.Message.{run, served, only_status, run_chain, answered, Taken, not_taken, replied, take-message}
 use Rattle.message.specs.Refusal.{forms_of}
 use Rattle.demands.proofs.FileBytes.{written-bytes}
 use Rattle.demands.specs.FileBytes.{written-nothing, grown-bytes, resized-nothing, resized-number, resized-changes, resized-others, change-here, sized-changes, sized_same, sized-others, beside}
@@ -73,14 +68,13 @@ use Rattle.demands.specs.OldBytes.{Asked, ask-session, ask-tree, ask-open, ask-l
 use Rattle.demands.specs.Reached.{call-good, call-memory}
 use Rattle.demands.specs.SetSize.{shrunk}
 use Rattle.demands.specs.Shown.{Filled, meant-filled, block-filled}
-use Rattle.demands.specs.LastRead.{LastRead, Reads, Event, nothing, was_read, was-changed, was-opened, event_of, after_event, reads_given, reads_run, reads_chain, reads_message, reads_call, reads_after}
-use Rattle.demands.specs.LastReadKept.{Agrees, Kept, fewer-kept, opened-kept, changed-kept, others-contents}
+use Rattle.demands.specs.LastRead.{Reads, nothing, was_read, was-changed, was-opened, event_of, after_event, reads_run, reads_chain, reads_message, reads_call, reads_after}
+use Rattle.demands.specs.LastReadKept.{Kept, fewer-kept, opened-kept, changed-kept, others-contents}
 use Rattle.demands.proofs.LastReadKept.{read_kept}
 use Rattle.demands.specs.LastReadHistory.{AsItWas, Leaves, ReadAgain, Still, by-changed, core-event, file-named, quiet, refused-still, removed-was, step_kept, still, with-read}
 use Rattle.demands.specs.LastReadHistory.{leaves-done}
 use Rattle.demands.specs.LastReadHistory.{leaves-refused}
 use Rattle.demands.specs.LastReadHistory.{never-read}
-
 
 module _ (t : Tables) (g : Good t) (memory : List ℕ) (full : length memory ≡ 65536) (reads : Reads) (k : Kept t memory reads) where
   pub gone-still : (gone : Gone) {said : Said} → Leaves t memory reads (quiet t g memory full reads k) (done (remove gone t) memory said)

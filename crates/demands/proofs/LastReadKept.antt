@@ -1,37 +1,18 @@
 -- Of specs/LastReadKept.antt: what rests on its other theorems. Assumes nothing.
-use Rattle.std.specs.Prelude.{◌≡◌, ◌⊎◌, ℕ, ◌+◌, ◌*◌, ◌≤◌, ◌<◌, cond, ◌||◌, length, get_or}
-use Rattle.std.proofs.Math.Path.{refl, sym, ap, subst}
-use Rattle.std.proofs.Common.{◌∙◌, inl, inr, arith}
-use Rattle.std.proofs.Math.Decide.{ℕ_discrete, dec_lt}
+use Rattle.std.specs.Prelude.{◌≡◌, ℕ}
+use Rattle.std.proofs.Math.Path.{ap}
+use Rattle.std.proofs.Common.{◌∙◌}
 use Rattle.std.proofs.Math.Bool.{true, false}
-use mathlib.Core.List.Memᴰ.{cases_cons as first-or-later}
-use mathlib.Core.List.Memᴰ.{head as here}
-use mathlib.Core.List.Memᴰ.{tail as there}
-use mathlib.Core.List.{List, [], ◌∷◌, ◌++◌, map, Memᴰ as In}
-use Rattle.std.proofs.Math.Option.{none, some}
-use Rattle.std.proofs.Math.Dec.{eqb}
-use borrow.Author.Tests.{eq-eqb, ne_eqb}
+use mathlib.Core.List.{List, map, Memᴰ as In}
 use Rattle.lists.specs.Members.{map-in}
-use Rattle.lists.specs.Truth.{not-decided-twice}
 use Rattle.records.specs.declared.Open.{Open}
-use Rattle.records.specs.declared.File.{File}
 use Rattle.records.specs.declared.Tables.{Tables}
-use Rattle.records.specs.Change.{LARGEST, raised, changes_of, open_after, noting, with_read}
-use Rattle.records.specs.Empty.{no_file}
-use Rattle.records.specs.Held.{opens_of, with_opens}
-use Rattle.numbers.specs.Column.{fid_of}
-use Rattle.soundness.specs.File.{file_of}
-use Rattle.invariants.specs.Numbered.{numbered-same}
+use Rattle.records.specs.Change.{changes_of, noting}
+use Rattle.records.specs.Held.{opens_of}
 use Rattle.invariants.specs.Shaped.{opens-with}
-use Rattle.invariants.specs.Sound.{Good, changes-most, size-most}
-use Rattle.invariants.specs.SoundParts.{sound-says}
-use Rattle.claims.specs.SoundPlain.{file_of-one}
-use Rattle.claims.proofs.SoundPlain.{sound-plain}
-use Rattle.message.specs.Contents.{size_of, contents}
-use Rattle.demands.specs.FileBytes.{contents-same, file-inside}
-use Rattle.demands.specs.LastRead.{LastRead, Reads, was_read, was-changed, was-opened, read_now, changed_in, after_event}
+use Rattle.invariants.specs.Sound.{Good}
+use Rattle.demands.specs.LastRead.{Reads, was_read, after_event}
 use Rattle.demands.specs.LastReadKept.{Kept, after, noted-kept, noted-unread}
-
 
 module _ (t : Tables) (memory : List ℕ) (g : Good t) (through : Open) (listed : In through (opens_of t)) where
   pub read_kept : {reads : Reads} → Kept t memory reads → Kept (after t memory g through listed) memory (after_event (was_read through.fid) t memory reads)

@@ -1,5 +1,5 @@
 -- Of specs/LockLeaves.antt: what rests on its other theorems. Assumes nothing.
-use Rattle.std.specs.Prelude.{◌≡◌, ℕ, ◌+◌, ◌*◌, ◌/◌, ◌%◌, ◌≤◌, ◌<◌, Bool, true, false, cond, List, [], ◌∷◌, ◌++◌, leb, eqb}
+use Rattle.std.specs.Prelude.{◌≡◌, ℕ, ◌+◌, ◌*◌, ◌/◌, ◌%◌, ◌≤◌, true, List, [], ◌∷◌, ◌++◌, leb, eqb}
 use Rattle.std.proofs.Math.Path.{refl, ap}
 use Rattle.std.proofs.Common.{sym, ◌∙◌, arith, leb-true, eq-eqb}
 use Rattle.std.proofs.Math.Logic.{inl, inr}
@@ -10,28 +10,24 @@ use Rattle.lists.specs.Truth.{decided}
 use Rattle.records.specs.declared.Open.{Open}
 use Rattle.records.specs.declared.Lock.{Lock}
 use Rattle.records.specs.declared.Tables.{Tables}
-use Rattle.records.specs.Held.{opens_of, locks_of, with_locks}
+use Rattle.records.specs.Held.{locks_of, with_locks}
 use Rattle.locks.specs.Wire.{range_size, ranges_at, small_form}
-use Rattle.locks.specs.Request.{lock_of, ranges_of, release_all, Grants, granted, blocked, grant_all, Result, after_grants, range_passes, after_releases, request, settle, locking}
-use Rattle.soundness.specs.File.{file_of}
+use Rattle.locks.specs.Request.{lock_of, ranges_of, release_all, Grants, granted, blocked, grant_all, after_grants, range_passes, after_releases, request, settle, locking}
 use Rattle.soundness.specs.Sound.{sound}
-use Rattle.invariants.specs.Shaped.{locks-with}
 use Rattle.claims.proofs.SoundPlain.{sound-plain}
 use Rattle.chain.specs.declared.block.LockingFields.{LockingFields}
 use Rattle.chain.specs.declared.block.RangeFields.{RangeFields}
 use Rattle.message.specs.declared.caller.Caller.{Caller}
-use Rattle.message.specs.declared.refusal.Refusal.{Refusal}
 use Rattle.message.specs.declared.refusal.Refusal.TheVariants.{LockType}
-use Rattle.message.specs.Command.{Given, Said, locked, plain, refused, done, served_type, request_of, with_lock_list, locking_end, locking_after, do_locking, core_said, range_by, one_range, do_range}
+use Rattle.message.specs.Command.{Said, done, served_type, request_of, with_lock_list, locking_end, locking_after, do_locking, core_said, range_by, one_range, do_range}
 use Rattle.demands.specs.Admitted.{Admitted, with-open}
 use Rattle.demands.proofs.Admitted.{admitted-may}
-use Rattle.demands.specs.LockWords.{never, TakenOut, Released, none-released, one-released, Releasing, all-released, one-unnamed, AllGranted, none-granted, one-granted, Opened, Granting, all-granted, one-blocked}
+use Rattle.demands.specs.LockWords.{never, Released, none-released, one-released, Releasing, all-released, one-unnamed, none-granted, one-granted, Opened, Granting, all-granted, one-blocked}
 use Rattle.demands.proofs.LockWords.{release-means, released-was, grant-means}
-use Rattle.demands.specs.LoneLock.{core_range, BarsRange, shared_in, range_back, exclusive-way}
+use Rattle.demands.specs.LoneLock.{shared_in, range_back, exclusive-way}
 use Rattle.demands.specs.CommandReasons.{unlocks_in, locks_in}
 use Rattle.demands.specs.FileCommands.{as_core_lem}
 use Rattle.demands.specs.LockLeaves.{LocksLeft, RangeLocked, RangeUnlocked, core_lock, ends, file-of, list_left, test-passed}
-
 
 module _ (c : Caller) (t : Tables) (memory : List ℕ) (ok : sound t ≡ true) {u : Tables} {m : List ℕ} {said : Said} (f : LockingFields) (area : List ℕ) (o : Open)
     (a : Admitted c t f.fid o) where

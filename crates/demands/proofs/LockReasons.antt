@@ -2,41 +2,28 @@
 use Rattle.std.specs.Prelude.{◌≡◌, ◌↔◌}
 use Rattle.std.proofs.Common.{sym, ap, ◌∙◌}
 use Rattle.std.proofs.Math.Path.{subst}
-use Rattle.std.proofs.Math.Logic.{inl, inr}
-use Prim.Native.Nat.{ℕ, zero, suc, ◌+◌, ◌*◌, ◌%◌, ◌^◌, ◌≤◌, ◌<◌}
+use Prim.Native.Nat.{ℕ, zero, suc, ◌+◌, ◌*◌, ◌≤◌, ◌<◌}
 use native.Mathlib.Omega.{arith}
-use Rattle.std.proofs.Math.Decide.{ℕ_discrete}
-use mathlib.Core.List.Memᴰ.{cases_cons as first-or-later}
-use mathlib.Core.List.Memᴰ.{head as here}
-use mathlib.Core.List.Memᴰ.{tail as there}
 use mathlib.Core.List.{List, [], ◌∷◌, ◌++◌, Memᴰ as In}
-use Rattle.std.proofs.Math.ListN.{length}
-use Rattle.std.proofs.Math.Dec.{eqb}
-use borrow.Author.Tests.{eqb-true, eq-eqb}
-use Rattle.lists.specs.Truth.{same_truth}
 use Rattle.records.specs.declared.Open.{Open}
 use Rattle.records.specs.declared.Lock.{Lock}
 use Rattle.records.specs.declared.Tables.{Tables}
-use Rattle.records.specs.Held.{locks_of}
 use Rattle.locks.specs.Wire.{range_size, ranges_at}
-use Rattle.locks.specs.Request.{of_header, lock_of}
+use Rattle.locks.specs.Request.{lock_of}
 use Rattle.locks.specs.declared.types.LockRange.{LockRange}
-use Rattle.chain.specs.Layout.{LOCKING, header_command, FIRST, byte_count, fid_after_andx, lock_type, unlock_count, lock_count}
+use Rattle.chain.specs.Layout.{LOCKING, header_command, FIRST, byte_count, fid_after_andx, unlock_count, lock_count}
 use Rattle.chain.specs.Grammar.{Span, Reading}
 use Rattle.invariants.specs.Fit.{Fit}
 use Rattle.message.specs.Caller.{caller_of}
-use Rattle.message.specs.Refusal.{status}
 use Rattle.message.specs.declared.refusal.Status.{Status}
 use Rattle.message.specs.Message.{take-message}
 use Rattle.demands.specs.StatusRead.{status_read}
-use Rattle.demands.specs.Admitted.{Admitted, NoOpenFor}
 use Rattle.demands.specs.LoneLock.{shared_in}
-use Rattle.demands.specs.LoneCall.{FirstConflict, locking_fields}
-use Rattle.demands.proofs.LoneCall.{lone-lock-reading}
+use Rattle.demands.specs.LoneCall.{locking_fields}
 use Rattle.demands.specs.LockWords.{Named, TakenOut, Released, none-to-release, release-then, Unnamed, names-none, later-names-none, PastEnd, AllGranted, none-to-grant, grant-then, OneBlocked, blocked-here, blocked-later}
-use Rattle.demands.specs.CommandReasons.{OnlyTwoBits, LockingStatus, locking-not, locking-type, locking-unnamed, locking-past, locking-blocked, locking-full, locking-done}
-use Rattle.demands.specs.WireFields.{reading-first, one-first}
-use Rattle.demands.specs.LockEffects.{RangeOn, short-range, long-range, GrantedLock, BarsGrant, Unlocked, none-to-unlock, unlock-then, Locked, none-to-lock, lock-then, area, large, range_in, ranges_in, granted-lock, locking-fits}
+use Rattle.demands.specs.CommandReasons.{LockingStatus, locking-not, locking-type, locking-unnamed, locking-past, locking-blocked, locking-full, locking-done}
+use Rattle.demands.specs.WireFields.{one-first}
+use Rattle.demands.specs.LockEffects.{RangeOn, GrantedLock, BarsGrant, Unlocked, none-to-unlock, unlock-then, Locked, none-to-lock, lock-then, area, large, range_in, ranges_in, granted-lock, locking-fits}
 use Rattle.demands.proofs.LockEffects.{range-on, unlocked-from, locked-from}
 use Rattle.demands.proofs.FirstReadings.{locking-exact}
 use Rattle.demands.specs.LockReasons.{LockBlocked, LockingReason, PassesOn, UnlockFails, in-ranges, lock-one, lock_for, m, range-one, ranges_in_lem, u}
@@ -52,9 +39,7 @@ use Rattle.demands.specs.LockReasons.{reason-unnamed}
 use Rattle.demands.specs.LockReasons.{unlock-later}
 use Rattle.demands.specs.LockReasons.{unlock-none}
 
-
 module _ (s : List ℕ) where
-
   module _ (n : ℕ) (fits : n * range_size (large s) ≤ byte_count s FIRST) where
     pub range-is : {k : ℕ} {r : LockRange} → k < n → RangeOn s k r → r ≡ range_in s k
     range-is {k} h on = range-one on (range-on s n fits k h)

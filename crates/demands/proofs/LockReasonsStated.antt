@@ -1,44 +1,27 @@
 -- Of specs/LockReasons.antt: what rests on its other theorems. Assumes nothing.
 use Rattle.std.specs.Prelude.{◌≡◌, ◌↔◌}
-use Rattle.std.proofs.Common.{sym, ap, ◌∙◌}
+use Rattle.std.proofs.Common.{sym}
 use Rattle.std.proofs.Math.Path.{subst}
-use Rattle.std.proofs.Math.Logic.{inl, inr}
-use Prim.Native.Nat.{ℕ, zero, suc, ◌+◌, ◌*◌, ◌%◌, ◌^◌, ◌≤◌, ◌<◌}
+use Prim.Native.Nat.{ℕ, ◌+◌, ◌^◌, ◌≤◌, ◌<◌}
 use native.Mathlib.Omega.{arith}
-use Rattle.std.proofs.Math.Decide.{ℕ_discrete}
-use mathlib.Core.List.Memᴰ.{cases_cons as first-or-later}
-use mathlib.Core.List.Memᴰ.{head as here}
-use mathlib.Core.List.Memᴰ.{tail as there}
-use mathlib.Core.List.{List, [], ◌∷◌, ◌++◌, Memᴰ as In}
-use Rattle.std.proofs.Math.ListN.{length}
-use Rattle.std.proofs.Math.Dec.{eqb}
-use borrow.Author.Tests.{eqb-true, eq-eqb}
-use Rattle.lists.specs.Truth.{same_truth}
+use mathlib.Core.List.{List}
 use Rattle.records.specs.declared.Open.{Open}
 use Rattle.records.specs.declared.Lock.{Lock}
 use Rattle.records.specs.declared.Tables.{Tables}
 use Rattle.records.specs.Held.{locks_of}
-use Rattle.locks.specs.Wire.{range_size, ranges_at}
 use Rattle.locks.specs.Request.{of_header, lock_of}
 use Rattle.locks.specs.declared.types.LockRange.{LockRange}
-use Rattle.chain.specs.Layout.{LOCKING, header_command, FIRST, byte_count, fid_after_andx, lock_type, unlock_count, lock_count}
+use Rattle.chain.specs.Layout.{LOCKING, header_command, FIRST, fid_after_andx, lock_type, unlock_count, lock_count}
 use Rattle.chain.specs.Grammar.{Span, Reading}
 use Rattle.invariants.specs.Fit.{Fit}
 use Rattle.message.specs.Caller.{caller_of}
-use Rattle.message.specs.Refusal.{status}
-use Rattle.message.specs.declared.refusal.Status.{Status}
 use Rattle.message.specs.Message.{take-message}
-use Rattle.demands.specs.StatusRead.{status_read}
-use Rattle.demands.specs.Admitted.{Admitted, NoOpenFor}
-use Rattle.demands.specs.LoneLock.{shared_in}
-use Rattle.demands.specs.LoneCall.{FirstConflict, locking_fields}
+use Rattle.demands.specs.Admitted.{Admitted}
+use Rattle.demands.specs.LoneCall.{FirstConflict}
 use Rattle.demands.proofs.LoneCall.{lone-lock-reading}
-use Rattle.demands.specs.LockWords.{Named, TakenOut, Released, none-to-release, release-then, Unnamed, names-none, later-names-none, PastEnd, AllGranted, none-to-grant, grant-then, OneBlocked, blocked-here, blocked-later}
-use Rattle.demands.specs.CommandReasons.{OnlyTwoBits, LockingStatus, locking-not, locking-type, locking-unnamed, locking-past, locking-blocked, locking-full, locking-done}
-use Rattle.demands.specs.WireFields.{reading-first, one-first}
-use Rattle.demands.specs.LockEffects.{RangeOn, short-range, long-range, GrantedLock, BarsGrant, Unlocked, none-to-unlock, unlock-then, Locked, none-to-lock, lock-then, area, large, range_in, ranges_in, granted-lock, locking-fits}
-use Rattle.demands.proofs.LockEffects.{range-on, unlocked-from, locked-from}
-use Rattle.demands.proofs.FirstReadings.{locking-exact}
+use Rattle.demands.specs.CommandReasons.{OnlyTwoBits}
+use Rattle.demands.specs.WireFields.{reading-first}
+use Rattle.demands.specs.LockEffects.{RangeOn, GrantedLock, BarsGrant, range_in, locking-fits}
 use Rattle.demands.proofs.LockReasons.{lock-is, range-is}
 use Rattle.demands.specs.LockReasons.{lock_for}
 

@@ -1,23 +1,14 @@
 -- Of specs/LockWords.antt: what rests on its other theorems. Assumes nothing.
-use Rattle.std.proofs.Math.Path.{◌≡◌, refl, sym, ap}
-use Rattle.std.proofs.Common.{◌∙◌, length-append}
-use Rattle.std.proofs.Math.Logic.{inl, inr}
-use Prim.Native.Nat.{ℕ, suc, ◌+◌, ◌-◌, ◌^◌, ◌≤◌, ◌<◌}
+use Rattle.std.proofs.Math.Path.{◌≡◌, refl, ap}
+use Rattle.std.proofs.Common.{◌∙◌}
+use Prim.Native.Nat.{ℕ, suc, ◌-◌, ◌≤◌}
 use native.Mathlib.Omega.{arith}
-use Rattle.std.specs.Prelude.{Bool, cond, not, ◌&&◌, length, get_or}
+use Rattle.std.specs.Prelude.{Bool, cond, get_or}
 use Rattle.std.proofs.Math.Bool.{true, false}
-use mathlib.Core.List.Memᴰ.{append_cases as front-or-back}
-use mathlib.Core.List.Memᴰ.{cases_cons as first-or-later}
-use mathlib.Core.List.Memᴰ.{eq_of_singleton as only_one}
-use mathlib.Core.List.Memᴰ.{head as here}
-use mathlib.Core.List.Memᴰ.{tail as there}
 use mathlib.Core.List.{List, [], ◌∷◌, ◌++◌, Memᴰ as In}
 use Rattle.std.proofs.Math.Option.{Option, none, some}
-use Rattle.std.proofs.Math.Dec.{eqb}
-use borrow.Author.Tests.{eqb-true, eq-eqb, ltb-true, lt-ltb, not-true}
-use Rattle.lists.specs.Walk.{any, found_from, found}
-use Rattle.lists.specs.Truth.{both_hold, hold-both, fails, not-decided-twice, not-holds}
-use Rattle.lists.specs.Members.{any-one, one-any}
+use Rattle.lists.specs.Walk.{found_from, found}
+use Rattle.lists.specs.Truth.{fails, not-decided-twice}
 use Rattle.lists.specs.declared.Found.{Found}
 use Rattle.lists.specs.declared.Found.TheVariants.{At, Nothing}
 use Rattle.records.specs.declared.Open.{Open}
@@ -25,16 +16,10 @@ use Rattle.records.specs.declared.Lock.{Lock}
 use Rattle.records.specs.declared.Tables.{Tables}
 use Rattle.records.specs.Empty.{no_lock}
 use Rattle.records.specs.Held.{opens_of}
-use Rattle.locks.specs.Range.{overlaps, passes_end, overlap-iff}
-use Rattle.locks.specs.Answer.{owns, bars, in_way, named, answers_for, answers}
-use Rattle.locks.specs.Request.{ask_of, lock_of, remove_at, after_find, release_all, Grants, granted, blocked, after_walk, grant_all, range_passes}
+use Rattle.locks.specs.Request.{lock_of, remove_at, after_find, release_all, Grants, granted, blocked, after_walk, grant_all}
 use Rattle.locks.specs.declared.types.LockRange.{LockRange}
 use Rattle.locks.specs.declared.types.Holder.{Holder}
-use Rattle.locks.specs.declared.types.Purpose.TheVariants.{Grant, Release}
-use Rattle.soundness.specs.File.{file_of}
 use Rattle.soundness.specs.Sound.{sound}
-use Rattle.invariants.specs.SoundParts.{sound-says}
-use Rattle.claims.specs.SoundPlain.{file_of-one}
 use Rattle.invariants.specs.FoundFacts.{found-hit, found-miss}
 use Rattle.demands.specs.LoneLock.{BarsLock}
 use Rattle.demands.specs.LockWords.{AllGranted, Granting, Named, OneBlocked, Opened, OutFrom, Released, Releasing, TakenOut, Unnamed, bars-is, bars-means, file-of, in-way, named-test, none-blocked, none-unnamed, opened-more, out-named, out-was, out_once, releasing-then, test, test-named}
@@ -52,7 +37,6 @@ use Rattle.demands.specs.LockWords.{one-blocked}
 use Rattle.demands.specs.LockWords.{one-unnamed}
 use Rattle.demands.specs.LockWords.{release-then}
 use Rattle.demands.specs.LockWords.{this-one}
-
 
 module _ (file : ℕ → ℕ) (fid : ℕ) (r : LockRange) where
   pub not_named : (l : Lock) → (test file fid r) l ≡ false → Named fid r l → ⊥
@@ -141,7 +125,6 @@ one-barred (blocked-here bar) = bar
 one-barred (blocked-later free more) = absurd (none-blocked more refl)
 
 module _ (t : Tables) (ok : sound t ≡ true) (o : Open) (fid : ℕ) (there-is : In o (opens_of t)) (of : o.fid ≡ fid) (shared : Bool) where
-
   module _ (r : LockRange) where
     pub found-bars : (list : List Lock) → Opened t list → (k : ℕ) → found (in-way t ok o fid there-is of shared r) list ≡ At k → BarsLock t o list shared r
     found-bars list opened k e = let h = found-hit (in-way t ok o fid there-is of shared r) list k no_lock e in (bars-means t ok o fid there-is of shared r) list opened (get_or list k no_lock) h.listed h.passes

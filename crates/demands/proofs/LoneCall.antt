@@ -1,7 +1,7 @@
 -- Of specs/LoneCall.antt: what rests on its other theorems. Assumes nothing.
-use Rattle.std.specs.Prelude.{◌≡◌, ◌↔◌, ℕ, ◌+◌, ◌*◌, ◌/◌, ◌%◌, ◌^◌, ◌≤◌, take, drop, get_or}
+use Rattle.std.specs.Prelude.{◌≡◌, ◌↔◌, ℕ, ◌+◌, ◌*◌, ◌/◌, ◌%◌, ◌^◌, take, drop, get_or}
 use Rattle.std.proofs.Math.Path.{refl, sym, ap}
-use Rattle.std.proofs.Common.{◌∙◌, arith, length-append, eq-eqb, ne_eqb, le-ltb}
+use Rattle.std.proofs.Common.{◌∙◌, arith, ne_eqb, le-ltb}
 use Rattle.std.proofs.Math.Bool.{false}
 use mathlib.Core.List.{List, [], ◌∷◌}
 use Rattle.std.proofs.Math.Option.{some}
@@ -9,13 +9,13 @@ use Rattle.std.proofs.Math.ListN.{length}
 use Rattle.std.proofs.Math.Dec.{eqb}
 use Rattle.records.specs.declared.Open.{Open}
 use Rattle.records.specs.Empty.{no_open}
-use Rattle.records.specs.Held.{opens_of, locks_of}
+use Rattle.records.specs.Held.{opens_of}
 use Rattle.records.specs.declared.Tables.{Tables}
 use Rattle.locks.specs.Range.{passes_end}
 use Rattle.locks.specs.Wire.{range_size}
 use Rattle.locks.specs.Request.{range_passes}
 use Rattle.chain.specs.Layout.{LOCKING, header_command, FIRST, byte_area, byte_count, fid_after_andx, lock_type, unlock_count, lock_count}
-use Rattle.chain.specs.Grammar.{IsBlock, locking-10, locking-20, read-10, read-12, write-12, write-14, close, logoff, tree-disconnect, process-exit, core-read, core-write, lock-byte-range, unlock-byte-range, open-15, Span, Reading}
+use Rattle.chain.specs.Grammar.{Span, Reading}
 use Rattle.chain.specs.Chain.{blocks}
 use Rattle.chain.specs.declared.block.LockingFields.{LockingFields}
 use Rattle.chain.specs.declared.block.ReadFields.{ReadFields}
@@ -23,25 +23,15 @@ use Rattle.chain.specs.declared.block.WriteFields.{WriteFields}
 use Rattle.chain.specs.declared.block.Body.{Body}
 use Rattle.chain.specs.declared.block.Body.TheVariants.{Locking as LockingBody, Read as ReadBody, Write as WriteBody}
 use Rattle.chain.specs.declared.block.Block.{Block}
-use Rattle.chain.specs.declared.block.Next.{Next}
-use Rattle.chain.specs.declared.block.Next.TheVariants.{End, Follow}
-use Rattle.invariants.specs.BlockParse.{body_at, block_at}
+use Rattle.invariants.specs.BlockParse.{body_at}
 use Rattle.readings.specs.ReaderComplete.{reader-complete}
-use Rattle.invariants.specs.Chained.{Chained, chained-end, chained_more, read-chained}
+use Rattle.invariants.specs.Chained.{read-chained}
 use Rattle.message.specs.Caller.{caller_of}
-use Rattle.message.specs.Refusal.{status, forms_of, status_of}
-use Rattle.message.specs.declared.refusal.Status.{Status}
-use Rattle.message.specs.declared.refusal.Refusal.{Refusal}
-use Rattle.message.specs.declared.refusal.Refusal.TheVariants.{NotServed, NotSentence, NoSession, NoTree, NoOpen, NoAccess, LockType, NoSuchLock, PassesEnd, LockNotGranted, FileLockConflict, NoRecord, NoSpace, OpenMode, BadAccess, NoSuchFile, BadShare, NoFids}
-use Rattle.message.specs.declared.caller.Caller.{Caller}
-use Rattle.message.specs.Command.{Said, locked, logged_off, read, wrote, plain, core_read, core_wrote, opened, Given, refused, done, do_locking, do_read, do_write, perform}
-use Rattle.message.specs.JustOpened.{opened_by, body_meant}
-use Rattle.message.specs.Reply.{reply_block, refused_block, reply_size}
-use Rattle.message.specs.Message.{area_of, data_of, Ran, after, link_to, after_given, run, Taken, take-message}
+use Rattle.message.specs.Refusal.{status}
+use Rattle.message.specs.Command.{Given, do_locking, do_read, do_write, perform}
+use Rattle.message.specs.Message.{area_of, data_of, Ran, run, take-message}
 use Rattle.invariants.specs.JustOpenedLaws.{run-first}
-use Rattle.demands.specs.Malformed.{length-area}
-use Rattle.invariants.specs.ReplySize.{length-block}
-use Rattle.demands.specs.LoneLock.{held_in, held-status, Conflicts, BarsLock, read-conflict, write-conflict, lone_range, shared_in, lock-conflict}
+use Rattle.demands.specs.LoneLock.{held_in, Conflicts, read-conflict, write-conflict, lone_range, lock-conflict}
 use Rattle.demands.specs.Admitted.{Admitted}
 use Rattle.demands.proofs.Admitted.{admitted-may}
 use Rattle.demands.specs.CommandReasons.{BarsRead, BarsWrite, OnlyTwoBits, served-exact}
@@ -50,7 +40,6 @@ use Rattle.demands.specs.StatusRead.{status_read}
 use Rattle.demands.proofs.Calls.{status-call}
 use Rattle.demands.specs.Calls.{sentence-answered, length-call}
 use Rattle.demands.specs.LoneCall.{FirstConflict, LoneInWay, WithinRange, area-first, first-given, first-ran, first_block, given-conflict, locking_area, locking_fields, one-length, run-least}
-
 
 module _ (connection : ℕ) (s : List ℕ) (b : Block) (bs : List Block) (e : blocks s ≡ some (b ∷ bs)) (t : Tables) (memory room : List ℕ) (fit : Fit s t memory room) where
   -- 1/33 in a reply of 35 bytes, header and one refused block, is given exactly if the first command is refused for conflict

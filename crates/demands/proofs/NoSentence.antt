@@ -18,7 +18,6 @@ use Rattle.demands.specs.Calls.{length-call}
 use Rattle.demands.specs.ReplyBytes.{PlainBlock, refused-block}
 use Rattle.demands.specs.RefusedCall.{Untouched}
 
-
 module _ (connection : ℕ) (s : List ℕ) (t : Tables) (memory room : List ℕ) (fit : Fit s t memory room) where
   -- the message is answered with a status alone
   pub only-status : (n : Forms) → answered connection s t memory ≡ only_status n t memory

@@ -1,47 +1,36 @@
 -- Of specs/NtStatus.antt: what rests on its other theorems. Assumes nothing.
-use Rattle.std.specs.Prelude.{◌≡◌, refl, ℕ, ◌+◌, ◌≤◌, ◌↔◌, true, not, ◌||◌, eqb, ltb, List, length, drop}
+use Rattle.std.specs.Prelude.{◌≡◌, refl, ℕ, ◌+◌, ◌≤◌, ◌↔◌, true, not, ◌||◌, eqb, ltb, List, length}
 use Rattle.std.proofs.Common.{sym, ap, ◌∙◌, arith, eqb-true, eq-eqb}
 use Rattle.std.proofs.Math.Option.{Option, none, some}
-use Rattle.std.proofs.Math.ListN.{take}
-use Rattle.lists.specs.Put.{put}
 use Rattle.lists.specs.Truth.{test-cases}
-use Rattle.wire.specs.LittleEndian.{byte_at, le16_at, le32_at}
+use Rattle.wire.specs.LittleEndian.{le32_at}
 use Rattle.records.specs.declared.Tables.{Tables}
 use Rattle.soundness.specs.Sound.{sound}
-use Rattle.chain.specs.Layout.{header_command, block_end}
+use Rattle.chain.specs.Layout.{header_command}
 use Rattle.chain.specs.Grammar.{Span, Reading, Sentence}
 use Rattle.chain.specs.declared.block.Block.{Block}
-use Rattle.chain.specs.Header.{starts_smb, is_reply, dropped}
+use Rattle.chain.specs.Header.{dropped}
 use Rattle.chain.specs.Chain.{blocks}
-use Rattle.invariants.specs.BlockParse.{block_inside}
 use Rattle.invariants.specs.ReaderSound.{reader-sound}
 use Rattle.readings.specs.ReaderComplete.{no-sentence}
 use Rattle.invariants.specs.Fit.{Fit, fit-answered}
-use Rattle.readings.specs.FreeBytes.{AllStand}
 use Rattle.readings.proofs.FreeBytes.{free-reading, all_alike}
-use Rattle.readings.specs.MovedBytes.{part_same}
-use Rattle.message.specs.Refusal.{status, forms_of}
+use Rattle.message.specs.Refusal.{status}
 use Rattle.message.specs.declared.refusal.Status.{Status}
-use Rattle.message.specs.declared.refusal.Forms.{Forms}
-use Rattle.message.specs.declared.refusal.HeldBy.{HeldBy}
-use Rattle.message.specs.declared.refusal.Refusal.TheVariants.{NotServed, NotSentence, NoSession, NoTree, NoOpen, NoAccess, LockType, NoSuchLock, PassesEnd, LockNotGranted, FileLockConflict, NoRecord, NoSpace, OpenMode, BadAccess, NoSuchFile, BadShare, NoFids}
-use Rattle.message.specs.Reply.{two, four, nt_bit, status_number, reply_header}
+use Rattle.message.specs.Reply.{nt_bit, status_number}
 use Rattle.message.specs.Message.{Ran, served, answered, reply_of, Taken, not_taken, replied, take-message}
-use Rattle.claims.specs.YesOrNo.{RanBefore, TakenBefore, header01, untaken, replied_before, take_before}
-use Rattle.claims.specs.BeforeHolder.{blank, ran_without, both-chosen}
+use Rattle.claims.specs.YesOrNo.{RanBefore, TakenBefore, untaken, replied_before, take_before}
+use Rattle.claims.specs.BeforeHolder.{blank, both-chosen}
 use Rattle.claims.proofs.BeforeHolder.{answered-before}
-use Rattle.claims.specs.StatusList.{Ended, all_done, a-refusal, answered-ended, FormsSay}
+use Rattle.claims.specs.StatusList.{answered-ended}
 use Rattle.claims.proofs.StatusList.{ended-says}
 use Rattle.demands.specs.StatusRead.{status_read, succeeded, zero-succeeded, status-replied, zero_number}
-use Rattle.demands.specs.Returned.{two_back}
 use Rattle.demands.specs.Malformed.{malformed-nothing, not-served}
-use Rattle.demands.specs.FreeBytesMessage.{HeaderBut11, sent-answered}
+use Rattle.demands.specs.FreeBytesMessage.{sent-answered}
 use Rattle.demands.specs.Taken.{not_short}
 use Rattle.demands.proofs.Calls.{status-call}
 use Rattle.demands.specs.Calls.{status-number-call, length-call}
-use Rattle.demands.specs.CoreMoved.{stands-in}
 use Rattle.demands.specs.NtStatus.{ButByte11, NtBeside, SameButForm, all-stand, back, before-read, call, dropped-alike, listed-beside, nt-given, room-alike, sender}
-
 
 module _ (connection : ℕ) (s : List ℕ) (t : Tables) (memory room : List ℕ) (fit : Fit s t memory room) where
   -- "and carries" the NTSTATUS beside the class and code that a reader finds

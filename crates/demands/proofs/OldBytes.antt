@@ -8,34 +8,22 @@ use Rattle.std.proofs.Math.Decide.{ℕ_discrete}
 use Rattle.std.proofs.Math.ListN.{length}
 use Rattle.std.proofs.lemmas.List.{length-replicate, get_or-replicate}
 use Rattle.records.specs.declared.File.{File}
-use Rattle.records.specs.declared.Name.{Name}
 use Rattle.records.specs.declared.Tables.{Tables}
 use Rattle.records.specs.Empty.{no_file}
-use Rattle.records.specs.Held.{with_sessions, with_trees, with_opens, with_catalogue}
-use Rattle.host.specs.declared.ending.One.{One}
-use Rattle.host.specs.HostCall.{no_tables, refused as host_refused, done as host_done, add_session, add_tree, add_open, load_file, load_memory, drop_connection, set_catalogue, ask_unchanged, end_one}
-use Rattle.host.specs.declared.answer.Returned.{Returned}
-use Rattle.claims.specs.RemovalPlain.{files-stand}
+use Rattle.host.specs.HostCall.{no_tables, load_file, load_memory}
 use Rattle.claims.specs.HostAnswer.{load_file-refused, load_file-number, load_memory-refused}
 use Rattle.claims.specs.AskUnchanged.{ask-stands}
 use Rattle.claims.specs.LoadBytes.{load_memory-done, load_file-size, load_file-others}
-use Rattle.invariants.specs.HostCases.{load-passed, add_session-either, add_tree-either, add_open-either, drop_connection-either, end_one-either, set_catalogue-either}
+use Rattle.invariants.specs.HostCases.{load-passed}
 use Rattle.invariants.specs.Sound.{Good}
 use Rattle.invariants.specs.Fit.{Fit, take-message-good}
-use Rattle.claims.proofs.SoundPlain.{sound-plain}
 use Rattle.chain.specs.Layout.{FIRST, first_fid, core_offset}
-use Rattle.wire.specs.LittleEndian.{byte_at}
-use Rattle.message.specs.declared.refusal.HeldBy.{HeldBy}
-use Rattle.message.specs.declared.refusal.HeldBy.TheVariants.{Nobody}
 use Rattle.message.specs.Contents.{size_of, contents, read_bytes}
 use Rattle.message.specs.Caller.{caller_of}
-use Rattle.message.specs.Message.{Taken, take-message}
 use Rattle.demands.specs.FileBytes.{contents-byte, read-contents, beside, read_length}
 use Rattle.demands.specs.FileCommands.{WroteFile}
 use Rattle.demands.specs.SetSize.{SizeSet, SetSizeDone}
-use Rattle.demands.specs.WireFields.{read_from}
-use Rattle.demands.specs.Effects.{ReadDone, CoreReadDone}
-use Rattle.demands.specs.Reached.{HostCall, add-session, add-tree, add-open, load, drop as drop-one, end-one, set-catalogue, ask, message, take-message-memory, call-good, start-good, ReachedLending, lending-start, lending-call, lending-reached}
+use Rattle.demands.specs.Reached.{call-good, start-good, ReachedLending, lending-start, lending-call, lending-reached}
 use Rattle.demands.proofs.Reached.{reached-good}
 use Rattle.demands.specs.Shown.{Shown, files-shown}
 use Rattle.demands.proofs.Shown.{bytes-shown, file-shown, take-message-alike}
@@ -49,7 +37,6 @@ use Rattle.demands.specs.OldBytes.{ask-open}
 use Rattle.demands.specs.OldBytes.{ask-session}
 use Rattle.demands.specs.OldBytes.{ask-tree}
 use Rattle.demands.specs.OldBytes.{ask-unchanged}
-
 
 module _ (t : Tables) (memory : List ℕ) (file from to : ℕ) (g : Good t) (full : length memory ≡ 65536) (low : file ≤ 15) where
   -- from the bytes of the file memory, where they lie below the file's size
@@ -87,7 +74,6 @@ cut-then-written {v = v} {file} {k} {n} {m₂ = m₂} cut wrote g full low =
     zero-from v m₂ file k n g full low (omega arith) (λ i h l. wrote.bytes_left.the-zeros (file * 4096 + i) (omega arith) (omega arith))
 
 module _ (t : Tables) (memory : List ℕ) (g : Good t) (connection connection' : ℕ) (s s' room room' : List ℕ) (fit : Fit s t memory room) where
-
   module _ (cut : SetSizeDone (caller_of connection s) t (first_fid s FIRST) (core_offset s FIRST) memory (first t memory g connection connection' s s' room room' fit)) where
     -- the second is one too, through an open of the same file
     pub cut-then-grown-calls : (grows : SetSizeDone (caller_of connection' s') (first t memory g connection connection' s s' room room' fit).tables (first_fid s' FIRST) (core_offset s' FIRST) (first t memory g connection connection' s s' room room' fit).memory (second t memory g connection connection' s s' room room' fit))

@@ -1,47 +1,20 @@
 -- Of specs/OpenChain.antt: what rests on its other theorems. Assumes nothing.
-use Rattle.std.specs.Prelude.{◌≡◌, refl, ℕ, ◌+◌, ◌*◌, ◌%◌, ◌≤◌, ◌<◌, true, take}
-use Rattle.std.proofs.Common.{sym, ap, ◌∙◌, arith, get_or-take, eq-eqb}
+use Rattle.std.specs.Prelude.{◌≡◌, ℕ, ◌+◌, ◌≤◌, ◌<◌}
+use Rattle.std.proofs.Common.{sym, ◌∙◌, arith}
 use Rattle.std.proofs.Math.Decide.{ℕ_discrete}
-use mathlib.Core.List.{List, [], ◌∷◌, ◌++◌, Memᴰ as In}
+use mathlib.Core.List.{List, Memᴰ as In}
 use Rattle.std.proofs.Math.ListN.{length}
-use Rattle.wire.specs.LittleEndian.{byte_at, le16_at}
-use Rattle.records.specs.declared.Open.{Open}
-use Rattle.records.specs.declared.Tables.{Tables}
-use Rattle.lists.specs.Members.{in_map}
-use Rattle.numbers.specs.Column.{fid_of}
-use Rattle.soundness.specs.Sound.{sound}
-use Rattle.chain.specs.Layout.{READ, OPEN, NO_COMMAND, header_command, FIRST, word_count, andx_command, fid_after_andx, open_flags}
-use Rattle.chain.specs.Grammar.{Name, IsBlock, locking-10, locking-20, read-10, read-12, write-12, write-14, close, logoff, tree-disconnect, process-exit, core-read, core-write, lock-byte-range, unlock-byte-range, open-15, MayFollow, locking-read, locking-write, locking-core-read, locking-core-write, read-close, write-write, write_read, write-close, open-read, read-andx, NamedAndx, Span, ReadingFrom, plain_end, andx-end, andx-next, Reading}
-use Rattle.chain.specs.declared.block.Block.{Block}
-use Rattle.chain.specs.declared.block.Body.TheVariants.{Logoff}
-use Rattle.chain.specs.declared.block.Next.TheVariants.{End}
-use Rattle.invariants.specs.BlockParse.{block_inside, block_size, andx-words, plain-not-andx}
+use Rattle.chain.specs.Layout.{READ, header_command, FIRST, word_count, fid_after_andx}
+use Rattle.chain.specs.Grammar.{Span, Reading}
+use Rattle.invariants.specs.BlockParse.{block_inside, block_size, andx-words}
 use Rattle.invariants.specs.ReaderSound.{span_of}
-use Rattle.invariants.specs.Fit.{Fit, fit-answered}
 use Rattle.readings.specs.Moved.{Moved}
 use Rattle.readings.proofs.Moved.{moved-fid}
-use Rattle.invariants.specs.Numbered.{numbered_within}
-use Rattle.invariants.specs.SoundParts.{sound-says}
-use Rattle.message.specs.Refusal.{success, forms_of, holder_of}
-use Rattle.message.specs.declared.caller.Caller.{Caller}
-use Rattle.message.specs.Caller.{caller_of}
-use Rattle.message.specs.Command.{Given, refused, done}
-use Rattle.message.specs.Message.{Ran, after, after_given, link_to, run, answered, reply_of, Taken, take-message}
-use Rattle.message.specs.Reply.{reply_block, refused_block, reply_size}
-use Rattle.message.specs.declared.link.Link.TheVariants.{None as none}
-use Rattle.message.specs.declared.refusal.HeldBy.TheVariants.{Nobody}
-use Rattle.message.specs.JustOpened.{NOBODY, opened_by}
-use Rattle.demands.specs.Admitted.{Admitted}
+use Rattle.message.specs.JustOpened.{NOBODY}
 use Rattle.demands.specs.Alone.{alone-command, alone-moved, length-alone}
-use Rattle.demands.specs.Carrying.{carrying-byte, carried-fid, asks-opened, carrying-named, carrying-other, lone-gives}
-use Rattle.demands.specs.Returned.{returned_fid, reply-returned, reply-none, Silent, silent-said, other-silent}
-use Rattle.demands.specs.CallsOneByOne.{reply_in, reply-read}
-use Rattle.demands.specs.CoreMoved.{Stands, stands-in}
-use Rattle.demands.specs.OpenEffects.{OpenDone}
+use Rattle.demands.specs.Carrying.{carried-fid, asks-opened, carrying-named, carrying-other}
 use Rattle.demands.specs.SpansOneByOne.{alone_span, alone-span, own_span}
-use Rattle.demands.specs.Taken.{not_short}
 use Rattle.demands.specs.OpenChain.{as_block, named, stands}
-
 
 module _ (s : List ℕ) {spans : List Span} (r : Reading s spans) (small : length s ≤ 8192) (x : Span) (i : In x spans) (just : ℕ) where
   pub moved : Moved s x.place (alone_span s x) FIRST x.command

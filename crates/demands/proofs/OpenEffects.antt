@@ -1,24 +1,17 @@
 -- Of specs/OpenEffects.antt: what rests on its other theorems. Assumes nothing.
-use Rattle.std.specs.Prelude.{◌≡◌, refl, ℕ, ◌+◌, ◌/◌, ◌%◌, ◌≤◌, ◌<◌, Bool, true, false, List, [], ◌∷◌, ◌++◌, map, length}
-use Rattle.std.proofs.Common.{sym, ap, ◌∙◌, arith, length-append, eq-eqb, ne_eqb}
+use Rattle.std.specs.Prelude.{◌≡◌, ℕ, ◌+◌, ◌%◌, ◌≤◌, ◌<◌, Bool, true, false, List, [], ◌∷◌, ◌++◌, length}
+use Rattle.std.proofs.Common.{sym, ap, ◌∙◌, arith, eq-eqb, ne_eqb}
 use Rattle.std.proofs.Math.Path.{subst}
 use Rattle.lists.specs.Put.{put}
-use Rattle.wire.specs.LittleEndian.{le16_at}
-use Rattle.records.specs.declared.Open.{Open}
 use Rattle.records.specs.declared.Tables.{Tables}
 use Rattle.records.specs.Held.{opens_of, with_opens}
-use Rattle.numbers.specs.Column.{fid_of}
 use Rattle.soundness.specs.Sound.{sound}
 use Rattle.invariants.specs.SoundParts.{sound-says}
-use Rattle.invariants.specs.Shaped.{opens-with}
 use Rattle.invariants.specs.Sound.{Good, size-most}
 use Rattle.invariants.specs.Fit.{Fit}
 use Rattle.invariants.specs.BlockParse.{body_at}
-use Rattle.claims.specs.RemovalPlain.{FilesStand, CatalogueStands}
-use Rattle.claims.specs.HostAnswer.{NewNumber, smallest-new}
-use Rattle.claims.specs.HostFrames.{SessionsStand, TreesStand, LocksStand}
 use Rattle.claims.specs.Cases.{status_in}
-use Rattle.chain.specs.Layout.{OPEN, header_command, FIRST, open_flags, access_mode}
+use Rattle.chain.specs.Layout.{OPEN, header_command, FIRST, open_flags}
 use Rattle.chain.specs.Grammar.{Span, Reading}
 use Rattle.chain.specs.Parse.{open_fields}
 use Rattle.chain.specs.declared.block.OpenFields.{OpenFields}
@@ -29,17 +22,15 @@ use Rattle.message.specs.Refusal.{status, success}
 use Rattle.message.specs.declared.link.Link.TheVariants.{None as no_link}
 use Rattle.message.specs.Contents.{size_of}
 use Rattle.message.specs.Command.{Said, done, name_asked, open_by, opened_said, do_open, perform}
-use Rattle.message.specs.Reply.{reply_header, reply_block, reply_size}
-use Rattle.message.specs.Message.{area_of, Taken, take-message}
+use Rattle.message.specs.Reply.{reply_header, reply_block}
+use Rattle.message.specs.Message.{area_of, take-message}
 use Rattle.demands.specs.StatusRead.{status_read}
-use Rattle.demands.specs.Sharing.{KeptOut}
-use Rattle.demands.specs.OpenReasons.{OpenPermitted}
 use Rattle.demands.proofs.OpenReasons.{opened-passed, passed_is}
 use Rattle.demands.specs.ReplyBytes.{OpenBlock, open_block}
 use Rattle.demands.specs.DoneCall.{Carried, long-enough}
 use Rattle.demands.specs.CallEffects.{gives-body}
 use Rattle.demands.proofs.CallEffects.{the-command}
-use Rattle.demands.specs.WireFields.{sender_process, open_name, FirstBlock, one-first, first_body, first-name}
+use Rattle.demands.specs.WireFields.{open_name, first_body, first-name}
 use Rattle.demands.specs.OpenEffects.{OpenAdded, OpenDone, OpenLeft, call, caller, only, open-added, said-size}
 
 pub opening-leaves : (c : Caller) (t : Tables) (memory : List ℕ) → sound t ≡ true → (f : OpenFields) (name : List ℕ) {u : Tables} {m : List ℕ} {said : Said}

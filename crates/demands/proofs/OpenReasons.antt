@@ -1,18 +1,16 @@
 -- Of specs/OpenReasons.antt: what rests on its other theorems. Assumes nothing.
-use Rattle.std.specs.Prelude.{◌≡◌, ◌↔◌, ℕ, ◌≤◌, ◌<◌, Bool, false, cond, ◌&&◌, leb, eqb}
+use Rattle.std.specs.Prelude.{◌≡◌, ◌↔◌, ℕ, ◌≤◌, false, cond, leb, eqb}
 use Rattle.std.proofs.Math.Path.{refl, sym, ap}
 use Rattle.std.proofs.Common.{◌∙◌}
 use Rattle.std.proofs.Math.Logic.{inl, inr}
 use native.Mathlib.Omega.{arith}
 use Rattle.std.proofs.Math.Decide.{ℕ_discrete}
 use Rattle.std.proofs.Math.Bool.{true}
-use Rattle.std.proofs.lemmas.Bool.{false≢true}
-use mathlib.Core.List.{List, [], ◌∷◌, ◌++◌, Memᴰ as In}
+use mathlib.Core.List.{List, [], ◌∷◌, ◌++◌}
 use Rattle.std.proofs.Math.ListN.{get_or}
 use borrow.Author.Tests.{leb-true, leb-false, le-leb, lt-leb, eqb-true, eqb-false, eq-eqb, ne_eqb}
 use Rattle.lists.specs.Walk.{any, found}
-use Rattle.lists.specs.Truth.{both_hold, hold-both, fails, decided, not-decided-twice}
-use Rattle.lists.specs.Members.{any-one, one-any}
+use Rattle.lists.specs.Truth.{fails, decided, not-decided-twice}
 use Rattle.lists.specs.PairLaws.{in_place}
 use Rattle.lists.specs.FoundLaws.{found_below}
 use Rattle.lists.specs.declared.Found.{Found}
@@ -23,16 +21,13 @@ use Rattle.records.specs.declared.Tables.{Tables}
 use Rattle.records.specs.Empty.{no_name}
 use Rattle.records.specs.Held.{trees_of, opens_of, names_of, with_opens}
 use Rattle.numbers.specs.Column.{tid_of}
-use Rattle.catalogue.specs.Name.{folded, same_name, name_bytes, is_named}
-use Rattle.soundness.specs.Sound.{sound, holds_open, sharing_ok}
-use Rattle.invariants.specs.RuleLaws.{holds-says}
+use Rattle.catalogue.specs.Name.{same_name, name_bytes, is_named}
+use Rattle.soundness.specs.Sound.{sound}
 use Rattle.invariants.specs.Numbered.{numbered-same}
 use Rattle.invariants.specs.SoundParts.{sound-says}
 use Rattle.invariants.specs.FoundFacts.{found-hit, found-miss}
 use Rattle.invariants.specs.GivenCases.{cond-case}
-use Rattle.claims.specs.SoundPlain.{holds-ok, permits-says}
 use Rattle.claims.proofs.SoundPlain.{sound-plain}
-use Rattle.claims.specs.CataloguePlain.{SameName}
 use Rattle.claims.proofs.CataloguePlain.{same-name-plain}
 use Rattle.claims.specs.HostReasons.{HasTree, HasPermitting, HasReadOnly}
 use Rattle.claims.specs.Cases.{status_in}
@@ -43,8 +38,7 @@ use Rattle.message.specs.declared.refusal.Status.{Status}
 use Rattle.message.specs.declared.refusal.Refusal.TheVariants.{NoAccess, OpenMode, BadAccess, BadShare, NoFids}
 use Rattle.message.specs.Contents.{size_of}
 use Rattle.message.specs.Sharing.{kept_out}
-use Rattle.message.specs.Command.{Given, refused, done, codes_served, open_by, opened_said, open_file, open_named, do_open}
-use Rattle.demands.specs.Admitted.{SessionHere, no-session, NoTreeFor, before-tree, no-tree}
+use Rattle.message.specs.Command.{refused, done, codes_served, open_by, opened_said, open_file, open_named, do_open}
 use Rattle.demands.proofs.Admitted.{tree-or, with-tree, tree-given}
 use Rattle.demands.specs.LoneLock.{some_at}
 use Rattle.demands.specs.Sharing.{KeptOut}
@@ -58,7 +52,6 @@ use Rattle.demands.specs.OpenReasons.{open-unnamed}
 use Rattle.demands.specs.OpenReasons.{open_done}
 use Rattle.demands.specs.OpenReasons.{open_full}
 use Rattle.demands.specs.OpenReasons.{open_shared}
-
 
 module _ (t : Tables) (name : List ℕ) where
   pub none_found : found (is_named name) (names_of t) ≡ Nothing → (file : ℕ) → NamesFile t name file → ⊥

@@ -1,46 +1,24 @@
 -- Of specs/OutOfRange.antt: what rests on its other theorems. Assumes nothing.
-use Rattle.std.specs.Prelude.{◌≡◌, refl, ◌⊎◌, ◌↔◌, ℕ, zero, suc, ◌+◌, ◌*◌, ◌≤◌, ◌<◌, Bool, true, false, length, drop}
-use Rattle.std.proofs.Common.{ap, ◌∙◌, get_or-take, get_or-drop}
+use Rattle.std.specs.Prelude.{◌≡◌, ◌⊎◌, ◌↔◌, ℕ, true}
+use Rattle.std.proofs.Common.{ap, ◌∙◌}
 use Rattle.std.proofs.Math.Logic.{inl, inr, ⊎_elim}
 use native.Mathlib.Omega.{arith}
-use Rattle.std.proofs.Math.Decide.{ℕ_discrete}
-use mathlib.Core.List.{List, map, Memᴰ as In}
-use Rattle.std.proofs.Math.Dec.{leb, eqb}
-use borrow.Author.Tests.{eq-eqb, eqb-true, leb-true, leb-false}
-use Rattle.lists.specs.Walk.{all}
-use Rattle.lists.specs.Truth.{decided, both_hold, fails, not-decided-twice, test-cases}
-use Rattle.lists.specs.Members.{in_map, all-each}
-use Rattle.lists.specs.PairLaws.{place_in}
-use Rattle.records.specs.declared.Open.{Open}
-use Rattle.records.specs.declared.Tables.{Tables}
-use Rattle.records.specs.Held.{sessions_of, trees_of, opens_of}
-use Rattle.numbers.specs.Number.{numbered}
-use Rattle.numbers.specs.Column.{uid_of, tid_of, fid_of}
-use Rattle.soundness.specs.Sound.{sound}
+use mathlib.Core.List.{List}
+use Rattle.lists.specs.Truth.{not-decided-twice, test-cases}
 use Rattle.catalogue.specs.Name.{catalogue_ok}
-use Rattle.host.specs.declared.ending.One.TheVariants.{Session as OneSession, Tree as OneTree, Open as OneOpen}
 use Rattle.host.specs.HostCall.{refused}
 use Rattle.host.specs.declared.answer.Returned.{Returned}
-use Rattle.invariants.specs.Numbered.{numbered_within}
-use Rattle.invariants.specs.SoundParts.{sound-says}
 use Rattle.claims.specs.CataloguePlain.{BrokenRule}
 use Rattle.claims.proofs.CataloguePlain.{catalogue-says, rule-broken}
-use Rattle.claims.proofs.SoundPlain.{sound-plain}
-use Rattle.claims.specs.AskUnchanged.{ask-unknown, ask-given}
-use Rattle.claims.specs.EndOne.{InUse, end-unknown, end_one-given}
-use Rattle.claims.specs.HostReasons.{HasSession, HasTree, tree-range, tree-nobody, open-range, open-nowhere, load-range, set-broken, set-done, add_tree-given, add_open-given, load_file-given}
+use Rattle.claims.specs.HostReasons.{set-broken, set-done}
 use Rattle.claims.proofs.HostReasons.{set_catalogue-given}
-use Rattle.tables.specs.Words.{word, record_at, name_array, name_limits, within, records_fit, in_use, table_fits, in_use_fit, tables_of}
-use Rattle.tables.specs.RecordLaws.{within-holds, within-told, within-each, each_within}
-use Rattle.tables.specs.FitLaws.{all-up_to, up_to-all}
-use Rattle.boundary.specs.Boundary.{ready, number_of, tree_added, open_added, file_loaded, load_number_of, catalogue_set, unchanged_asked, one_ended}
+use Rattle.tables.specs.Words.{word, name_array, name_limits, table_fits, tables_of}
+use Rattle.boundary.specs.Boundary.{ready, number_of, catalogue_set}
 use Rattle.boundary.proofs.BoundaryLaws.{set-core}
 use Rattle.boundary.specs.BoundaryLaws.{set-no-bytes}
 use Rattle.demands.specs.OutOfRange.{NoByte, core-number, no-byte-unfit, ready-says, unfit-no-byte}
 
-
 module _ (given : List ℕ) where
-
   module _ (w : List ℕ) (h : ready w ≡ true) where
     -- "for the catalogue 7: over 16 names, a name of another length, with a zero byte or doubled, a file above 15", and for words that are no bytes
     pub catalogue-range : NoByte given ⊎ BrokenRule (name_array given) (word given 0) → number_of w (catalogue_set w given) ≡ 7

@@ -1,37 +1,27 @@
 -- Of specs/ReasonCalls.antt: what rests on its other theorems. Assumes nothing.
-use Rattle.std.specs.Prelude.{◌≡◌, refl, ◌↔◌, ℕ, ◌/◌, ◌%◌, length}
-use Rattle.std.proofs.Common.{sym, ◌∙◌, arith, eq-eqb, ne_eqb}
+use Rattle.std.specs.Prelude.{◌≡◌, refl, ◌↔◌, ℕ}
+use Rattle.std.proofs.Common.{sym, ◌∙◌}
 use Rattle.std.proofs.Math.Path.{ap}
 use mathlib.Core.List.{List, [], ◌∷◌}
 use Rattle.std.proofs.Math.Option.{some}
 use Rattle.records.specs.declared.Tables.{Tables}
-use Rattle.locks.specs.Wire.{range_size}
-use Rattle.claims.specs.Cases.{status_in}
-use Rattle.chain.specs.Layout.{header_command, FIRST, byte_count, fid_after_andx, lock_type, unlock_count, lock_count}
-use Rattle.chain.specs.Grammar.{IsBlock, locking-10, locking-20, read-10, read-12, write-12, write-14, close, logoff, tree-disconnect, process-exit, core-read, core-write, lock-byte-range, unlock-byte-range, open-15}
+use Rattle.chain.specs.Layout.{header_command, FIRST}
 use Rattle.chain.specs.Chain.{blocks}
-use Rattle.chain.specs.declared.block.LockingFields.{LockingFields}
-use Rattle.chain.specs.declared.block.Body.TheVariants.{Locking as LockingBody}
 use Rattle.chain.specs.declared.block.Block.{Block}
-use Rattle.invariants.specs.BlockParse.{body_at, block_at}
-use Rattle.invariants.specs.Chained.{Chained, chained-end, chained_more, read-chained}
+use Rattle.invariants.specs.Chained.{read-chained}
 use Rattle.message.specs.Caller.{caller_of}
-use Rattle.message.specs.Refusal.{status}
 use Rattle.message.specs.declared.refusal.Status.{Status}
-use Rattle.message.specs.Command.{Given, refused, done, perform}
+use Rattle.message.specs.Command.{perform}
 use Rattle.message.specs.JustOpened.{NOBODY}
-use Rattle.message.specs.Message.{area_of, data_of, Ran, after, after_given, run, run_chain, answered, take-message}
+use Rattle.message.specs.Message.{area_of, data_of, Ran, run, run_chain, answered, take-message}
 use Rattle.invariants.specs.JustOpenedLaws.{run-first}
-use Rattle.demands.specs.Malformed.{length-area}
 use Rattle.demands.specs.OneByOne.{chained-served}
 use Rattle.invariants.specs.Fit.{Fit}
 use Rattle.demands.specs.StatusRead.{status_read}
 use Rattle.demands.proofs.Calls.{status-call}
-use Rattle.demands.specs.LockWords.{never}
-use Rattle.demands.specs.CommandReasons.{Reason, Announced}
+use Rattle.demands.specs.CommandReasons.{Reason}
 use Rattle.demands.proofs.CommandReasons.{perform-exact}
 use Rattle.demands.specs.ReasonCalls.{given-status, one-announced}
-
 
 module _ (connection : ℕ) (s : List ℕ) (b : Block) (e : blocks s ≡ some (b ∷ [])) (t : Tables) (memory room : List ℕ) (fit : Fit s t memory room) where
   -- a message of one command has a status in its reply exactly for its reason

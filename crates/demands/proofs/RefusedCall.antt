@@ -1,13 +1,10 @@
 -- Of specs/RefusedCall.antt: what rests on its other theorems. Assumes nothing.
-use Rattle.std.specs.Prelude.{◌≡◌, ℕ, ◌+◌, ◌≤◌, true, List, [], ◌∷◌, ◌++◌, drop}
+use Rattle.std.specs.Prelude.{◌≡◌, ℕ, ◌+◌, true, List, [], ◌∷◌, drop}
 use Rattle.std.proofs.Math.Path.{refl, ap}
-use Rattle.std.proofs.Common.{sym, ◌∙◌, arith, append_assoc, length-append}
+use Rattle.std.proofs.Common.{sym, ◌∙◌, arith}
 use Rattle.std.proofs.Math.Logic.{inl, inr}
 use Rattle.std.proofs.Math.Option.{Option, none, some}
-use Rattle.std.proofs.Math.ListN.{length, take}
-use Rattle.std.proofs.Math.Seq.{drop-append-add}
-use Rattle.std.proofs.lemmas.List.{drop-append-le}
-use Rattle.lists.specs.Put.{put}
+use Rattle.std.proofs.Math.ListN.{length}
 use Rattle.lists.specs.Truth.{decided}
 use Rattle.records.specs.declared.Tables.{Tables}
 use Rattle.chain.specs.Layout.{header_command, FIRST}
@@ -16,19 +13,18 @@ use Rattle.chain.specs.declared.block.Block.{Block}
 use Rattle.readings.specs.ReaderComplete.{no-sentence}
 use Rattle.message.specs.Caller.{caller_of}
 use Rattle.message.specs.declared.caller.Caller.{Caller}
-use Rattle.message.specs.Refusal.{status, forms_of, status_of, holder_of}
+use Rattle.message.specs.Refusal.{status, status_of, holder_of}
 use Rattle.message.specs.declared.refusal.Refusal.{Refusal}
-use Rattle.message.specs.Command.{Said, Given, refused, done, perform}
-use Rattle.message.specs.JustOpened.{NOBODY, opened_by, body_meant}
-use Rattle.message.specs.Reply.{reply_header, reply_block, refused_block, reply_size}
-use Rattle.message.specs.Message.{area_of, data_of, Ran, after, link_to, after_given, run, served, only_status, answered, reply_of, Taken, replied, take-message}
-use Rattle.invariants.specs.ReplySize.{length-block, length-header}
-use Rattle.invariants.specs.Fit.{Fit, fit-answered}
-use Rattle.demands.specs.Taken.{not_short, malformed-taken, not-served-taken}
+use Rattle.message.specs.Command.{Said, Given, refused, done}
+use Rattle.message.specs.JustOpened.{NOBODY, opened_by}
+use Rattle.message.specs.Reply.{reply_block, refused_block, reply_size}
+use Rattle.message.specs.Message.{Ran, after, link_to, run, served, only_status, Taken, replied, take-message}
+use Rattle.invariants.specs.ReplySize.{length-block}
+use Rattle.invariants.specs.Fit.{Fit}
+use Rattle.demands.specs.Taken.{malformed-taken, not-served-taken}
 use Rattle.demands.specs.StatusRead.{status_read}
 use Rattle.demands.proofs.Calls.{status-call}
-use Rattle.demands.specs.Calls.{sentence-answered, length-call}
-use Rattle.demands.specs.LoneCall.{given-least}
+use Rattle.demands.specs.Calls.{sentence-answered}
 use Rattle.demands.specs.RefusedCall.{RefusedCall, Stopped, Untouched, behind_more, call-block, call-holder, call-memory, call-tables, call_length, gives, meant-done, meant_after, none-front, one-front, run_none, step-done, step-length, step-refused}
 
 -- by what the first gives: it is refused, or a later one

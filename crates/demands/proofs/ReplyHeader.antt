@@ -1,20 +1,10 @@
 -- Of specs/ReplyHeader.antt: what rests on its other theorems. Assumes nothing.
-use Rattle.std.specs.Prelude.{◌≡◌, ℕ, ◌+◌, ◌-◌, ◌*◌, ◌/◌, ◌%◌, ◌≤◌, ◌<◌, false, take, drop, replicate}
-use Rattle.std.proofs.Math.Path.{refl, ap}
-use Rattle.std.proofs.Common.{◌∙◌, get_or-append-add}
-use native.Mathlib.Omega.{arith}
-use mathlib.Core.List.{List, ◌∷◌, ◌++◌}
-use Rattle.std.proofs.Math.ListN.{length, get_or-append, length-append, length-drop}
-use Rattle.std.proofs.Math.Seq.{get_or-take, get_or-drop, length-take-le}
-use Rattle.lists.specs.Put.{put}
-use Rattle.wire.specs.LittleEndian.{byte_at}
+use Rattle.std.specs.Prelude.{ℕ}
+use mathlib.Core.List.{List}
 use Rattle.records.specs.declared.Tables.{Tables}
-use Rattle.message.specs.Refusal.{status}
-use Rattle.message.specs.declared.refusal.Forms.{Forms}
-use Rattle.message.specs.Reply.{two, four, nt_bit, status_number, reply_header}
 use Rattle.message.specs.Message.{answered, reply_of, replied, take-message}
 use Rattle.invariants.specs.Fit.{Fit, fit-answered}
-use Rattle.claims.specs.StatusList.{smb-bytes, answered-ended}
+use Rattle.claims.specs.StatusList.{answered-ended}
 use Rattle.claims.proofs.StatusList.{ended-says}
 use Rattle.demands.specs.Taken.{not_short}
 use Rattle.demands.specs.ReplyHeader.{HeaderOf, header_of}

@@ -1,24 +1,19 @@
 -- Of specs/RoomKept.antt: what rests on its other theorems. Assumes nothing.
-use Rattle.std.specs.Prelude.{◌≡◌, refl, ℕ, ◌+◌, ◌-◌, ◌≤◌, ◌||◌, List, ltb, eqb}
-use Rattle.std.proofs.Common.{sym, ap, ◌∙◌, zero-add, arith, get_or-drop}
+use Rattle.std.specs.Prelude.{ℕ, ◌≤◌, ◌||◌, List, ltb, eqb}
+use Rattle.std.proofs.Common.{arith}
 use Rattle.std.proofs.Math.Bool.{not}
-use Rattle.std.proofs.Math.ListN.{length, drop}
-use Rattle.std.proofs.Math.Seq.{drop-append_seam}
+use Rattle.std.proofs.Math.ListN.{length}
 use borrow.Author.Tests.{ltb-false, not-false}
-use Rattle.lists.specs.Put.{put}
-use Rattle.lists.specs.PutLaws.{length-put}
 use Rattle.lists.specs.Truth.{neither-holds}
-use Rattle.wire.specs.LittleEndian.{byte_at}
 use Rattle.records.specs.declared.Tables.{Tables}
 use Rattle.soundness.specs.Sound.{sound}
 use Rattle.invariants.specs.Shaped.{Shaped}
 use Rattle.chain.specs.Header.{dropped}
-use Rattle.message.specs.Message.{answered, reply_of, Taken, not_taken, replied, take-message}
+use Rattle.message.specs.Message.{answered, reply_of, not_taken, replied, take-message}
 use Rattle.invariants.specs.GivenCases.{cond-case}
 use Rattle.demands.specs.Taken.{not_short, not-long}
 use Rattle.invariants.specs.ReplyRoom.{reply-room}
 use Rattle.demands.specs.RoomKept.{RoomKept, nothing-kept, reply-kept}
-
 
 module _ (connection : ℕ) (s : List ℕ) (t : Tables) (memory room : List ℕ) (arrays : Shaped t) where
   -- and the reply fits, so that the room is as long as before: in tables whose arrays have their room, which the types say of code

@@ -1,20 +1,17 @@
 -- Of specs/SetSize.antt: what rests on its other theorems. Assumes nothing.
-use Rattle.std.specs.Prelude.{◌≡◌, ℕ, ◌+◌, ◌-◌, ◌*◌, ◌≤◌, ◌<◌, List, [], ◌∷◌, ◌++◌, length, take, get_or, set, replicate, ltb}
-use Rattle.std.proofs.Common.{sym, ◌∙◌, inl, inr, arith, length-take, length-append, get_or-take, get_or-append-add, ext_get_or, ltb-true, ltb-false, eq-eqb}
+use Rattle.std.specs.Prelude.{◌≡◌, ℕ, ◌+◌, ◌-◌, ◌*◌, ◌≤◌, ◌<◌, List, [], ◌∷◌, length, take, get_or, replicate, ltb}
+use Rattle.std.proofs.Common.{sym, ◌∙◌, inl, inr, arith, get_or-take, get_or-append-add, ext_get_or, ltb-true, ltb-false, eq-eqb}
 use Rattle.std.proofs.Math.Path.{ap}
 use Rattle.std.proofs.Math.Option.{some}
-use Rattle.std.proofs.lemmas.List.{length-replicate, get_or-replicate}
+use Rattle.std.proofs.lemmas.List.{get_or-replicate}
 use Rattle.std.proofs.Math.ListN.{get_or-append}
 use Rattle.lists.specs.Truth.{decided}
-use Rattle.lists.specs.PutLaws.{put-nothing}
 use Rattle.records.specs.declared.Open.{Open}
 use Rattle.records.specs.declared.File.{File}
 use Rattle.records.specs.declared.Tables.{Tables}
-use Rattle.records.specs.Change.{raised, changes_of}
+use Rattle.records.specs.Change.{changes_of}
 use Rattle.records.specs.Empty.{no_file}
-use Rattle.records.specs.Held.{with_files}
 use Rattle.claims.proofs.SoundPlain.{sound-plain}
-use Rattle.claims.specs.RemovalPlain.{CatalogueStands}
 use Rattle.invariants.specs.SoundParts.{sound-says}
 use Rattle.invariants.specs.Sound.{Good, size-most}
 use Rattle.invariants.specs.Fit.{Fit}
@@ -30,17 +27,15 @@ use Rattle.message.specs.declared.caller.Caller.{Caller}
 use Rattle.message.specs.Refusal.{status}
 use Rattle.message.specs.Contents.{size_of, contents, grown, sized_to}
 use Rattle.message.specs.Command.{Said, done, do_set_size, do_core_write}
-use Rattle.message.specs.Message.{Taken, take-message}
+use Rattle.message.specs.Message.{take-message}
 use Rattle.demands.specs.StatusRead.{status_read}
 use Rattle.demands.specs.Admitted.{Admitted}
-use Rattle.demands.specs.FileBytes.{Grew, contents-byte, contents-length, contents-same, file-inside, grown-bytes, change-here, sized-changes, sized_same, sized-size, sized-others, sized-records}
+use Rattle.demands.specs.FileBytes.{Grew, contents-byte, contents-length, contents-same, file-inside, grown-bytes, change-here, sized-changes, sized_same, sized-others, sized-records}
 use Rattle.demands.specs.FileCommands.{catalogue-kept}
 use Rattle.demands.proofs.FileCommands.{set-size-left}
-use Rattle.demands.specs.ReplyBytes.{CoreWriteBlock}
 use Rattle.demands.proofs.CallEffects.{core-write-done, core-write-open, core-write-reply}
 use Rattle.demands.specs.WireFields.{core_write_fields, one-first, first_body}
 use Rattle.demands.specs.SetSize.{SetSizeDone, SizeSet, filled, filled-length, old-length, shrunk, sized}
-
 
 module _ (t : Tables) (memory : List ℕ) (file size : ℕ) (g : Good t) (full : length memory ≡ 65536) (low : file ≤ 15) (within : size ≤ 4096) where
   pub grew : Grew file (size_of t file) size memory (grown t memory file size)

@@ -1,8 +1,6 @@
 -- Of specs/Sharing.antt: what rests on its other theorems. Assumes nothing.
-use Rattle.std.specs.Prelude.{◌≡◌, refl, ◌↔◌, ℕ, Bool, true, ◌&&◌, ◌||◌, eqb}
+use Rattle.std.specs.Prelude.{◌≡◌, refl, ◌↔◌, ℕ, true, ◌&&◌, ◌||◌, eqb}
 use Rattle.std.proofs.Math.Logic.{inl, inr}
-use Rattle.std.proofs.Common.{arith}
-use mathlib.Core.List.{Memᴰ as In}
 use borrow.Author.Tests.{eqb-true, eq-eqb}
 use Rattle.lists.specs.Walk.{any}
 use Rattle.lists.specs.Members.{any-one, one-any}

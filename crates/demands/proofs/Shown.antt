@@ -1,5 +1,5 @@
 -- Of specs/Shown.antt: what rests on its other theorems. Assumes nothing.
-use Rattle.std.specs.Prelude.{◌≡◌, Bool, true, false, cond, not, ◌||◌, List, [], ◌++◌, drop, get_or, leb, ltb, eqb}
+use Rattle.std.specs.Prelude.{◌≡◌, Bool, true, false, not, ◌||◌, List, [], drop, get_or, leb, ltb, eqb}
 use Rattle.std.proofs.Math.Path.{refl, ap}
 use Rattle.std.proofs.Common.{sym, ◌∙◌, inl, inr, ltb-true, ltb-false, eq-eqb}
 use Prim.Native.Nat.{ℕ, max, ◌+◌, ◌-◌, ◌*◌, ◌≤◌, ◌<◌}
@@ -15,7 +15,7 @@ use Rattle.records.specs.declared.Open.{Open}
 use Rattle.records.specs.declared.File.{File}
 use Rattle.records.specs.declared.Tables.{Tables}
 use Rattle.records.specs.Empty.{no_open, no_name}
-use Rattle.records.specs.Held.{sessions_of, trees_of, opens_of, names_of, with_opens}
+use Rattle.records.specs.Held.{trees_of, opens_of, names_of, with_opens}
 use Rattle.locks.specs.declared.types.Ask.{Ask}
 use Rattle.locks.specs.declared.types.Locking.{Locking}
 use Rattle.locks.specs.declared.types.Outcome.{Outcome}
@@ -27,13 +27,12 @@ use Rattle.removal.specs.Removal.{remove}
 use Rattle.removal.specs.declared.Gone.{Gone}
 use Rattle.claims.specs.RemovalPlain.{files-stand}
 use Rattle.invariants.specs.SoundParts.{sound-says}
-use Rattle.invariants.specs.Sound.{Good, Keeps, keeps-good, perform-keeps, size-most, open-file}
+use Rattle.invariants.specs.Sound.{Good, perform-keeps, size-most, open-file}
 use Rattle.invariants.specs.BlockParse.{body_at, block_at}
 use Rattle.invariants.specs.Chained.{Chained, chained-end, chained_more, read-chained}
 use Rattle.chain.specs.Layout.{header_command, FIRST}
 use Rattle.chain.specs.Header.{dropped}
 use Rattle.chain.specs.Chain.{blocks}
-use Rattle.chain.specs.Grammar.{IsBlock}
 use Rattle.chain.specs.declared.block.LockingFields.{LockingFields}
 use Rattle.chain.specs.declared.block.ReadFields.{ReadFields}
 use Rattle.chain.specs.declared.block.WriteFields.{WriteFields}
@@ -42,24 +41,18 @@ use Rattle.chain.specs.declared.block.OpenFields.{OpenFields}
 use Rattle.chain.specs.declared.block.Body.{Body}
 use Rattle.chain.specs.declared.block.Body.TheVariants.{Locking as LockingBody, Read as ReadBody, Write as WriteBody, Close, Logoff, TreeDisconnect, ProcessExit, CoreRead as CoreReadBody, CoreWrite as CoreWriteBody, LockByteRange, UnlockByteRange, Open as OpenBody}
 use Rattle.chain.specs.declared.block.Block.{Block}
-use Rattle.chain.specs.declared.block.Next.{Next}
 use Rattle.message.specs.Caller.{caller_of}
-use Rattle.message.specs.declared.refusal.Forms.{Forms}
 use Rattle.message.specs.declared.caller.Caller.{Caller}
 use Rattle.message.specs.Refusal.{forms_of}
-use Rattle.message.specs.declared.refusal.Refusal.{Refusal}
-use Rattle.message.specs.declared.refusal.Refusal.TheVariants.{NotServed, NotSentence, NoSession, NoTree, NoAccess, LockType, NoSpace, OpenMode, BadAccess, BadShare, NoFids}
-use Rattle.message.specs.Contents.{size_of, contents, read_bytes, grown, written, resized, sized_to}
-use Rattle.message.specs.Command.{Said, Given, refused, done, is_session, with_session, with_tree, is_open, open_at, with_open, served_type, with_lock_list, locking_end, locking_after, do_locking, unless_barred, barring, do_read, writing, ends_past, do_write, as_core, do_range, do_set_size, do_core_write, codes_served, open_by, open_file, open_named, do_open, perform}
+use Rattle.message.specs.declared.refusal.Refusal.TheVariants.{NotServed, NotSentence, NoTree, NoAccess, LockType, NoSpace, OpenMode, BadAccess, BadShare, NoFids}
+use Rattle.message.specs.Contents.{size_of, read_bytes, grown, written, resized, sized_to}
+use Rattle.message.specs.Command.{Said, Given, refused, done, with_tree, is_open, with_open, served_type, with_lock_list, locking_end, locking_after, do_locking, barring, do_read, writing, ends_past, do_write, do_range, do_set_size, do_core_write, codes_served, open_by, open_file, open_named, do_open, perform}
 use Rattle.message.specs.Sharing.{kept_out}
-use Rattle.message.specs.JustOpened.{NOBODY, opened_by, body_meant}
-use Rattle.message.specs.Reply.{reply_block, reply_size}
-use Rattle.message.specs.Message.{area_of, data_of, Ran, after, link_to, after_given, run, served, only_status, run_chain, answered, reply_of, Taken, not_taken, replied, take-message}
-use Rattle.demands.specs.LockWords.{never}
+use Rattle.message.specs.JustOpened.{NOBODY, body_meant}
+use Rattle.message.specs.Message.{run, served, run_chain, answered, reply_of, not_taken, replied, take-message}
 use Rattle.demands.specs.MemorySize.{write-ends}
-use Rattle.demands.specs.FileBytes.{contents-byte, contents-same, Wrote, grown-bytes, Grew, written-nothing, resized-nothing, sized-size, sized-others, resized-size, resized-others}
+use Rattle.demands.specs.FileBytes.{Wrote, grown-bytes, Grew, written-nothing, resized-nothing, sized-size, sized-others, resized-size, resized-others}
 use Rattle.demands.proofs.FileBytes.{written-bytes}
-use Rattle.demands.specs.FileCommands.{data-counted, core-counted}
 use Rattle.demands.specs.Shown.{Filled, GivenAlike, RanAlike, Shown, TakenAlike, after-alike, barred-alike, block-filled, both_cond, core-alike, files-shown, meant-filled, only-alike, open-at-alike, session-alike, shown-byte, sizes-shown}
 use Rattle.demands.specs.Shown.{both-done}
 use Rattle.demands.specs.Shown.{both-refused}

@@ -5,40 +5,33 @@ use Rattle.std.proofs.Math.Bool.{true}
 use mathlib.Core.List.{List, [], ◌∷◌, ◌++◌, map}
 use Rattle.std.proofs.Math.Option.{some}
 use Rattle.lists.specs.Truth.{decided}
-use Rattle.wire.specs.LittleEndian.{le32_at}
 use Rattle.records.specs.declared.Tables.{Tables}
 use Rattle.chain.specs.Layout.{header_command, FIRST}
 use Rattle.chain.specs.Grammar.{Span, Reading}
 use Rattle.chain.specs.Chain.{blocks}
 use Rattle.chain.specs.declared.block.Block.{Block}
-use Rattle.invariants.specs.BlockParse.{body_at}
 use Rattle.invariants.specs.ReaderSound.{span_of, reader-sound}
 use Rattle.invariants.specs.Chained.{read-chained}
 use Rattle.invariants.specs.Sound.{Good, answered-good}
 use Rattle.invariants.specs.Fit.{Fit}
 use Rattle.readings.specs.ReaderComplete.{reader-complete}
-use Rattle.message.specs.Caller.{caller_of}
 use Rattle.message.specs.Refusal.{status}
 use Rattle.message.specs.declared.refusal.Forms.{Forms}
-use Rattle.message.specs.Message.{Ran, answered, reply_of, take-message}
+use Rattle.message.specs.Message.{answered, reply_of, take-message}
 use Rattle.message.specs.JustOpened.{NOBODY}
 use Rattle.demands.specs.Returned.{returned_fid}
-use Rattle.demands.specs.OneByOne.{own, send_all, compared, one_by_one}
+use Rattle.demands.specs.OneByOne.{own, send_all}
 use Rattle.demands.specs.Taken.{not-long, AllFit, none_left, next_fits, all_fit}
 use Rattle.demands.specs.CallsOneByOne.{carried_out}
 use Rattle.demands.specs.StatusRead.{zero-succeeded, status_read, succeeded}
 use Rattle.demands.proofs.Calls.{status-call}
-use Rattle.demands.specs.LoneCall.{locking_area}
-use Rattle.demands.specs.CommandReasons.{Reason}
-use Rattle.demands.proofs.FirstReadings.{reading-exact}
-use Rattle.demands.specs.SpansOneByOne.{own_span, call_spans}
+use Rattle.demands.specs.SpansOneByOne.{call_spans}
 use Rattle.demands.proofs.SpansOneByOne.{own-span}
-use Rattle.demands.specs.SpansRefused.{sent, calls, returned, last_returned, AllCarried, none-sent, carried-then, RefusedAt, at_first, AllLone, lone-none, lone-then, carried-calls, not-zero, later-just, send-on, send-off}
+use Rattle.demands.specs.SpansRefused.{sent, calls, returned, last_returned, AllCarried, none-sent, carried-then, at_first, AllLone, lone-none, lone-then, carried-calls, not-zero, later-just, send-on, send-off}
 use Rattle.demands.proofs.SpansRefused.{all-lone, carried-succeeds, carried-is, tables-is, memory-is, returned-is}
 use Rattle.demands.specs.SpansFit.{AllSentFit, SentFit}
 use Rattle.demands.specs.SpansFit.{fit_then}
 use Rattle.demands.specs.SpansFit.{no_more}
-
 
 module _ (connection : ℕ) (s small : List ℕ) where
   -- one of the reader's blocks, and those behind it

@@ -1,21 +1,18 @@
 -- Of specs/SpansOneByOne.antt: what rests on its other theorems. Assumes nothing.
-use Rattle.std.specs.Prelude.{◌≡◌, refl, ℕ, ◌-◌, cond, List, [], ◌∷◌, ◌++◌, map, length, take, drop, set}
+use Rattle.std.specs.Prelude.{◌≡◌, refl, ℕ, List, [], ◌∷◌, map, length}
 use Rattle.std.proofs.Common.{ap, ◌∙◌}
 use Rattle.records.specs.declared.Tables.{Tables}
-use Rattle.chain.specs.Layout.{data_offset}
 use Rattle.chain.specs.Grammar.{Span, Reading}
 use Rattle.chain.specs.declared.block.Block.{Block}
 use Rattle.invariants.specs.ReaderSound.{span_of}
 use Rattle.invariants.specs.Sound.{Good}
 use Rattle.invariants.specs.Fit.{Fit}
-use Rattle.message.specs.declared.refusal.HeldBy.TheVariants.{Nobody}
-use Rattle.message.specs.Message.{Taken, take-message}
-use Rattle.demands.specs.Alone.{end_set, data_set, alone_block, alone}
+use Rattle.message.specs.Message.{take-message}
 use Rattle.message.specs.JustOpened.{NOBODY}
 use Rattle.demands.specs.Returned.{returned_fid}
 use Rattle.demands.specs.Carrying.{carrying}
 use Rattle.demands.specs.OneByOne.{own}
-use Rattle.demands.specs.CallsOneByOne.{Calls, reply_in, last_call, call_then, carried_out, call_on, call_all, compared_call}
+use Rattle.demands.specs.CallsOneByOne.{reply_in, call_all, compared_call}
 use Rattle.demands.proofs.Calls.{reading-one-by-one}
 use Rattle.demands.specs.SpansOneByOne.{alone-span, call_span_on, call_spans, own_span, same-on}
 

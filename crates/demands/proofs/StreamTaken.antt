@@ -1,28 +1,19 @@
 -- Of specs/StreamTaken.antt: what rests on its other theorems. Assumes nothing.
-use Rattle.std.specs.Prelude.{◌≡◌, true, length, take, drop}
+use Rattle.std.specs.Prelude.{◌≡◌, true, length}
 use Rattle.std.proofs.Math.Path.{refl, ap}
 use Rattle.std.proofs.Common.{sym, ◌∙◌, arith}
-use Prim.Native.Nat.{ℕ, zero, suc, ◌+◌, ◌≤◌, ◌<◌}
+use Prim.Native.Nat.{ℕ, zero, suc, ◌<◌}
 use mathlib.Core.List.{List, [], ◌∷◌, ◌++◌, flatten}
-use Rattle.records.specs.declared.Tables.{Tables}
-use Rattle.message.specs.declared.refusal.HeldBy.{HeldBy}
-use Rattle.message.specs.Message.{Taken, take-message}
 use Rattle.invariants.specs.Sound.{Good}
-use Rattle.invariants.specs.Fit.{take-message-good}
 use Rattle.stream.specs.declared.state.State.{State}
-use Rattle.stream.specs.declared.reader.Event.{Event}
-use Rattle.stream.specs.declared.reader.Event.TheVariants.{NoMessage, InPiece, InBuffer}
-use Rattle.stream.specs.Stream.{Begins, message, begins, First, wanted, stops, whole, first, Carried, with_message, carried_by, carried, Left, begun, stopped, fed}
-use Rattle.stream.specs.State.{none_begun, state_of, left_of, is_left}
-use Rattle.stream.specs.Reader.{Read, read}
-use Rattle.stream.specs.BeginsLaws.{shown, message-head, judged-message}
-use Rattle.claims.specs.StreamLaws.{whole-seen, whole-size, first-shorter, carried_step}
-use Rattle.claims.specs.StreamCut.{Drained, handed_out, drain_on, drain_within, drained, drained_all, number_of, AllBytes, reader-however-cut}
+use Rattle.stream.specs.Stream.{first, carried, Left, begun, stopped, fed}
+use Rattle.stream.specs.State.{none_begun, left_of, is_left}
+use Rattle.stream.specs.Reader.{read}
+use Rattle.claims.specs.StreamLaws.{first-shorter, carried_step}
+use Rattle.claims.specs.StreamCut.{handed_out, drain_within, drained, drained_all, AllBytes, reader-however-cut}
 use Rattle.claims.proofs.StreamCut.{reader-in-one}
-use Rattle.claims.specs.StreamBack.{AllShort, no-messages, short-one}
-use Rattle.demands.specs.CallsOneByOne.{reply_in}
+use Rattle.claims.specs.StreamBack.{AllShort, no-messages}
 use Rattle.demands.specs.StreamTaken.{AsInOne, Lent, first_short, host_piece, host_pieces, host_within, hosted_then, on-taken, short-by, taken-append, taken-good, taken_all, taken_of}
-
 
 module _ (connection : ℕ) where
   pub within-taken : (calls : ℕ) (state : State) (buffer piece : List ℕ) (l : Lent) → host_within calls connection state buffer piece l ≡ (taken_of connection) (drain_within calls state buffer piece) l

@@ -1,35 +1,11 @@
 -- Of specs/Taken.antt: what rests on its other theorems. Assumes nothing.
-use Rattle.std.specs.Prelude.{◌≡◌, refl, ℕ, ◌+◌, ◌≤◌, ◌<◌, true, false, not, ◌||◌, List, [], ◌∷◌, take, ltb}
-use Rattle.std.proofs.Common.{sym, ap, ◌∙◌}
-use native.Mathlib.Omega.{arith}
-use Rattle.std.proofs.Math.Option.{some}
-use Rattle.std.proofs.Math.ListN.{length}
-use borrow.Author.Tests.{ltb-false, le-ltb}
-use Rattle.lists.specs.Truth.{neither-holds}
-use Rattle.wire.specs.LittleEndian.{byte_at}
+use Rattle.std.specs.Prelude.{◌≡◌, ℕ, List, take}
 use Rattle.records.specs.declared.Tables.{Tables}
-use Rattle.message.specs.Refusal.{forms}
-use Rattle.chain.specs.Layout.{header_command, FIRST, block_end}
-use Rattle.chain.specs.Grammar.{IsBlock, Span, Reading, Sentence}
-use Rattle.chain.specs.Header.{starts_smb, is_reply, dropped}
-use Rattle.chain.specs.Chain.{blocks}
-use Rattle.chain.specs.declared.block.Block.{Block}
-use Rattle.chain.specs.declared.block.Next.{Next}
-use Rattle.chain.specs.declared.block.Next.TheVariants.{End, Follow}
-use Rattle.invariants.specs.BlockParse.{block_at, block_inside, block_size, behind}
-use Rattle.readings.specs.FreeBytes.{AllStand, AllAlike}
+use Rattle.chain.specs.Grammar.{Span, Reading}
+use Rattle.readings.specs.FreeBytes.{AllStand}
 use Rattle.readings.proofs.FreeBytes.{all_alike}
-use Rattle.invariants.specs.Chained.{Chained, chained-end, chained_more, read-chained}
-use Rattle.message.specs.Message.{served, only_status, answered, reply_of, replied, take-message}
-use Rattle.invariants.specs.Fit.{Fit, fit-answered}
-use Rattle.demands.specs.Malformed.{malformed-nothing, not-served}
-use Rattle.demands.specs.FreeBytesMessage.{unread-answered, unread-reply}
-use Rattle.message.specs.JustOpened.{NOBODY}
-use Rattle.demands.specs.Alone.{length-alone}
-use Rattle.demands.specs.Returned.{returned_fid}
-use Rattle.demands.specs.OneByOne.{own, own-header, length-own, own-returned}
-use Rattle.invariants.specs.Sound.{Good, answered-good}
-use Rattle.demands.specs.MemorySize.{answered-memory}
+use Rattle.message.specs.Message.{take-message}
+use Rattle.invariants.specs.Fit.{Fit}
 use Rattle.demands.specs.Taken.{unread-taken}
 
 -- "of two messages fit to be answered, let header, connection, tables and files be equal. If the blocks of a reading of one stand unchanged at the same

@@ -1,26 +1,19 @@
 -- Of specs/WordsNamed.antt: what rests on its other theorems. Assumes nothing.
-use Rattle.std.specs.Prelude.{◌≡◌, true, cond}
+use Rattle.std.specs.Prelude.{◌≡◌, true}
 use Rattle.std.proofs.Math.Path.{sym, ap}
-use Rattle.std.proofs.Common.{◌∙◌, get_or-take, get_or-drop}
+use Rattle.std.proofs.Common.{◌∙◌}
 use Prim.Native.Nat.{ℕ, suc, ◌+◌, ◌*◌, ◌≤◌, ◌<◌}
 use native.Mathlib.Omega.{arith}
 use mathlib.Core.List.{List, [], ◌∷◌, ◌++◌}
 use Rattle.std.proofs.Math.ListN.{length, get_or, length-append, get_or-append}
 use Rattle.std.proofs.Math.Seq.{get_or-append_seam}
-use Rattle.lists.specs.Truth.{both_hold}
 use Rattle.records.specs.Empty.{no_session, no_tree, no_open, no_lock, no_file, no_name}
-use Rattle.records.specs.declared.Session.{Session}
-use Rattle.records.specs.declared.Tree.{Tree}
-use Rattle.records.specs.declared.Open.{Open}
-use Rattle.records.specs.declared.Lock.{Lock}
 use Rattle.records.specs.declared.File.{File}
-use Rattle.records.specs.declared.Name.{Name}
-use Rattle.tables.specs.Words.{word, part, record_at, session_limits, tree_limits, open_limits, lock_limits, name_limits, name_array, table_fits, in_use_fit, tables_of}
+use Rattle.tables.specs.Words.{word, part, name_array, in_use_fit, tables_of}
 use Rattle.tables.specs.PartLaws.{length_part}
 use Rattle.tables.specs.ArrayLaws.{file-at}
 use Rattle.tables.specs.FitLaws.{sessions-faithful, trees-faithful, opens-faithful, locks-faithful, names-faithful}
 use Rattle.demands.specs.WordsNamed.{LockNamed, NameNamed, Named, OpenNamed, SessionNamed, TreeNamed, fits, of-record, of_part}
-
 
 module _ (w : List ℕ) (long : length w ≡ 1605) (e : in_use_fit w ≡ true) where
   pub session-words : (i : ℕ) → i < word w 0 → i < 16 → SessionNamed w i (get_or (tables_of w).sessions i no_session)

@@ -1,16 +1,14 @@
 -- Of specs/WritingReasons.antt: what rests on its other theorems. Assumes nothing.
-use Rattle.std.specs.Prelude.{◌≡◌, refl, ◌⊎◌, ◌↔◌, ℕ, Bool, true, false, cond, List, get_or, eqb}
-use Rattle.std.proofs.Common.{sym, ◌∙◌, arith}
+use Rattle.std.specs.Prelude.{◌≡◌, ◌⊎◌, ◌↔◌, ℕ, Bool, true, false, cond, List, get_or, eqb}
+use Rattle.std.proofs.Common.{sym, ◌∙◌}
 use Rattle.std.proofs.Math.Path.{ap}
 use Rattle.std.proofs.Math.Logic.{inl, inr}
 use borrow.Author.Tests.{eqb-true, eqb-false, eq-eqb, ne_eqb}
 use Rattle.lists.specs.Truth.{decided}
-use Rattle.lists.specs.declared.Found.{Found}
-use Rattle.lists.specs.declared.Found.TheVariants.{At, Nothing}
 use Rattle.records.specs.declared.Open.{Open}
 use Rattle.records.specs.declared.Tables.{Tables}
 use Rattle.records.specs.Empty.{no_open}
-use Rattle.records.specs.Held.{opens_of, locks_of}
+use Rattle.records.specs.Held.{opens_of}
 use Rattle.locks.specs.declared.types.Purpose.TheVariants.{Write as Writing}
 use Rattle.soundness.specs.Sound.{sound}
 use Rattle.claims.specs.Cases.{status_in}
@@ -18,9 +16,9 @@ use Rattle.message.specs.declared.caller.Caller.{Caller}
 use Rattle.message.specs.Refusal.{status, forms_of}
 use Rattle.message.specs.declared.refusal.Status.{Status}
 use Rattle.message.specs.declared.refusal.Refusal.TheVariants.{NoAccess, NoSpace}
-use Rattle.message.specs.Command.{Given, refused, done, ask_by, unless_barred, barring, writing}
-use Rattle.demands.specs.LoneLock.{held_in, nobody-holds, held-status, Conflicts, May, InWay, Owner, writing-conflict as writing-exact}
-use Rattle.demands.specs.Admitted.{Admitted, NoOpenFor, with-open}
+use Rattle.message.specs.Command.{Given, refused, ask_by, unless_barred, barring}
+use Rattle.demands.specs.LoneLock.{May}
+use Rattle.demands.specs.Admitted.{Admitted, with-open}
 use Rattle.demands.proofs.Admitted.{admitted-may, open-or, open-given}
 use Rattle.demands.specs.WritingReasons.{Bars, WritingStatus, a_write, write-ends, write-open}
 use Rattle.demands.specs.WritingReasons.{write-access}
@@ -29,9 +27,7 @@ use Rattle.demands.specs.WritingReasons.{write-not}
 use Rattle.demands.specs.WritingReasons.{write-space}
 use Rattle.demands.specs.WritingReasons.{write_done}
 
-
 module _ (c : Caller) (t : Tables) (memory : List ℕ) (ok : sound t ≡ true) (fid : ℕ) (from size : Open → ℕ) (past : Bool) (next : Open → Given) (zero : (o : Open) → status_in (next o) ≡ status 0 0) where
-
   module _ (k : ℕ) (may : May c t fid k) where
     pub write-refused : eqb (write-open c t memory ok fid from size past next zero k may).access 0 ≡ true → (a_write c t memory ok fid from size past next zero) ≡ refused NoAccess
     write-refused e = with-open c t fid k _ may ∙ rw e

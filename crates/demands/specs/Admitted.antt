@@ -1,13 +1,12 @@
 -- Who may ask, in plain words (document 01, "Refusals on the wire": "2/91 no session of that UID on this connection; 2/5 no tree of that TID and UID; 1/6 no open of
 -- that FID, UID and TID"), in that order. Assumes nothing.
-use Rattle.std.specs.Prelude.{◌≡◌, ◌⊎◌, ℕ, true, false, cond, ◌&&◌, get_or}
+use Rattle.std.specs.Prelude.{◌≡◌, ℕ, true, ◌&&◌, get_or}
 use Rattle.std.proofs.Math.Path.{refl}
-use Rattle.std.proofs.Common.{sym, ◌∙◌, inl, inr}
 use mathlib.Core.List.{Memᴰ as In}
 use Rattle.std.proofs.Math.Dec.{eqb}
 use borrow.Author.Tests.{eqb-true, eq-eqb}
 use Rattle.lists.specs.Walk.{any, found}
-use Rattle.lists.specs.Truth.{both_hold, hold-both, fails, decided, not-decided-twice}
+use Rattle.lists.specs.Truth.{both_hold, hold-both, not-decided-twice}
 use Rattle.lists.specs.Members.{any-one, one-any}
 use Rattle.lists.specs.declared.Found.{Found}
 use Rattle.lists.specs.declared.Found.TheVariants.{At, Nothing}
@@ -15,21 +14,14 @@ use Rattle.records.specs.declared.Session.{Session}
 use Rattle.records.specs.declared.Open.{Open}
 use Rattle.records.specs.declared.Tables.{Tables}
 use Rattle.records.specs.Empty.{no_open}
-use Rattle.records.specs.Held.{sessions_of, trees_of, opens_of}
-use Rattle.numbers.specs.Column.{fid_of}
-use Rattle.soundness.specs.Lookup.{is_tree}
-use Rattle.soundness.specs.Sound.{sound}
-use Rattle.invariants.specs.Numbered.{numbered-same}
-use Rattle.invariants.specs.SoundParts.{sound-says}
-use Rattle.claims.specs.HostReasons.{HasTree, has-tree, tree-found, tree-missing}
-use Rattle.claims.specs.Cases.{status_in}
+use Rattle.records.specs.Held.{sessions_of, opens_of}
+use Rattle.claims.specs.HostReasons.{HasTree}
 use Rattle.message.specs.declared.caller.Caller.{Caller}
-use Rattle.message.specs.Refusal.{status, forms_of}
+use Rattle.message.specs.Refusal.{status}
 use Rattle.message.specs.declared.refusal.Status.{Status}
-use Rattle.message.specs.declared.refusal.Refusal.TheVariants.{NoTree}
-use Rattle.message.specs.Command.{Given, refused, is_session, with_session, with_tree, is_open, open_at, with_open}
+use Rattle.message.specs.Command.{Given, is_session, with_session, with_tree, is_open, open_at, with_open}
 use Rattle.invariants.specs.FoundFacts.{found-hit, found-miss}
-use Rattle.demands.specs.LoneLock.{May, some_at}
+use Rattle.demands.specs.LoneLock.{May}
 
 -- ---- the plain words
 

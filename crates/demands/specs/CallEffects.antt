@@ -1,49 +1,42 @@
 -- What a message of one command that is done gives and leaves, said of the call (document 01, "Locks, reads and writes" and "Reply blocks"; document 02, CR 3).
 -- Assumes nothing.
-use Rattle.std.specs.Prelude.{◌≡◌, List, [], ◌∷◌, ◌++◌, take, drop}
-use Rattle.std.proofs.Common.{sym, ap, ◌∙◌, eq-eqb, ne_eqb}
-use Prim.Native.Nat.{ℕ, min, ◌+◌, ◌-◌, ◌≤◌, ◌<◌}
+use Rattle.std.specs.Prelude.{◌≡◌, List, [], ◌∷◌, take, drop}
+use Rattle.std.proofs.Common.{sym, ap, ◌∙◌}
+use Prim.Native.Nat.{ℕ, ◌+◌, ◌≤◌, ◌<◌}
 use native.Mathlib.Omega.{arith}
 use Rattle.std.proofs.Math.Option.{some}
 use Rattle.std.proofs.Math.ListN.{length}
 use Rattle.std.proofs.Math.Decide.{ℕ_discrete}
-use Rattle.lists.specs.Put.{put}
 use Rattle.wire.specs.LittleEndian.{le16_at}
 use Rattle.records.specs.declared.Open.{Open}
 use Rattle.records.specs.declared.Tables.{Tables}
-use Rattle.removal.specs.Removal.{remove}
-use Rattle.removal.specs.declared.Gone.TheVariants.{Session as UserGone, Tree as TreeGone, Open as OpenGone, Process as ProcessGone}
-use Rattle.claims.specs.RemovalPlain.{Closed, Disconnected, LoggedOff, Exited}
-use Rattle.claims.proofs.RemovalPlain.{close-plain, disconnect-plain, logoff-plain, exit_plain}
 use Rattle.invariants.specs.SoundParts.{sound-says}
 use Rattle.chain.specs.Layout.{header_command, FIRST}
 use Rattle.chain.specs.Chain.{blocks}
 use Rattle.chain.specs.declared.block.ReadFields.{ReadFields}
 use Rattle.chain.specs.declared.block.WriteFields.{WriteFields}
 use Rattle.chain.specs.declared.block.Body.{Body}
-use Rattle.chain.specs.declared.block.Body.TheVariants.{Read as ReadBody, Write as WriteBody, Close, Logoff, TreeDisconnect, ProcessExit, CoreRead as CoreReadBody, CoreWrite as CoreWriteBody}
+use Rattle.chain.specs.declared.block.Body.TheVariants.{Write as WriteBody, CoreWrite as CoreWriteBody}
 use Rattle.chain.specs.declared.block.Block.{Block}
 use Rattle.invariants.specs.BlockParse.{block_at}
 use Rattle.invariants.specs.Chained.{Chained, chained-end, chained_more, read-chained}
 use Rattle.message.specs.Caller.{caller_of}
 use Rattle.message.specs.declared.caller.Caller.{Caller}
-use Rattle.message.specs.Refusal.{status, success}
-use Rattle.message.specs.declared.link.Link.TheVariants.{None as no_link}
-use Rattle.message.specs.Contents.{size_of, read_bytes}
-use Rattle.message.specs.Command.{Said, read, wrote, plain, logged_off, core_read, core_wrote, Given, done, do_read, do_write, as_core, do_set_size, do_core_write, perform}
+use Rattle.message.specs.Refusal.{status}
+use Rattle.message.specs.Contents.{size_of}
+use Rattle.message.specs.Command.{Said, Given, done, perform}
 use Rattle.message.specs.JustOpened.{NOBODY}
-use Rattle.message.specs.Reply.{reply_header, reply_block, reply_size}
 use Rattle.message.specs.Message.{area_of, data_of, Taken, take-message}
 use Rattle.invariants.specs.Sound.{Good, size-most}
 use Rattle.invariants.specs.Fit.{Fit, take-message-good}
 use Rattle.demands.specs.StatusRead.{status_read}
 use Rattle.invariants.specs.JustOpenedLaws.{meant-nobody}
-use Rattle.demands.specs.Remembering.{OnlyRemembers, only-remembers}
-use Rattle.demands.specs.RefusedCall.{gives, Untouched}
+use Rattle.demands.specs.Remembering.{OnlyRemembers}
+use Rattle.demands.specs.RefusedCall.{gives}
 use Rattle.demands.specs.Admitted.{Admitted}
-use Rattle.demands.specs.FileCommands.{Yields, WroteFile, as_core_lem, data-counted, core-counted}
-use Rattle.demands.specs.DoneCall.{Carried, long-enough}
-use Rattle.demands.specs.ReplyBytes.{CoreReadBlock, CoreWriteBlock, read-data, read_length, read-offset, write-count, core-read-block, core-write-block}
+use Rattle.demands.specs.FileCommands.{Yields, WroteFile, data-counted, core-counted}
+use Rattle.demands.specs.DoneCall.{long-enough}
+use Rattle.demands.specs.ReplyBytes.{CoreReadBlock}
 
 -- ---- the plain words
 
@@ -145,5 +138,4 @@ module _ (connection : ℕ) (s : List ℕ) (b : Block) (e : blocks s ≡ some (b
   pub core-filled : (f : WriteFields) → b.body ≡ CoreWriteBody f → length (drop 3 (area_of s b)) ≡ f.count
   unfolding blocks
   core-filled f is = one-filled (read-chained s (header_command s) FIRST (b ∷ []) e) f is
-
   -- ---- the removals

@@ -1,34 +1,27 @@
 -- Demand 3 said of the call itself and of readings: malformed exactly if no sentence, seen in the reply's bytes, and the chain of any reading
 -- sent one to a message. Assumes nothing.
-use Rattle.std.specs.Prelude.{◌≡◌, ◌↔◌, ℕ, ◌+◌, ◌≤◌, true, List, map}
-use Rattle.std.proofs.Common.{sym, ◌∙◌, arith, length-append}
+use Rattle.std.specs.Prelude.{◌≡◌, ℕ, ◌+◌, ◌≤◌, List}
+use Rattle.std.proofs.Common.{◌∙◌, arith, length-append}
 use Rattle.std.proofs.Math.Path.{ap}
 use Rattle.std.proofs.Math.Option.{some}
 use Rattle.std.proofs.Math.ListN.{length}
 use Rattle.wire.specs.LittleEndian.{le32_at}
 use Rattle.records.specs.declared.Tables.{Tables}
 use Rattle.chain.specs.Layout.{header_command, FIRST}
-use Rattle.chain.specs.Grammar.{Span, Reading, Sentence}
 use Rattle.chain.specs.Chain.{blocks}
 use Rattle.chain.specs.declared.block.Block.{Block}
-use Rattle.readings.specs.ReaderComplete.{reader-complete}
-use Rattle.invariants.specs.ReaderSound.{span_of}
 use Rattle.invariants.specs.Chained.{read-chained}
 use Rattle.message.specs.Caller.{caller_of}
-use Rattle.message.specs.Refusal.{status}
 use Rattle.message.specs.JustOpened.{NOBODY}
 use Rattle.message.specs.Reply.{status_number, reply_header}
-use Rattle.message.specs.Message.{run, run_chain, served, answered, reply_of, Taken, replied, take-message}
+use Rattle.message.specs.Message.{run, run_chain, answered, reply_of, Taken, replied, take-message}
 use Rattle.claims.specs.StatusList.{answered-ended}
 use Rattle.claims.proofs.StatusList.{ended-says}
-use Rattle.demands.specs.StatusRead.{status_read, status-number-replied, status-replied}
-use Rattle.demands.specs.Malformed.{malformed}
+use Rattle.demands.specs.StatusRead.{status-number-replied}
 use Rattle.invariants.specs.ReplySize.{length-header}
 use Rattle.demands.specs.OneByOne.{chained-served}
-use Rattle.invariants.specs.Sound.{Good}
 use Rattle.invariants.specs.Fit.{Fit, fit-answered}
 use Rattle.demands.specs.Taken.{not_short}
-use Rattle.demands.specs.CallsOneByOne.{call_all, compared_call}
 
 -- and its number at 5, in the form asked for
 pub status-number-call : (connection : ℕ) (s : List ℕ) (t : Tables) (memory room : List ℕ) → Fit s t memory room

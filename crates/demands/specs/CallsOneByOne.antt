@@ -1,31 +1,23 @@
 -- Demand 3's single claim, said of the calls themselves (document 01, "Sent one to a message" and "Compared"): the chain's call gives the number,
 -- holder, tables, file memory and reply that the calls of its blocks' own messages give. Assumes nothing.
-use Rattle.std.specs.Prelude.{◌≡◌, refl, ℕ, ◌≤◌, Bool, true, false, cond, ◌&&◌, List, [], ◌∷◌, ◌++◌, length, take, set, eqb}
-use Rattle.std.proofs.Common.{sym, ◌∙◌, ap, arith}
+use Rattle.std.specs.Prelude.{◌≡◌, refl, ℕ, Bool, true, false, cond, ◌&&◌, List, [], ◌∷◌, ◌++◌, length, take, set, eqb}
+use Rattle.std.proofs.Common.{sym, ◌∙◌, ap}
 use Rattle.std.proofs.lemmas.Bool.{false≢true}
-use Rattle.std.proofs.Math.Option.{some}
 use Rattle.std.proofs.Math.Seq.{take-append_seam}
 use Rattle.lists.specs.Put.{put}
 use Rattle.records.specs.declared.Tables.{Tables}
 use Rattle.chain.specs.Layout.{header_command, FIRST}
-use Rattle.chain.specs.Chain.{blocks}
 use Rattle.chain.specs.declared.block.Block.{Block}
 use Rattle.message.specs.declared.refusal.Forms.{Forms}
 use Rattle.message.specs.Refusal.{status, success}
 use Rattle.message.specs.declared.refusal.HeldBy.{HeldBy}
 use Rattle.message.specs.declared.refusal.HeldBy.TheVariants.{Nobody}
 use Rattle.message.specs.Message.{Ran, answered, reply_of, Taken, replied, take-message}
-use Rattle.message.specs.JustOpened.{NOBODY}
-use Rattle.claims.specs.StatusList.{answered-ended}
-use Rattle.claims.proofs.StatusList.{ended-says}
-use Rattle.demands.specs.StatusRead.{status_zero, succeeded, status-zero}
+use Rattle.demands.specs.StatusRead.{status_zero, succeeded}
 use Rattle.demands.specs.Returned.{returned_fid}
 use Rattle.demands.specs.HolderBeside.{nobody-exact, answered-beside}
-use Rattle.demands.specs.OneByOne.{Sent, reply_then, send_on, own, send_all, joined, compared, one_by_one}
-use Rattle.demands.specs.OneByOneReply.{last_reply, compared_reply, one-by-one-reply}
-use Rattle.invariants.specs.Sound.{Good}
-use Rattle.invariants.specs.Fit.{Fit, fit-answered}
-use Rattle.demands.specs.Taken.{not-long, AllFit, none_left, next_fits, all_fit}
+use Rattle.demands.specs.OneByOne.{Sent, reply_then, own, joined}
+use Rattle.demands.specs.OneByOneReply.{last_reply}
 
 -- what the calls give: the last one's number, holder, tables and file memory, and the replies in turn
 pub record Calls : Type 0 where

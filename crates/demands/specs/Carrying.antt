@@ -1,6 +1,6 @@
 -- Document 02, CR 6: "for 0xFFFF, and only then, demand 3's separate READ carries the FID returned": the message that a block makes of its own, with that FID, and what it
 -- gives. Assumes nothing.
-use Rattle.std.specs.Prelude.{◌≡◌, refl, ℕ, ◌+◌, ◌*◌, ◌/◌, ◌%◌, ◌≤◌, ◌<◌, Bool, true, false, cond, ◌&&◌, List, [], ◌∷◌, take, drop, set, eqb}
+use Rattle.std.specs.Prelude.{◌≡◌, refl, ℕ, ◌+◌, ◌*◌, ◌/◌, ◌%◌, ◌≤◌, ◌<◌, Bool, true, false, cond, ◌&&◌, List, [], ◌∷◌, set, eqb}
 use Rattle.std.proofs.Math.Path.{sym}
 use Rattle.std.proofs.Common.{ap, ◌∙◌, arith, length-set}
 use Rattle.std.proofs.Math.Bool.{and-false}
@@ -11,22 +11,19 @@ use borrow.Author.Tests.{eqb-true, eq-eqb, ne_eqb}
 use Rattle.lists.specs.Truth.{both_hold, hold-both, test-cases}
 use Rattle.wire.specs.LittleEndian.{byte_at, le16_at, le32_at}
 use Rattle.records.specs.declared.Tables.{Tables}
-use Rattle.chain.specs.Layout.{READ, NO_COMMAND, header_command, FIRST, word_count, byte_area, byte_count, block_end, andx_command, fid_after_andx, offset_low, read_max, read_offset_high, data_length, data_offset}
+use Rattle.chain.specs.Layout.{READ, NO_COMMAND, header_command, FIRST, word_count, byte_count, block_end, andx_command, fid_after_andx, data_length, data_offset}
 use Rattle.chain.specs.Grammar.{Bare, IsBlock, locking-10, locking-20, read-10, read-12, write-12, write-14, close, logoff, tree-disconnect, process-exit, core-read, core-write, lock-byte-range, unlock-byte-range, open-15, NamedAndx, locking-andx, read-andx, write-andx, logoff-andx, open-andx, close-plain, tree-disconnect-plain, process-exit-plain, core-read-plain, core-write-plain, lock-byte-range-plain, unlock-byte-range-plain}
-use Rattle.chain.specs.Parse.{wide_offset}
 use Rattle.chain.specs.Chain.{blocks}
 use Rattle.chain.specs.ChainLaws.{chain-end}
-use Rattle.chain.specs.declared.block.Body.{Body}
-use Rattle.chain.specs.declared.block.Body.TheVariants.{Read}
 use Rattle.chain.specs.declared.block.Next.TheVariants.{End}
 use Rattle.invariants.specs.BlockTests.{Served, plain as plain_served, andx as andx_served}
-use Rattle.invariants.specs.BlockParse.{body_at, block_at, block-served, block_inside, parse-complete}
+use Rattle.invariants.specs.BlockParse.{body_at, block_at, block-served, parse-complete}
 use Rattle.invariants.specs.JustOpenedLaws.{meant-nobody}
 use Rattle.readings.specs.Alone.{alone-link}
 use Rattle.readings.specs.MovedBytes.{part, area_at}
 use Rattle.message.specs.Caller.{caller_of}
 use Rattle.message.specs.declared.caller.Caller.{Caller}
-use Rattle.message.specs.Command.{Given, perform}
+use Rattle.message.specs.Command.{perform}
 use Rattle.message.specs.JustOpened.{NOBODY, fid_meant, body_meant}
 use Rattle.message.specs.Message.{area_of, data_of, Ran, after_given, run, served, run_chain, answered}
 

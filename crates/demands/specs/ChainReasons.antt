@@ -1,40 +1,29 @@
 -- The status in the reply to a chain and the reason for it (document 01, "Refusals on the wire": "Order: as written, for the whole of each command with all its
 -- ranges, command by command"), said of the call. Assumes nothing.
-use Rattle.std.specs.Prelude.{◌≡◌, ◌↔◌, ℕ, ◌+◌, List, [], ◌∷◌, map}
-use Rattle.std.proofs.Math.Path.{refl, ap}
-use Rattle.std.proofs.Common.{sym, ◌∙◌}
-use Rattle.std.proofs.Math.Option.{some}
+use Rattle.std.specs.Prelude.{◌≡◌, ℕ, List, [], ◌∷◌}
+use Rattle.std.proofs.Math.Path.{ap}
 use Rattle.lists.specs.Truth.{not-decided-twice}
 use Rattle.records.specs.declared.Tables.{Tables}
-use Rattle.claims.specs.Cases.{status_in}
-use Rattle.chain.specs.Layout.{header_command, FIRST}
-use Rattle.chain.specs.Grammar.{Span, Reading}
-use Rattle.chain.specs.Chain.{blocks}
 use Rattle.chain.specs.declared.block.Body.{Body}
 use Rattle.chain.specs.declared.block.Body.TheVariants.{Locking as LockingBody, Read as ReadBody, Write as WriteBody, Close, Logoff, TreeDisconnect, ProcessExit, CoreRead as CoreReadBody, CoreWrite as CoreWriteBody, LockByteRange, UnlockByteRange, Open as OpenBody}
 use Rattle.chain.specs.declared.block.Block.{Block}
 use Rattle.invariants.specs.BlockParse.{block_at}
-use Rattle.readings.specs.ReaderComplete.{reader-complete}
-use Rattle.invariants.specs.ReaderSound.{span_of}
-use Rattle.invariants.specs.Chained.{Chained, chained-end, chained_more, read-chained}
-use Rattle.message.specs.Caller.{caller_of}
+use Rattle.invariants.specs.Chained.{Chained, chained-end, chained_more}
 use Rattle.message.specs.declared.caller.Caller.{Caller}
 use Rattle.message.specs.Refusal.{status, status_of}
 use Rattle.message.specs.declared.refusal.Refusal.{Refusal}
 use Rattle.message.specs.declared.refusal.Status.{Status}
-use Rattle.message.specs.Command.{Given, Said, refused, done}
-use Rattle.message.specs.JustOpened.{NOBODY, opened_by, body_meant}
-use Rattle.message.specs.Reply.{reply_size}
-use Rattle.message.specs.Message.{area_of, data_of, Ran, after, run, take-message}
+use Rattle.message.specs.Command.{Said, done}
+use Rattle.message.specs.JustOpened.{opened_by, body_meant}
+use Rattle.message.specs.Message.{area_of, data_of}
 use Rattle.demands.specs.Malformed.{length-area}
 use Rattle.demands.specs.OneByOne.{refusal-fails}
 use Rattle.invariants.specs.Sound.{Good, keeps-good, perform-keeps}
-use Rattle.invariants.specs.Fit.{Fit}
-use Rattle.demands.specs.StatusRead.{status_read, succeeded}
+use Rattle.demands.specs.StatusRead.{succeeded}
 use Rattle.demands.specs.LockWords.{never}
 use Rattle.demands.specs.CommandReasons.{Reason, Announced}
 use Rattle.demands.specs.ReasonCalls.{block-announced}
-use Rattle.demands.specs.RefusedCall.{gives, step-done, step-refused}
+use Rattle.demands.specs.RefusedCall.{gives}
 
 -- how a chain ends: each command done for its reason on what the last one left, or the first that isn't done refused for its own; "those after it aren't begun".
 -- In the first of them FID 0xFFFF means the number before the list (document 02, CR 6).

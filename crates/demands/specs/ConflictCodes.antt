@@ -1,8 +1,7 @@
 -- "C0000055 for a lock refused, C0000054 for a read or write refused" (document 02, CR 7), by the command refused: LOCKING and LOCK_BYTE_RANGE, and READ and WRITE in all forms, count 0 too
 -- (docs/DECISIONS.md, 118). Assumes nothing.
-use Rattle.std.specs.Prelude.{◌≡◌, refl, ℕ, ◌+◌, ◌*◌, ◌≤◌, true, cond, ◌||◌, List, [], ◌∷◌, ◌++◌, eqb, ltb, length, take, get_or}
-use Rattle.std.proofs.Common.{sym, ap, subst, ◌∙◌, arith}
-use Rattle.wire.specs.LittleEndian.{byte_at, le32_at}
+use Rattle.std.specs.Prelude.{◌≡◌, refl, ℕ, ◌+◌, ◌*◌, cond, ◌||◌, List, ◌∷◌, eqb, ltb, length, take, get_or}
+use Rattle.std.proofs.Common.{sym, ap, ◌∙◌}
 use Rattle.records.specs.Empty.{no_open}
 use Rattle.records.specs.Held.{opens_of}
 use Rattle.records.specs.declared.Tables.{Tables}
@@ -10,44 +9,22 @@ use Rattle.locks.specs.Wire.{range_size, small_form}
 use Rattle.locks.specs.Request.{ranges_of, Result, settle, locking}
 use Rattle.locks.specs.declared.types.Holder.{Holder}
 use Rattle.soundness.specs.File.{file_of}
-use Rattle.chain.specs.Layout.{LOCKING, LOCK_BYTE_RANGE, UNLOCK_BYTE_RANGE, header_command, FIRST}
-use Rattle.chain.specs.Grammar.{IsBlock, locking-10, locking-20, read-10, read-12, write-12, write-14, close, logoff, tree-disconnect, process-exit, core-read, core-write, lock-byte-range, unlock-byte-range, open-15, Span, span_at, ReadingFrom, plain_end, andx-end, andx-next, Reading}
-use Rattle.chain.specs.declared.block.Block.{Block}
-use Rattle.chain.specs.declared.block.Body.TheVariants.{Logoff}
-use Rattle.chain.specs.declared.block.Next.TheVariants.{End}
+use Rattle.chain.specs.Layout.{LOCKING, LOCK_BYTE_RANGE, UNLOCK_BYTE_RANGE}
+use Rattle.chain.specs.Grammar.{IsBlock, locking-10, locking-20, read-10, read-12, write-12, write-14, close, logoff, tree-disconnect, process-exit, core-read, core-write, lock-byte-range, unlock-byte-range, open-15, Span, span_at, ReadingFrom, plain_end, andx-end, andx-next}
 use Rattle.chain.specs.declared.block.LockingFields.{LockingFields}
 use Rattle.chain.specs.declared.block.ReadFields.{ReadFields}
 use Rattle.chain.specs.declared.block.WriteFields.{WriteFields}
 use Rattle.chain.specs.declared.block.RangeFields.{RangeFields}
 use Rattle.invariants.specs.BlockParse.{body_at}
-use Rattle.invariants.specs.ReaderSound.{span_of}
 use Rattle.invariants.specs.GivenCases.{cond-case, request-case, session-case, tree-case, open-case, barred-case, writing-case, opening-case}
-use Rattle.message.specs.Caller.{caller_of}
 use Rattle.message.specs.declared.caller.Caller.{Caller}
-use Rattle.message.specs.Refusal.{status, forms_of, nt_of, holder_of}
+use Rattle.message.specs.Refusal.{forms_of, nt_of, holder_of}
 use Rattle.message.specs.declared.refusal.HeldBy.TheVariants.{Nobody}
 use Rattle.message.specs.declared.refusal.Refusal.{Refusal}
 use Rattle.message.specs.declared.refusal.Refusal.TheVariants.{NotSentence, NoSession, NoTree, NoOpen, NoAccess, LockType, NoSuchLock, PassesEnd, LockNotGranted, FileLockConflict, NoRecord, NoSpace, OpenMode, BadAccess, NoSuchFile, BadShare, NoFids}
 use Rattle.message.specs.Command.{Said, Given, refused, done, served_type, request_of, locking_end, locking_after, do_locking, do_read, ends_past, do_write, as_core, one_range, range_by, do_range, do_set_size, do_core_write, perform}
-use Rattle.message.specs.JustOpened.{NOBODY, body_meant}
-use Rattle.message.specs.Reply.{nt_bit}
-use Rattle.message.specs.Message.{area_of, data_of, Ran, take-message}
-use Rattle.invariants.specs.Fit.{Fit}
-use Rattle.invariants.specs.Sound.{Good}
-use Rattle.demands.specs.Calls.{sentence-answered}
-use Rattle.demands.specs.NtStatus.{nt-given}
-use Rattle.demands.specs.LoneCall.{FirstConflict}
-use Rattle.demands.specs.StatusRead.{status_read}
-use Rattle.demands.specs.Taken.{not_short}
-use Rattle.demands.specs.OneByOne.{own-header}
-use Rattle.demands.specs.SpansOneByOne.{own_span}
-use Rattle.demands.specs.SpansRefused.{calls, last_returned, AllCarried, at_first}
-use Rattle.demands.specs.SpansFit.{AllSentFit}
-use Rattle.demands.specs.RefusedCall.{step-refused}
-use Rattle.demands.specs.WireFields.{reading-first, one-first, first_body}
-use Rattle.demands.specs.DataBlock.{reading-block}
-use Rattle.invariants.specs.JustOpenedLaws.{meant-nobody}
-use Rattle.demands.specs.LoneLock.{held_in, Conflicts, nobody-holds, held-refused}
+use Rattle.message.specs.JustOpened.{body_meant}
+use Rattle.demands.specs.LoneLock.{held_in, Conflicts, nobody-holds}
 
 -- the NTSTATUS of a command's refusal
 unfoldable pub nt_in : Given → ℕ

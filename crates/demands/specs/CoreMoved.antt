@@ -1,27 +1,21 @@
 -- "Sent one to a message" (document 01): the message that a core READ or WRITE of a chain makes of its own has at 32 the fields and the data that the chain has at
 -- the block's place. So what is said of one alone, a WRITE's count 0 among it, is known of one behind a LOCKING from the chain's bytes. Assumes nothing.
-use Rattle.std.specs.Prelude.{◌≡◌, refl, ℕ, ◌≤◌, length, drop}
+use Rattle.std.specs.Prelude.{◌≡◌, refl, ℕ, ◌≤◌, drop}
 use Rattle.std.proofs.Common.{sym, ap, ◌∙◌, arith}
 use mathlib.Core.List.Memᴰ.{head as first}
 use mathlib.Core.List.Memᴰ.{tail as later}
 use mathlib.Core.List.{List, Memᴰ as In}
-use Rattle.chain.specs.Layout.{READ, CORE-WRITE, header_command, FIRST, first_fid, core_count, core_offset, marked_data}
-use Rattle.chain.specs.Grammar.{IsBlock, Span, span_at, ReadingFrom, plain_end, andx-end, andx-next, Reading}
+use Rattle.chain.specs.Layout.{CORE-WRITE, header_command, FIRST, first_fid, core_count, core_offset, marked_data}
+use Rattle.chain.specs.Grammar.{IsBlock, Span, span_at, ReadingFrom, plain_end, andx-end, andx-next}
 use Rattle.chain.specs.declared.block.ReadFields.{ReadFields}
 use Rattle.chain.specs.declared.block.WriteFields.{WriteFields}
-use Rattle.chain.specs.declared.block.Body.TheVariants.{Logoff, CoreRead, CoreWrite}
-use Rattle.chain.specs.declared.block.Next.TheVariants.{End}
-use Rattle.chain.specs.declared.block.Block.{Block}
-use Rattle.invariants.specs.BlockParse.{block_inside, block_size, body_at}
-use Rattle.invariants.specs.ReaderSound.{span_of}
+use Rattle.chain.specs.declared.block.Body.TheVariants.{CoreRead, CoreWrite}
+use Rattle.invariants.specs.BlockParse.{block_size, body_at}
 use Rattle.readings.specs.CoreAlone.{EndsChain, ends_read, ends-write}
 use Rattle.readings.specs.Moved.{Moved, moved_body}
 use Rattle.readings.proofs.Moved.{moved-block, moved-body}
 use Rattle.readings.specs.MovedBytes.{part}
 use Rattle.readings.proofs.MovedBytes.{moved-marked-area}
-use Rattle.demands.specs.Alone.{alone-command, alone-moved}
-use Rattle.demands.specs.Carrying.{carrying-other}
-use Rattle.demands.specs.SpansOneByOne.{alone_span, alone-span, own_span}
 use Rattle.demands.specs.WireFields.{core_data}
 use Rattle.demands.specs.DataBlock.{marked-block}
 use Rattle.demands.specs.CorePairCalls.{marked-part}

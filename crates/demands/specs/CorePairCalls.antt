@@ -9,21 +9,18 @@ use Rattle.lists.specs.Truth.{both_hold, test-cases}
 use Rattle.lists.specs.Put.{put}
 use Rattle.wire.specs.LittleEndian.{le16_at, le32_at, le16-below}
 use Rattle.records.specs.declared.Tables.{Tables}
-use Rattle.locks.specs.Wire.{range_size, range_at}
-use Rattle.locks.specs.Request.{of_header}
+use Rattle.locks.specs.Wire.{range_size}
 use Rattle.locks.specs.declared.types.LockRange.{LockRange}
 use Rattle.chain.specs.Layout.{LOCKING, READ, WRITE, CORE-READ, CORE-WRITE, LOCK_BYTE_RANGE, UNLOCK_BYTE_RANGE, header_command, FIRST, word_count, byte_area, byte_count, andx_command, andx_offset, fid_after_andx, lock_type, unlock_count, lock_count, offset_low, read_max, read_offset_high, data_length, data_offset, write_offset_high, first_fid, core_count, core_offset, marked_data, range_length, range_offset}
-use Rattle.chain.specs.Grammar.{IsBlock, Span, ReadingFrom, plain_end, andx-end, andx-next, Reading}
-use Rattle.chain.specs.Parse.{shaped, is_large, locking_fits, wide_offset, range_fields}
-use Rattle.chain.specs.Chain.{blocks_from, blocks}
+use Rattle.chain.specs.Grammar.{IsBlock, Span, ReadingFrom, plain_end, andx-end, andx-next}
+use Rattle.chain.specs.Parse.{shaped, is_large, locking_fits, wide_offset}
+use Rattle.chain.specs.Chain.{blocks_from}
 use Rattle.chain.specs.declared.block.Next.TheVariants.{End, Follow}
 use Rattle.chain.specs.declared.block.Next.{Next}
 use Rattle.chain.specs.declared.block.Block.{Block}
 use Rattle.invariants.specs.BlockTests.{fits, fits-complete}
 use Rattle.invariants.specs.BlockParse.{body_at, block_at, Linked, link-plain, link-end, link-next}
 use Rattle.invariants.specs.Chained.{chained-end, chained_more, chained-read}
-use Rattle.invariants.specs.Fit.{Fit, fit-answered}
-use Rattle.invariants.specs.JustOpenedLaws.{run-first}
 use Rattle.readings.specs.MovedBytes.{part, area_at}
 use Rattle.claims.specs.StreamKept.{Bytes}
 use Rattle.message.specs.declared.refusal.Forms.{Forms}
@@ -35,17 +32,15 @@ use Rattle.message.specs.declared.link.Link.TheVariants.{None as no_link, Next a
 use Rattle.message.specs.Command.{Said, locked, Given, do_locking, perform}
 use Rattle.message.specs.JustOpened.{NOBODY, opened_by, body_meant}
 use Rattle.message.specs.Reply.{reply_header, reply_block, refused_block, reply_size}
-use Rattle.message.specs.Message.{area_of, data_of, Ran, after, link_to, after_given, run, answered, reply_of, Taken, replied, take-message}
-use Rattle.demands.specs.Malformed.{length-area}
+use Rattle.message.specs.Message.{area_of, Ran, after, link_to, after_given, run, Taken}
 use Rattle.demands.specs.StatusRead.{status_read}
-use Rattle.demands.specs.Calls.{length-call, sentence-answered}
 use Rattle.demands.specs.ChainReasons.{refusal-not-zero}
 use Rattle.demands.specs.CommandReasons.{OnlyTwoBits}
 use Rattle.demands.specs.LoneCall.{locking_fields}
-use Rattle.demands.specs.WireFields.{sender_process, upper_half, one-first, first_body, first-area, first-data}
-use Rattle.demands.specs.LockEffects.{RangeOn, short-range, long-range, large, area}
+use Rattle.demands.specs.WireFields.{sender_process}
+use Rattle.demands.specs.LockEffects.{RangeOn, short-range, long-range}
 use Rattle.demands.specs.DataBlock.{marked-block, reading-block}
-use Rattle.demands.specs.CorePairs.{JustRange, Pair, read-pair, write-pair, lock-pair, unlock-pair, SaidAlike, Alike, refused-alike, done-alike, LockingSays, locking-refused, locking-done, locking-says}
+use Rattle.demands.specs.CorePairs.{Pair, read-pair, write-pair, SaidAlike, Alike, refused-alike, done-alike, LockingSays, locking-refused, locking-done}
 
 -- ---- the plain words
 

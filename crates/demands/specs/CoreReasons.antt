@@ -1,23 +1,20 @@
 -- The status of a LOCK_BYTE_RANGE and of an UNLOCK_BYTE_RANGE and the one reason for it, in plain words (document 02, CR 3: "the rules of their AndX counterparts, the process
 -- from the header; the lock is exclusive"), and that a request of one range comes to just that. Assumes nothing.
-use Rattle.std.specs.Prelude.{◌≡◌, ℕ, min, ◌≤◌, ◌<◌, true, length}
-use Rattle.std.proofs.Common.{arith, length-take}
-use mathlib.Core.List.{List, [], ◌∷◌, Memᴰ as In}
-use Rattle.std.proofs.Math.Option.{Option}
+use Rattle.std.specs.Prelude.{ℕ, ◌≤◌, ◌<◌, length}
+use Rattle.std.proofs.Common.{arith}
+use mathlib.Core.List.{List, Memᴰ as In}
 use Rattle.records.specs.declared.Open.{Open}
 use Rattle.records.specs.declared.Lock.{Lock}
 use Rattle.records.specs.declared.Tables.{Tables}
 use Rattle.records.specs.Held.{locks_of}
 use Rattle.locks.specs.declared.types.LockRange.{LockRange}
-use Rattle.soundness.specs.Sound.{sound}
-use Rattle.claims.proofs.SoundPlain.{sound-plain}
 use Rattle.chain.specs.declared.block.RangeFields.{RangeFields}
 use Rattle.message.specs.declared.caller.Caller.{Caller}
 use Rattle.message.specs.Refusal.{status}
 use Rattle.message.specs.declared.refusal.Status.{Status}
 use Rattle.demands.specs.LoneLock.{core_range, BarsRange}
 use Rattle.demands.specs.Admitted.{Admitted, NoOpenFor}
-use Rattle.demands.specs.LockWords.{Named, TakenOut, this-one, later-one, out-named, Released, Releasing, all-released, one-unnamed}
+use Rattle.demands.specs.LockWords.{Named, TakenOut, this-one, later-one}
 
 -- ---- the reasons
 

@@ -4,13 +4,12 @@ use Rattle.std.specs.Prelude.{◌≡◌, ℕ, ◌+◌, true, List}
 use Rattle.std.proofs.Common.{arith}
 use Rattle.records.specs.declared.Tables.{Tables}
 use Rattle.chain.specs.Layout.{LOCKING, CORE-WRITE, header_command, FIRST, byte_count, andx_command, andx_offset, core_count, data_mark, marked_length}
-use Rattle.chain.specs.Grammar.{IsBlock, MarkedData, locking-andx, Span, ReadingFrom, plain_end, andx-end, andx-next, Sentence}
+use Rattle.chain.specs.Grammar.{IsBlock, MarkedData, locking-andx, Span, ReadingFrom, plain_end, andx-end, andx-next}
 use Rattle.invariants.specs.BlockTests.{fits, fits-complete, core-write-exact}
 use Rattle.invariants.specs.BlockParse.{plain-not-andx}
-use Rattle.invariants.specs.Fit.{Fit}
 use Rattle.message.specs.Refusal.{status}
 use Rattle.message.specs.declared.refusal.HeldBy.TheVariants.{Nobody}
-use Rattle.message.specs.Message.{served, Taken, take-message}
+use Rattle.message.specs.Message.{served, Taken}
 use Rattle.demands.specs.StatusRead.{status_read}
 use Rattle.demands.specs.RefusedCall.{Untouched}
 use Rattle.demands.specs.ReplyBytes.{PlainBlock}

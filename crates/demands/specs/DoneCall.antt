@@ -1,40 +1,26 @@
 -- From a message of one command whose reply's Status is 0/0 to the command: it was done, and what it left and said is what the call left and wrote.
 -- Assumes nothing.
-use Rattle.std.specs.Prelude.{◌≡◌, refl, ℕ, ◌+◌, ◌≤◌, false, length, get_or}
-use Rattle.std.proofs.Math.Path.{sym, ap}
-use Rattle.std.proofs.Common.{◌∙◌, arith}
-use Rattle.std.proofs.Math.Logic.{inl, inr}
+use Rattle.std.specs.Prelude.{◌≡◌, ℕ, ◌+◌, ◌≤◌, false, length}
+use Rattle.std.proofs.Math.Path.{ap}
+use Rattle.std.proofs.Common.{arith}
 use mathlib.Core.List.{List, [], ◌∷◌, ◌++◌, append-nil}
-use Rattle.std.proofs.Math.Option.{some}
-use Rattle.std.proofs.Math.ListN.{length-append}
 use Rattle.lists.specs.Put.{put}
-use Rattle.records.specs.declared.Open.{Open}
 use Rattle.records.specs.declared.Tables.{Tables}
-use Rattle.records.specs.Empty.{no_open}
-use Rattle.records.specs.Held.{opens_of}
-use Rattle.claims.specs.Cases.{status_in}
 use Rattle.chain.specs.Layout.{FIRST}
 use Rattle.chain.specs.Header.{dropped}
-use Rattle.chain.specs.Chain.{blocks}
 use Rattle.chain.specs.declared.block.Block.{Block}
-use Rattle.message.specs.Caller.{caller_of}
 use Rattle.message.specs.declared.caller.Caller.{Caller}
 use Rattle.message.specs.Refusal.{status, success}
 use Rattle.message.specs.declared.refusal.Status.{Status}
 use Rattle.message.specs.declared.refusal.HeldBy.TheVariants.{Nobody}
 use Rattle.message.specs.declared.link.Link.TheVariants.{None as no_link}
-use Rattle.message.specs.Command.{Said, Given, refused, done, with_session, with_tree, with_open}
+use Rattle.message.specs.Command.{Said, done}
 use Rattle.message.specs.JustOpened.{NOBODY}
 use Rattle.message.specs.Reply.{reply_header, reply_block, reply_size}
-use Rattle.message.specs.Message.{after, link_to, after_given, run, Taken, reply_of, replied, take-message}
-use Rattle.invariants.specs.ReplySize.{length-header, length-block}
-use Rattle.invariants.specs.Fit.{Fit, fit-answered}
+use Rattle.message.specs.Message.{after, link_to, after_given, run, Taken}
 use Rattle.demands.specs.Taken.{not_short}
-use Rattle.claims.proofs.StatusList.{none-zero}
-use Rattle.demands.specs.StatusRead.{status_read}
-use Rattle.demands.specs.Calls.{sentence-answered}
 use Rattle.demands.specs.RefusedCall.{gives}
-use Rattle.demands.specs.Admitted.{Admitted, NoSessionFor, no-session, NoTreeFor, before-tree, no-tree, NoOpenFor, before-open, no-open, with-open}
+use Rattle.demands.specs.Admitted.{NoSessionFor, no-session}
 
 -- ---- from the call to its command
 

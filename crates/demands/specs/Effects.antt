@@ -1,35 +1,26 @@
 -- What a message of one command that is done gives and leaves (document 01, "Locks, reads and writes" and "Reply blocks"; document 02, CR 3), said of the
 -- call and of the message's bytes: a reading of one block, with the fields where the layout has them. Assumes nothing.
 use Rattle.std.specs.Prelude.{◌≡◌, ℕ, min, ◌+◌, ◌-◌, ◌*◌, ◌≤◌, ◌<◌, take, replicate}
-use Rattle.std.proofs.Math.Path.{sym, ap}
-use Rattle.std.proofs.Common.{◌∙◌}
-use native.Mathlib.Omega.{arith}
 use mathlib.Core.List.{List, [], ◌∷◌}
 use Rattle.std.proofs.Math.ListN.{length, drop, get_or}
-use Rattle.std.proofs.Math.Seq.{get_or-take, get_or-drop}
 use Rattle.wire.specs.LittleEndian.{byte_at, le16_at}
 use Rattle.records.specs.declared.Open.{Open}
 use Rattle.records.specs.declared.Tables.{Tables}
-use Rattle.claims.specs.RemovalPlain.{Closed, Disconnected, LoggedOff, Exited}
-use Rattle.chain.specs.Layout.{CLOSE, PROCESS_EXIT, READ, WRITE, TREE_DISCONNECT, LOGOFF, CORE-READ, CORE-WRITE, header_command, FIRST, fid_after_andx, read_max, data_length, data_offset, first_fid, core_count, core_offset, marked_data}
+use Rattle.chain.specs.Layout.{FIRST, fid_after_andx, read_max, data_length, data_offset, first_fid, core_count, core_offset, marked_data}
 use Rattle.chain.specs.Grammar.{Span, Reading}
-use Rattle.chain.specs.Parse.{wide_offset}
-use Rattle.chain.specs.declared.block.Body.TheVariants.{Write as WriteBody, CoreWrite as CoreWriteBody}
-use Rattle.invariants.specs.BlockParse.{body_at}
 use Rattle.invariants.specs.Sound.{Good}
 use Rattle.invariants.specs.Fit.{Fit}
 use Rattle.message.specs.Caller.{caller_of}
 use Rattle.message.specs.Refusal.{status}
 use Rattle.message.specs.Contents.{size_of}
-use Rattle.message.specs.Message.{area_of, data_of, Taken, take-message}
+use Rattle.message.specs.Message.{Taken, take-message}
 use Rattle.demands.specs.StatusRead.{status_read}
 use Rattle.demands.specs.Remembering.{OnlyRemembers}
 use Rattle.demands.specs.RefusedCall.{Untouched}
 use Rattle.demands.specs.Admitted.{Admitted}
 use Rattle.demands.specs.FileCommands.{WroteFile}
 use Rattle.demands.specs.ReplyBytes.{CoreWriteBlock}
-use Rattle.demands.specs.CallEffects.{ReadCall, CoreReadCall, counted, core-filled}
-use Rattle.demands.specs.WireFields.{sender_process, read_from, read_fields, write_from, write_fields, write_data, core_read_fields, core_write_fields, core_data, FirstBlock, one-first, first_body, first-data, first-core-data}
+use Rattle.demands.specs.WireFields.{read_from, write_from, write_data, core_data, FirstBlock, one-first}
 
 -- ---- the plain words
 

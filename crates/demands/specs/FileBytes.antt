@@ -150,7 +150,6 @@ module _ (t : Tables) (memory : List ℕ) (file offset : ℕ) (ok : sound t ≡ 
         }
 
   module _ (bytes : List ℕ) (some_bytes : 1 ≤ length bytes) (fits : offset + length bytes ≤ 4096) where
-
     pub written-put : written t memory file offset bytes ≡ put (grown t memory file offset) (file * 4096 + offset) bytes
     unfolding written
     written-put = rw (ne_eqb (length bytes) 0 (λ e. omega arith))

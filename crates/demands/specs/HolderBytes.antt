@@ -1,6 +1,6 @@
 -- A holder has at least one byte and does not pass 2^64 (document 01: "Length 0 covers no byte and overlaps nothing"; "no lock passes 2^64"; "1/87 lock range passes
 -- 2^64", before 1/33), so that its last byte is offset + length - 1. Assumes nothing.
-use Rattle.std.specs.Prelude.{◌≡◌, ℕ, zero, suc, ◌+◌, ◌^◌, ◌≤◌, ◌<◌, Bool, true, length}
+use Rattle.std.specs.Prelude.{◌≡◌, ℕ, zero, suc, ◌+◌, ◌^◌, ◌≤◌, ◌<◌, Bool, true}
 use Rattle.std.proofs.Common.{inl, inr, arith}
 use Rattle.std.proofs.Math.Decide.{dec_lt}
 use mathlib.Core.List.Memᴰ.{cases_cons as first-or-later}
@@ -19,14 +19,10 @@ use Rattle.locks.specs.declared.types.LockRange.{LockRange}
 use Rattle.locks.specs.declared.types.Holder.{Holder}
 use Rattle.chain.specs.declared.block.LockingFields.{LockingFields}
 use Rattle.soundness.specs.Sound.{sound}
-use Rattle.invariants.specs.Sound.{Good}
-use Rattle.invariants.specs.Fit.{take-message-good}
 use Rattle.claims.proofs.SoundPlain.{sound-plain}
 use Rattle.message.specs.declared.caller.Caller.{Caller}
-use Rattle.message.specs.declared.refusal.HeldBy.TheVariants.{Holder as held_by}
 use Rattle.demands.specs.LockWords.{PastEnd}
-use Rattle.demands.specs.HolderExactly.{call}
-use Rattle.demands.specs.HolderWords.{LockHeld, Stands, first-stands, HeldWhere, one-range, many-ranges}
+use Rattle.demands.specs.HolderWords.{LockHeld, Stands}
 use Rattle.demands.specs.HolderOpen.{OwnRange}
 
 -- a lock that overlaps something has a byte

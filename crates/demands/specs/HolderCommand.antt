@@ -1,56 +1,39 @@
 -- A command is refused for conflict with a holder exactly if that holder is in its way, in plain words (document 02, CR 2: "Locks, reads and writes pass it up").
 -- Assumes nothing.
-use Rattle.std.specs.Prelude.{◌≡◌, ◌↔◌, ℕ, ◌+◌, ◌*◌, ◌/◌, ◌%◌, ◌<◌, Bool, length, drop, get_or, leb, ltb, eqb}
-use Rattle.std.proofs.Math.Path.{refl, sym, ap}
-use Rattle.std.proofs.Common.{◌∙◌}
-use Rattle.std.proofs.Math.Logic.{inl, inr}
-use Rattle.std.proofs.Math.Logic.Iff
+use Rattle.std.specs.Prelude.{◌≡◌, ◌↔◌, ℕ, ◌+◌, ◌*◌, ◌/◌, ◌%◌, length, leb, eqb}
+use Rattle.std.proofs.Math.Path.{ap}
 use native.Mathlib.Omega.{arith}
-use Rattle.std.proofs.Math.Bool.{true, false, cond}
+use Rattle.std.proofs.Math.Bool.{true, cond}
 use mathlib.Core.List.{List, Memᴰ as In}
-use Rattle.std.proofs.Math.Option.{Option, none, some}
-use borrow.Author.Tests.{eqb-true, eqb-false, eq-eqb, ne_eqb}
-use Rattle.lists.specs.Walk.{any}
-use Rattle.lists.specs.Truth.{fails, decided, not-decided-twice}
+use Rattle.std.proofs.Math.Option.{Option}
 use Rattle.lists.specs.declared.Found.{Found}
 use Rattle.lists.specs.declared.Found.TheVariants.{At, Nothing}
 use Rattle.records.specs.declared.Open.{Open}
 use Rattle.records.specs.declared.Lock.{Lock}
 use Rattle.records.specs.declared.Tables.{Tables}
-use Rattle.records.specs.Empty.{no_open}
 use Rattle.records.specs.Held.{opens_of, locks_of}
-use Rattle.locks.specs.Wire.{range_size, small_form}
-use Rattle.locks.specs.Answer.{bars, in_way, answers_for, answers}
-use Rattle.locks.specs.Request.{release_all, Grants, granted, blocked, grant_all, Result, after_grants, range_passes, after_releases, request, settle, locking, holder_at, ranges_of}
+use Rattle.locks.specs.Wire.{range_size}
+use Rattle.locks.specs.Answer.{bars, in_way, answers}
+use Rattle.locks.specs.Request.{Grants, granted, blocked, grant_all, Result, after_grants, after_releases, settle, holder_at}
 use Rattle.locks.specs.declared.types.Ask.{Ask}
-use Rattle.locks.specs.declared.types.LockRange.{LockRange}
 use Rattle.locks.specs.declared.types.Holder.{Holder}
 use Rattle.locks.specs.declared.types.Purpose.{Purpose}
-use Rattle.locks.specs.declared.types.Purpose.TheVariants.{Read as Reading, Write as Writing}
 use Rattle.soundness.specs.File.{file_of}
 use Rattle.soundness.specs.Sound.{sound}
 use Rattle.claims.proofs.SoundPlain.{sound-plain}
-use Rattle.claims.specs.Cases.{status_in}
 use Rattle.chain.specs.declared.block.LockingFields.{LockingFields}
-use Rattle.chain.specs.declared.block.ReadFields.{ReadFields}
-use Rattle.chain.specs.declared.block.WriteFields.{WriteFields}
-use Rattle.chain.specs.declared.block.RangeFields.{RangeFields}
-use Rattle.chain.specs.declared.block.Body.{Body}
-use Rattle.chain.specs.declared.block.Body.TheVariants.{Locking as LockingBody, Read as ReadBody, Write as WriteBody, Close, Logoff, TreeDisconnect, ProcessExit, CoreRead as CoreReadBody, CoreWrite as CoreWriteBody, LockByteRange, UnlockByteRange, Open as OpenBody}
-use Rattle.invariants.specs.GivenCases.{cond-case, session-case, tree-case, open-case, opening-case}
+use Rattle.invariants.specs.GivenCases.{cond-case}
 use Rattle.message.specs.declared.caller.Caller.{Caller}
-use Rattle.message.specs.Refusal.{status, forms_of}
+use Rattle.message.specs.Refusal.{status}
 use Rattle.message.specs.declared.refusal.Status.{Status}
-use Rattle.message.specs.declared.refusal.Refusal.TheVariants.{NoAccess, NoSpace}
+use Rattle.message.specs.declared.refusal.Refusal.TheVariants.{NoAccess}
 use Rattle.message.specs.declared.refusal.HeldBy.TheVariants.{Holder as held_by}
-use Rattle.message.specs.Command.{Given, refused, done, with_open, served_type, request_of, locking_end, locking_after, do_locking, ask_by, unless_barred, barring, do_read, writing, ends_past, do_write, as_core, range_by, one_range, do_range, between_sizes, do_set_size, do_core_write, perform}
-use Rattle.demands.specs.LoneLock.{held_in, May, lower_size, sizes_apart, shared_in, read-bars, write-bars}
-use Rattle.demands.specs.Admitted.{Admitted, no-session, before-tree, no-tree, NoOpenFor, before-open, no-open, with-open}
-use Rattle.demands.specs.LockWords.{never, Released, Releasing, all-released, one-unnamed, past-means, past_is, Opened}
-use Rattle.demands.specs.WritingReasons.{conflicts-status}
-use Rattle.demands.specs.CommandReasons.{Announced, OnlyTwoBits, served-exact, unlocks_in, locks_in}
-use Rattle.demands.specs.HolderWords.{TransferHeld, ReadHeld, WritingHeld, WriteHeld, SizeHeld, CoreWriteHeld, write-held, size-held, LockHeld, CommandHeld}
-use Rattle.demands.specs.HolderWalk.{Way, found_first, first-place, asked-exact}
+use Rattle.message.specs.Command.{Given, refused, done, locking_end, locking_after, ask_by, unless_barred, barring, as_core}
+use Rattle.demands.specs.LoneLock.{held_in, shared_in}
+use Rattle.demands.specs.Admitted.{Admitted, no-session, before-tree, no-tree, NoOpenFor, before-open, no-open}
+use Rattle.demands.specs.LockWords.{never, Opened}
+use Rattle.demands.specs.CommandReasons.{locks_in}
+use Rattle.demands.specs.HolderWalk.{Way, asked-exact}
 
 -- refused for conflict with that holder
 abbrev pub Names : Given → Holder → Type 0
@@ -64,7 +47,6 @@ open_code (before-open (no-tree s h)) e = omega arith
 open_code (no-open s r h) e = omega arith
 
 module _ (c : Caller) (t : Tables) (memory : List ℕ) (ok : sound t ≡ true) where
-
   -- ---- reads and writes
 
   -- each listed lock has an open
@@ -123,5 +105,4 @@ module _ (c : Caller) (t : Tables) (memory : List ℕ) (ok : sound t ≡ true) w
   unfolding as_core held_in
   core-names (refused why) h = (λ e. e, λ e. e)
   core-names (done u m said) h = (λ e. never cc, λ e. never cc)
-
   -- ---- all twelve

@@ -1,33 +1,21 @@
 -- Whose lock it is (document 02, CR 2: "the host gets the holder's FID and process beside the reply"; "A lock granted earlier in the same request may be the answer").
 -- Assumes nothing.
-use Rattle.std.specs.Prelude.{◌≡◌, ℕ, ◌+◌, ◌-◌, ◌≤◌, ◌<◌, Bool, length, get_or}
-use Rattle.std.proofs.Common.{sym, ap, ◌∙◌, arith, length-append, get_or-append-add}
+use Rattle.std.specs.Prelude.{◌≡◌, ℕ, Bool}
+use Rattle.std.proofs.Common.{sym, ap, ◌∙◌}
 use mathlib.Core.List.{List, [], ◌∷◌, ◌++◌, map, append-nil, append_assoc, Memᴰ as In}
-use Rattle.std.proofs.Math.ListN.{get_or-append}
-use Rattle.lists.specs.Members.{map-in}
-use Rattle.lists.specs.PairLaws.{place_in}
 use Rattle.records.specs.declared.Session.{Session}
 use Rattle.records.specs.declared.Open.{Open}
 use Rattle.records.specs.declared.Lock.{Lock}
 use Rattle.records.specs.declared.Tables.{Tables}
-use Rattle.records.specs.Empty.{no_lock}
-use Rattle.records.specs.Held.{sessions_of, opens_of, locks_of}
-use Rattle.numbers.specs.Column.{uid_of, fid_of}
+use Rattle.records.specs.Held.{sessions_of, opens_of}
 use Rattle.locks.specs.Request.{lock_of}
 use Rattle.locks.specs.declared.types.LockRange.{LockRange}
 use Rattle.locks.specs.declared.types.Holder.{Holder}
 use Rattle.chain.specs.declared.block.LockingFields.{LockingFields}
-use Rattle.invariants.specs.Numbered.{numbered-same}
-use Rattle.invariants.specs.SoundParts.{sound-says}
-use Rattle.invariants.specs.Sound.{Good}
-use Rattle.invariants.specs.Fit.{take-message-good}
-use Rattle.claims.proofs.SoundPlain.{sound-plain}
 use Rattle.message.specs.declared.caller.Caller.{Caller}
-use Rattle.message.specs.declared.refusal.HeldBy.TheVariants.{Holder as held_by}
 use Rattle.demands.specs.LoneLock.{shared_in}
 use Rattle.demands.specs.LockWords.{AllGranted, none-to-grant, grant-then}
 use Rattle.demands.specs.CommandReasons.{ranges_by}
-use Rattle.demands.specs.HolderExactly.{call}
 use Rattle.demands.specs.HolderWords.{LockHeld, HeldWhere, one-range, many-ranges}
 
 -- ---- an own earlier range

@@ -1,35 +1,26 @@
 -- In a chain the holder is the one that the refused command met, on the tables as they stood when it was begun (document 02, CR 2; document 01: "Commands before it in
 -- the chain stand; those after it aren't begun"), said of the call, exactly. Assumes nothing.
-use Rattle.std.specs.Prelude.{◌≡◌, ◌↔◌, ℕ, ◌+◌}
-use Rattle.std.proofs.Math.Path.{refl, sym, ap}
-use Rattle.std.proofs.Common.{◌∙◌}
-use mathlib.Core.List.{List, [], ◌∷◌, ◌++◌}
+use Rattle.std.specs.Prelude.{◌≡◌, ℕ}
+use Rattle.std.proofs.Math.Path.{refl}
+use mathlib.Core.List.{List, ◌∷◌, ◌++◌}
 use Rattle.std.proofs.Math.Option.{Option, none, some}
 use Rattle.records.specs.declared.Tables.{Tables}
 use Rattle.locks.specs.declared.types.Holder.{Holder}
 use Rattle.chain.specs.Layout.{header_command, FIRST}
 use Rattle.chain.specs.Chain.{blocks}
 use Rattle.chain.specs.declared.block.Block.{Block}
-use Rattle.invariants.specs.Chained.{read-chained}
 use Rattle.invariants.specs.GivenCases.{cond-case}
 use Rattle.invariants.specs.Sound.{Good}
-use Rattle.invariants.specs.Fit.{Fit, fit-answered}
+use Rattle.invariants.specs.Fit.{Fit}
 use Rattle.message.specs.Caller.{caller_of}
 use Rattle.message.specs.declared.caller.Caller.{Caller}
-use Rattle.message.specs.Refusal.{status, holder_of}
+use Rattle.message.specs.Refusal.{status}
 use Rattle.message.specs.declared.refusal.HeldBy.TheVariants.{Holder as held_by}
-use Rattle.message.specs.Command.{Said, Given, refused, done}
-use Rattle.message.specs.JustOpened.{NOBODY, opened_by, body_meant}
-use Rattle.message.specs.Reply.{reply_size}
-use Rattle.message.specs.Message.{area_of, data_of, Ran, after, run, served, only_status, run_chain, answered, Taken, replied}
-use Rattle.demands.specs.Calls.{sentence-answered}
-use Rattle.demands.specs.RefusedCall.{gives, meant_after, step-done, step-refused, meant-done}
-use Rattle.demands.specs.ChainReasons.{AllAnnounced, none_left, next-announced, chained-announced, refusal-not-zero, left-good, meant-announced}
-use Rattle.demands.specs.HolderExactly.{call, holder-answered}
-use Rattle.demands.specs.LoneLock.{held_in, held-refused}
+use Rattle.message.specs.JustOpened.{NOBODY, body_meant}
+use Rattle.message.specs.Message.{area_of, Ran, run, served, only_status, run_chain, answered}
+use Rattle.demands.specs.RefusedCall.{meant_after}
 use Rattle.demands.specs.LockWords.{never}
-use Rattle.demands.specs.HolderWords.{CommandHeld, HeldWhere}
-use Rattle.demands.specs.HolderCommand.{Names}
+use Rattle.demands.specs.HolderWords.{CommandHeld}
 
 -- ---- commands one behind the other
 
@@ -43,7 +34,6 @@ pub record MetFrom (c : Caller) (s : List ℕ) (just : ℕ) (bs : List Block) (p
   pub held : CommandHeld c (run c s just front place t memory).tables (area_of s command) (body_meant (meant_after c s just front t memory) command.body) h
 
 module _ (c : Caller) (s : List ℕ) where
-
   -- and the other way round: it is passed up, and what those in front left stands
   pub record PassedUp (just : ℕ) (bs front : List Block) (place : ℕ) (t : Tables) (memory : List ℕ) (h : Holder) : Type 0 where
     pub holder-named : (run c s just bs place t memory).holder ≡ held_by h

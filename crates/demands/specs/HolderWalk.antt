@@ -1,13 +1,13 @@
 -- The walk over the list of locks finds the first one in the way, and that lock is the holder (document 02, CR 2: "The conflict test is to give, instead of
 -- yes or no, the place of the first conflicting lock in the list as it then stands"). Assumes nothing.
 use Rattle.std.proofs.Math.Path.{◌≡◌, refl, sym, ap}
-use Rattle.std.proofs.Common.{◌∙◌, add-zero, take-append-drop, get_or-take}
+use Rattle.std.proofs.Common.{◌∙◌, take-append-drop, get_or-take}
 use Rattle.std.specs.Prelude.{◌↔◌, Bool, true, false, ◌&&◌, take, drop, get_or}
-use Prim.Native.Nat.{ℕ, zero, suc, min, ◌+◌, ◌<◌}
+use Prim.Native.Nat.{ℕ, min, ◌<◌}
 use native.Mathlib.Omega.{arith}
 use Rattle.std.proofs.Math.Decide.{dec_lt}
 use mathlib.Core.List.Memᴰ.{append_left as in_front}
-use mathlib.Core.List.{List, [], ◌∷◌, ◌++◌, Memᴰ as In, map}
+use mathlib.Core.List.{List, Memᴰ as In}
 use Rattle.std.proofs.Math.ListN.{length, length-take}
 use Rattle.std.proofs.Math.Dec.{eqb}
 use borrow.Author.Tests.{eqb-true, eq-eqb}
@@ -23,9 +23,9 @@ use Rattle.records.specs.declared.Tables.{Tables}
 use Rattle.records.specs.Empty.{no_lock}
 use Rattle.records.specs.Held.{opens_of}
 use Rattle.locks.specs.Range.{Overlap, overlaps, overlap-iff}
-use Rattle.locks.specs.Wire.{range_at, ranges_at}
+use Rattle.locks.specs.Wire.{range_at}
 use Rattle.locks.specs.Answer.{bars, in_way, answers_for, answers}
-use Rattle.locks.specs.Request.{ask_of, lock_of, holder_at, Grants, granted, blocked, after_walk, grant_all, of_header}
+use Rattle.locks.specs.Request.{ask_of, lock_of, holder_at, of_header}
 use Rattle.locks.specs.declared.types.Ask.{Ask}
 use Rattle.locks.specs.declared.types.LockRange.{LockRange}
 use Rattle.locks.specs.declared.types.Holder.{Holder}
@@ -36,8 +36,8 @@ use Rattle.invariants.specs.SoundParts.{sound-says}
 use Rattle.invariants.specs.FoundFacts.{found-hit, found-miss}
 use Rattle.claims.specs.SoundPlain.{file_of-one}
 use Rattle.demands.specs.LoneLock.{OfFile, InWay, grant-bars}
-use Rattle.demands.specs.LockWords.{AllGranted, none-to-grant, grant-then, Opened, opened-more}
-use Rattle.demands.specs.HolderWords.{FirstInWay, RangeHeld}
+use Rattle.demands.specs.LockWords.{Opened}
+use Rattle.demands.specs.HolderWords.{FirstInWay}
 
 -- ---- the first that passes a test
 

@@ -1,35 +1,22 @@
 -- The holder of a LOCKING that is the first command of its message, by the message's bytes: ranges are where the message has them, and each lock is told by its fields
 -- (document 02, CR 2: "in the list as it then stands"; "A lock granted earlier in the same request may be the answer"); of a LOCK_BYTE_RANGE likewise. Assumes nothing.
-use Rattle.std.specs.Prelude.{◌≡◌, ◌↔◌, ℕ, ◌+◌, ◌*◌, ◌%◌, ◌≤◌, ◌<◌, true, length}
-use Rattle.std.proofs.Common.{sym, ◌∙◌, arith}
-use Rattle.std.proofs.Math.Path.{subst}
-use Rattle.std.proofs.Math.Logic.Iff
-use mathlib.Core.List.{List, Memᴰ as In}
-use borrow.Author.Tests.{eqb-true, eq-eqb}
+use Rattle.std.specs.Prelude.{◌≡◌, ℕ, ◌+◌, ◌*◌, ◌≤◌, ◌<◌, true}
+use mathlib.Core.List.{List}
 use Rattle.records.specs.declared.Open.{Open}
 use Rattle.records.specs.declared.Lock.{Lock}
 use Rattle.records.specs.declared.Tables.{Tables}
 use Rattle.records.specs.Held.{locks_of}
 use Rattle.locks.specs.Wire.{range_size}
-use Rattle.locks.specs.Request.{lock_of, of_header}
 use Rattle.locks.specs.declared.types.LockRange.{LockRange}
 use Rattle.locks.specs.declared.types.Holder.{Holder}
-use Rattle.chain.specs.Layout.{LOCKING, LOCK_BYTE_RANGE, header_command, FIRST, byte_count, fid_after_andx, lock_type, unlock_count, lock_count}
-use Rattle.chain.specs.Grammar.{Span, Reading}
-use Rattle.chain.specs.Parse.{range_fields}
-use Rattle.invariants.specs.BlockParse.{body_at}
-use Rattle.invariants.specs.Fit.{Fit}
+use Rattle.chain.specs.Layout.{FIRST, byte_count, fid_after_andx, lock_type, unlock_count, lock_count}
 use Rattle.message.specs.Caller.{caller_of}
 use Rattle.demands.specs.Admitted.{Admitted}
-use Rattle.demands.specs.LoneLock.{shared_in}
 use Rattle.demands.specs.LoneCall.{locking_fields, locking_area}
 use Rattle.demands.specs.CommandReasons.{OnlyTwoBits}
-use Rattle.demands.specs.WireFields.{reading-first}
-use Rattle.demands.specs.LockEffects.{RangeOn, GrantedLock, Unlocked, Locked, large, granted-lock, locking-fits, range_in}
-use Rattle.demands.specs.LockReasons.{PassesOn, ranges_in_lem}
-use Rattle.demands.specs.HolderWords.{FirstInWay, LockHeld, RangeLockHeld, CommandHeld}
-use Rattle.demands.specs.HolderExactly.{call}
-use Rattle.demands.specs.HolderFirst.{FirstMeets}
+use Rattle.demands.specs.LockEffects.{RangeOn, GrantedLock, Unlocked, Locked, large}
+use Rattle.demands.specs.LockReasons.{PassesOn}
+use Rattle.demands.specs.HolderWords.{FirstInWay, LockHeld}
 
 -- ---- the plain words
 

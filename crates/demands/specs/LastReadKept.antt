@@ -7,11 +7,10 @@ use Rattle.std.proofs.Math.Bool.{true, false}
 use mathlib.Core.List.Memᴰ.{cases_cons as first-or-later}
 use mathlib.Core.List.Memᴰ.{head as here}
 use mathlib.Core.List.Memᴰ.{tail as there}
-use mathlib.Core.List.{List, [], ◌∷◌, ◌++◌, map, Memᴰ as In}
+use mathlib.Core.List.{List, [], ◌∷◌, ◌++◌, Memᴰ as In}
 use Rattle.std.proofs.Math.Option.{none, some}
 use Rattle.std.proofs.Math.Dec.{eqb}
 use borrow.Author.Tests.{eq-eqb, ne_eqb}
-use Rattle.lists.specs.Members.{map-in}
 use Rattle.lists.specs.Truth.{not-decided-twice}
 use Rattle.records.specs.declared.Open.{Open}
 use Rattle.records.specs.declared.File.{File}
@@ -22,7 +21,6 @@ use Rattle.records.specs.Held.{opens_of, with_opens}
 use Rattle.numbers.specs.Column.{fid_of}
 use Rattle.soundness.specs.File.{file_of}
 use Rattle.invariants.specs.Numbered.{numbered-same}
-use Rattle.invariants.specs.Shaped.{opens-with}
 use Rattle.invariants.specs.Sound.{Good, changes-most, size-most}
 use Rattle.invariants.specs.SoundParts.{sound-says}
 use Rattle.claims.specs.SoundPlain.{file_of-one}

@@ -3,26 +3,22 @@
 -- (document 02, CR 3), said of the call and of the message's bytes: every field of every lock is one of the message's. Assumes nothing.
 use Rattle.std.specs.Prelude.{◌≡◌, refl, ◌↔◌, Bool, List, [], ◌∷◌, ◌++◌, length, drop, eqb}
 use Rattle.std.proofs.Common.{ap, ◌∙◌, length-take, get_or-take, get_or-drop}
-use Prim.Native.Nat.{ℕ, zero, suc, min, ◌+◌, ◌*◌, ◌/◌, ◌%◌, ◌≤◌, ◌<◌}
+use Prim.Native.Nat.{ℕ, suc, min, ◌+◌, ◌*◌, ◌/◌, ◌%◌, ◌≤◌, ◌<◌}
 use native.Mathlib.Omega.{arith}
 use Rattle.std.proofs.Math.Bool.{true, false}
 use borrow.Author.Tests.{eqb-true, eqb-false, eq-eqb}
-use Rattle.lists.specs.Put.{put}
 use Rattle.wire.specs.LittleEndian.{byte_at, le16_at, le32_at}
 use Rattle.records.specs.declared.Open.{Open}
 use Rattle.records.specs.declared.Lock.{Lock}
 use Rattle.records.specs.declared.Tables.{Tables}
 use Rattle.records.specs.Held.{locks_of, with_locks}
-use Rattle.locks.specs.Wire.{range_size, number_at, range_from, range_at, ranges_at}
+use Rattle.locks.specs.Wire.{range_size, number_at, range_from, range_at}
 use Rattle.locks.specs.Request.{of_header, lock_of}
 use Rattle.locks.specs.declared.types.LockRange.{LockRange}
-use Rattle.chain.specs.Layout.{LOCKING, LOCK_BYTE_RANGE, UNLOCK_BYTE_RANGE, header_command, FIRST, byte_area, byte_count, fid_after_andx, lock_type, unlock_count, lock_count, first_fid, range_length, range_offset}
+use Rattle.chain.specs.Layout.{LOCKING, header_command, FIRST, byte_area, byte_count, fid_after_andx, lock_type, unlock_count, lock_count, first_fid, range_length, range_offset}
 use Rattle.chain.specs.Grammar.{Span, Reading}
 use Rattle.chain.specs.Chain.{blocks}
-use Rattle.chain.specs.Parse.{range_fields}
-use Rattle.chain.specs.declared.block.RangeFields.{RangeFields}
 use Rattle.chain.specs.declared.block.Block.{Block}
-use Rattle.chain.specs.declared.block.Body.TheVariants.{Locking as LockingBody, LockByteRange, UnlockByteRange}
 use Rattle.claims.specs.RemovalPlain.{CatalogueStands}
 use Rattle.invariants.specs.BlockParse.{body_at}
 use Rattle.invariants.specs.Chained.{read-chained}
@@ -31,23 +27,16 @@ use Rattle.invariants.specs.Fit.{Fit}
 use Rattle.readings.specs.SameNumbers.{same-16, same-32}
 use Rattle.message.specs.Caller.{caller_of}
 use Rattle.message.specs.declared.caller.Caller.{Caller}
-use Rattle.message.specs.Refusal.{status, success}
-use Rattle.message.specs.declared.link.Link.TheVariants.{None as no_link}
-use Rattle.message.specs.Command.{Said, plain, done, with_lock_list, do_locking, one_range, do_range, perform}
-use Rattle.message.specs.Reply.{reply_header, reply_block, reply_size}
-use Rattle.message.specs.Message.{area_of, Taken, take-message}
+use Rattle.message.specs.Refusal.{status}
+use Rattle.message.specs.Command.{with_lock_list}
+use Rattle.message.specs.Message.{Taken, take-message}
 use Rattle.demands.specs.StatusRead.{status_read}
 use Rattle.demands.specs.Admitted.{Admitted}
-use Rattle.demands.specs.LoneLock.{InWay, AnyLock, core_range, shared_in}
+use Rattle.demands.specs.LoneLock.{InWay, AnyLock, shared_in}
 use Rattle.demands.specs.LoneCall.{area-first, locking_fields, locking_area}
-use Rattle.demands.specs.LockWords.{TakenOut, Released, none-to-release, release-then, AllGranted, none-to-grant, grant-then}
-use Rattle.demands.specs.LockLeaves.{core_lock}
-use Rattle.demands.specs.FileCommands.{as_core_lem}
-use Rattle.demands.specs.ReplyBytes.{PlainBlock, plain-block}
-use Rattle.demands.specs.CommandReasons.{Announced, ranges_by}
-use Rattle.demands.specs.ReasonCalls.{one-announced}
-use Rattle.demands.specs.DoneCall.{Carried, long-enough}
-use Rattle.demands.specs.CallEffects.{gives-body}
+use Rattle.demands.specs.LockWords.{TakenOut}
+use Rattle.demands.specs.ReplyBytes.{PlainBlock}
+use Rattle.demands.specs.CommandReasons.{ranges_by}
 use Rattle.demands.specs.WireFields.{sender_process, upper_half, FirstBlock, one-first, first_body, first-area}
 
 -- ---- the plain words
@@ -195,7 +184,6 @@ module _ (s : List ℕ) where
       short-range (omega arith) (ap (λ (n : ℕ). 65536 * upper_half s + n) (area-16 (k * 10) (omega arith))) (area-32 (k * 10) 2 (omega arith)) (area-32 (k * 10) 6 (omega arith))
 
   module _ (n : ℕ) (fits : n * range_size large ≤ byte_count s FIRST) where
-
     pub granted-lock : (r : LockRange) → GrantedLock s r (lock_of (fid_after_andx s FIRST) (shared_in (locking_fields s)) r)
     unfolding lock_of
     granted-lock r =

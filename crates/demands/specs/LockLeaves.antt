@@ -1,35 +1,27 @@
 -- What a LOCKING that is done leaves, in plain words (document 01, "Locks, reads and writes": "Unlocks go first, in order: each removes the earliest listed lock
 -- with equal FID, process, offset and length. Then locks in order, each against the list as it stands"), and a LOCK_BYTE_RANGE and an UNLOCK_BYTE_RANGE
 -- (document 02, CR 3), said of the command. Assumes nothing.
-use Rattle.std.specs.Prelude.{◌≡◌, ℕ, ◌+◌, ◌*◌, ◌/◌, ◌%◌, ◌≤◌, ◌<◌, Bool, true, false, cond, List, [], ◌∷◌, ◌++◌, leb, eqb}
-use Rattle.std.proofs.Math.Path.{refl, ap}
-use Rattle.std.proofs.Common.{sym, ◌∙◌, arith, leb-true, eq-eqb}
-use Rattle.std.proofs.Math.Logic.{inl, inr}
-use Rattle.std.proofs.Math.Option.{Option, none, some}
-use Rattle.std.proofs.Math.ListN.{length, length-append}
-use Rattle.lists.specs.Walk.{any}
-use Rattle.lists.specs.Truth.{decided}
+use Rattle.std.specs.Prelude.{◌≡◌, ℕ, ◌%◌, ◌≤◌, ◌<◌, Bool, true, false, cond, List, [], ◌∷◌, ◌++◌}
+use Rattle.std.proofs.Math.Path.{ap}
+use Rattle.std.proofs.Common.{◌∙◌}
+use Rattle.std.proofs.Math.ListN.{length}
 use Rattle.records.specs.declared.Open.{Open}
 use Rattle.records.specs.declared.Lock.{Lock}
 use Rattle.records.specs.declared.Tables.{Tables}
 use Rattle.records.specs.Held.{opens_of, locks_of, with_locks}
-use Rattle.locks.specs.Wire.{range_size, ranges_at, small_form}
-use Rattle.locks.specs.Request.{lock_of, ranges_of, release_all, Grants, granted, blocked, grant_all, Result, after_grants, range_passes, after_releases, request, settle, locking}
+use Rattle.locks.specs.Request.{Result, settle}
 use Rattle.soundness.specs.File.{file_of}
 use Rattle.soundness.specs.Sound.{sound}
 use Rattle.invariants.specs.Shaped.{locks-with}
-use Rattle.claims.proofs.SoundPlain.{sound-plain}
 use Rattle.chain.specs.declared.block.LockingFields.{LockingFields}
 use Rattle.chain.specs.declared.block.RangeFields.{RangeFields}
 use Rattle.message.specs.declared.caller.Caller.{Caller}
 use Rattle.message.specs.declared.refusal.Refusal.{Refusal}
-use Rattle.message.specs.declared.refusal.Refusal.TheVariants.{LockType}
-use Rattle.message.specs.Command.{Given, Said, locked, plain, refused, done, served_type, request_of, with_lock_list, locking_end, locking_after, do_locking, core_said, range_by, one_range, do_range}
-use Rattle.demands.specs.Admitted.{Admitted, with-open}
-use Rattle.demands.specs.LockWords.{never, TakenOut, Released, none-released, one-released, Releasing, all-released, one-unnamed, AllGranted, none-granted, one-granted, Opened, Granting, all-granted, one-blocked}
-use Rattle.demands.specs.LoneLock.{core_range, BarsRange, shared_in, range_back, exclusive-way}
+use Rattle.message.specs.Command.{Given, Said, locked, plain, refused, done, with_lock_list, locking_after}
+use Rattle.demands.specs.Admitted.{Admitted}
+use Rattle.demands.specs.LockWords.{never, TakenOut, Released, AllGranted}
+use Rattle.demands.specs.LoneLock.{core_range, BarsRange, shared_in}
 use Rattle.demands.specs.CommandReasons.{unlocks_in, locks_in}
-use Rattle.demands.specs.FileCommands.{as_core_lem}
 
 -- the tables and the file memory after a LOCKING of the open o that is done, and what it says
 pub record LocksLeft (c : Caller) (t : Tables) (memory : List ℕ) (f : LockingFields) (area : List ℕ) (o : Open) (after : Tables) (left-memory : List ℕ) (said : Said) : Type 0 where

@@ -1,8 +1,7 @@
 -- The status of a LOCKING and the one reason for it (document 01, "Refusals on the wire" and "Locks, reads and writes"), said of the call and of the message's bytes:
 -- ranges are where the message has them, and each lock is told by its fields. Assumes nothing.
-use Rattle.std.specs.Prelude.{◌≡◌, ◌↔◌}
+use Rattle.std.specs.Prelude.{◌≡◌}
 use Rattle.std.proofs.Common.{sym, ap, ◌∙◌}
-use Rattle.std.proofs.Math.Path.{subst}
 use Rattle.std.proofs.Math.Logic.{inl, inr}
 use Prim.Native.Nat.{ℕ, zero, suc, ◌+◌, ◌*◌, ◌%◌, ◌^◌, ◌≤◌, ◌<◌}
 use native.Mathlib.Omega.{arith}
@@ -20,23 +19,18 @@ use Rattle.records.specs.declared.Lock.{Lock}
 use Rattle.records.specs.declared.Tables.{Tables}
 use Rattle.records.specs.Held.{locks_of}
 use Rattle.locks.specs.Wire.{range_size, ranges_at}
-use Rattle.locks.specs.Request.{of_header, lock_of}
+use Rattle.locks.specs.Request.{lock_of}
 use Rattle.locks.specs.declared.types.LockRange.{LockRange}
-use Rattle.chain.specs.Layout.{LOCKING, header_command, FIRST, byte_count, fid_after_andx, lock_type, unlock_count, lock_count}
-use Rattle.chain.specs.Grammar.{Span, Reading}
-use Rattle.invariants.specs.Fit.{Fit}
+use Rattle.chain.specs.Layout.{FIRST, byte_count, fid_after_andx, lock_type, unlock_count, lock_count}
 use Rattle.message.specs.Caller.{caller_of}
 use Rattle.message.specs.Refusal.{status}
 use Rattle.message.specs.declared.refusal.Status.{Status}
-use Rattle.message.specs.Message.{take-message}
-use Rattle.demands.specs.StatusRead.{status_read}
 use Rattle.demands.specs.Admitted.{Admitted, NoOpenFor}
 use Rattle.demands.specs.LoneLock.{shared_in}
-use Rattle.demands.specs.LoneCall.{FirstConflict, locking_fields}
-use Rattle.demands.specs.LockWords.{Named, TakenOut, Released, none-to-release, release-then, Unnamed, names-none, later-names-none, PastEnd, AllGranted, none-to-grant, grant-then, OneBlocked, blocked-here, blocked-later}
-use Rattle.demands.specs.CommandReasons.{OnlyTwoBits, LockingStatus, locking-not, locking-type, locking-unnamed, locking-past, locking-blocked, locking-full, locking-done}
-use Rattle.demands.specs.WireFields.{reading-first, one-first}
-use Rattle.demands.specs.LockEffects.{RangeOn, short-range, long-range, GrantedLock, BarsGrant, Unlocked, none-to-unlock, unlock-then, Locked, none-to-lock, lock-then, area, large, range_in, ranges_in, granted-lock, locking-fits}
+use Rattle.demands.specs.LoneCall.{locking_fields}
+use Rattle.demands.specs.LockWords.{Named, TakenOut}
+use Rattle.demands.specs.CommandReasons.{OnlyTwoBits}
+use Rattle.demands.specs.LockEffects.{RangeOn, short-range, long-range, GrantedLock, BarsGrant, Unlocked, Locked, large, range_in, ranges_in}
 
 -- ---- the reasons
 
@@ -106,7 +100,6 @@ module _ (s : List ℕ) where
       λ i. record { fid = g.of-fid i; process = g.of-process i; offset = g.of-offset i; length = g.of_length i; shared = shared i }
 
   module _ (n : ℕ) (fits : n * range_size (large s) ≤ byte_count s FIRST) where
-
     -- ---- unlocks
 
     -- ---- ranges past 2^64
@@ -131,7 +124,6 @@ module _ (s : List ℕ) where
               let below : w.0 < suc k + m = w.2 in
               (w.0, omega arith, omega arith, w.3)
         ]
-
     -- ---- locks
 
 -- ---- the reasons are those of the command's fields

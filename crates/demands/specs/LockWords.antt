@@ -3,10 +3,10 @@
 use Rattle.std.proofs.Math.Path.{◌≡◌, refl, sym, ap}
 use Rattle.std.proofs.Common.{◌∙◌, length-append}
 use Rattle.std.proofs.Math.Logic.{inl, inr}
-use Prim.Native.Nat.{ℕ, suc, ◌+◌, ◌-◌, ◌^◌, ◌≤◌, ◌<◌}
+use Prim.Native.Nat.{ℕ, ◌+◌, ◌-◌, ◌^◌, ◌≤◌, ◌<◌}
 use native.Mathlib.Omega.{arith}
-use Rattle.std.specs.Prelude.{Bool, cond, not, ◌&&◌, length, get_or}
-use Rattle.std.proofs.Math.Bool.{true, false}
+use Rattle.std.specs.Prelude.{Bool, not, ◌&&◌, length}
+use Rattle.std.proofs.Math.Bool.{true}
 use mathlib.Core.List.Memᴰ.{append_cases as front-or-back}
 use mathlib.Core.List.Memᴰ.{cases_cons as first-or-later}
 use mathlib.Core.List.Memᴰ.{eq_of_singleton as only_one}
@@ -16,19 +16,16 @@ use mathlib.Core.List.{List, [], ◌∷◌, ◌++◌, Memᴰ as In}
 use Rattle.std.proofs.Math.Option.{Option, none, some}
 use Rattle.std.proofs.Math.Dec.{eqb}
 use borrow.Author.Tests.{eqb-true, eq-eqb, ltb-true, lt-ltb, not-true}
-use Rattle.lists.specs.Walk.{any, found_from, found}
+use Rattle.lists.specs.Walk.{any}
 use Rattle.lists.specs.Truth.{both_hold, hold-both, fails, not-decided-twice, not-holds}
 use Rattle.lists.specs.Members.{any-one, one-any}
-use Rattle.lists.specs.declared.Found.{Found}
-use Rattle.lists.specs.declared.Found.TheVariants.{At, Nothing}
 use Rattle.records.specs.declared.Open.{Open}
 use Rattle.records.specs.declared.Lock.{Lock}
 use Rattle.records.specs.declared.Tables.{Tables}
-use Rattle.records.specs.Empty.{no_lock}
 use Rattle.records.specs.Held.{opens_of}
 use Rattle.locks.specs.Range.{overlaps, passes_end, overlap-iff}
 use Rattle.locks.specs.Answer.{owns, bars, in_way, named, answers_for, answers}
-use Rattle.locks.specs.Request.{ask_of, lock_of, remove_at, after_find, release_all, Grants, granted, blocked, after_walk, grant_all, range_passes}
+use Rattle.locks.specs.Request.{ask_of, lock_of, remove_at, Grants, granted, blocked, range_passes}
 use Rattle.locks.specs.declared.types.LockRange.{LockRange}
 use Rattle.locks.specs.declared.types.Holder.{Holder}
 use Rattle.locks.specs.declared.types.Purpose.TheVariants.{Grant, Release}
@@ -36,7 +33,6 @@ use Rattle.soundness.specs.File.{file_of}
 use Rattle.soundness.specs.Sound.{sound}
 use Rattle.invariants.specs.SoundParts.{sound-says}
 use Rattle.claims.specs.SoundPlain.{file_of-one}
-use Rattle.invariants.specs.FoundFacts.{found-hit, found-miss}
 use Rattle.demands.specs.LoneLock.{BarsLock}
 
 -- two constructors are not one

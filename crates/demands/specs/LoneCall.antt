@@ -1,53 +1,41 @@
 -- Demand 2's sentence on a lock alone in its request, said of the call: a message's reply is 35 bytes with Status 1/33 exactly if its first command is
 -- refused for conflict, and so for a lone lock exactly if a listed lock of that file overlaps it and the two aren't both shared. Assumes nothing.
-use Rattle.std.specs.Prelude.{◌≡◌, ◌↔◌, ℕ, ◌+◌, ◌*◌, ◌/◌, ◌%◌, ◌^◌, ◌≤◌, take, drop, get_or}
+use Rattle.std.specs.Prelude.{◌≡◌, ◌↔◌, ℕ, ◌+◌, ◌*◌, ◌/◌, ◌%◌, ◌^◌, ◌≤◌, take, drop}
 use Rattle.std.proofs.Math.Path.{refl, sym, ap}
-use Rattle.std.proofs.Common.{◌∙◌, arith, length-append, eq-eqb, ne_eqb, le-ltb}
-use Rattle.std.proofs.Math.Bool.{false}
+use Rattle.std.proofs.Common.{◌∙◌, arith, length-append, eq-eqb, ne_eqb}
 use mathlib.Core.List.{List, [], ◌∷◌}
 use Rattle.std.proofs.Math.Option.{some}
 use Rattle.std.proofs.Math.ListN.{length}
 use Rattle.std.proofs.Math.Dec.{eqb}
 use Rattle.records.specs.declared.Open.{Open}
-use Rattle.records.specs.Empty.{no_open}
-use Rattle.records.specs.Held.{opens_of, locks_of}
+use Rattle.records.specs.Held.{locks_of}
 use Rattle.records.specs.declared.Tables.{Tables}
-use Rattle.locks.specs.Range.{passes_end}
 use Rattle.locks.specs.Wire.{range_size}
-use Rattle.locks.specs.Request.{range_passes}
-use Rattle.chain.specs.Layout.{LOCKING, header_command, FIRST, byte_area, byte_count, fid_after_andx, lock_type, unlock_count, lock_count}
-use Rattle.chain.specs.Grammar.{IsBlock, locking-10, locking-20, read-10, read-12, write-12, write-14, close, logoff, tree-disconnect, process-exit, core-read, core-write, lock-byte-range, unlock-byte-range, open-15, Span, Reading}
+use Rattle.chain.specs.Layout.{FIRST, byte_area, byte_count, fid_after_andx, lock_type, unlock_count, lock_count}
+use Rattle.chain.specs.Grammar.{IsBlock, locking-10, locking-20, read-10, read-12, write-12, write-14, close, logoff, tree-disconnect, process-exit, core-read, core-write, lock-byte-range, unlock-byte-range, open-15}
 use Rattle.chain.specs.Chain.{blocks}
 use Rattle.chain.specs.declared.block.LockingFields.{LockingFields}
-use Rattle.chain.specs.declared.block.ReadFields.{ReadFields}
-use Rattle.chain.specs.declared.block.WriteFields.{WriteFields}
-use Rattle.chain.specs.declared.block.Body.{Body}
-use Rattle.chain.specs.declared.block.Body.TheVariants.{Locking as LockingBody, Read as ReadBody, Write as WriteBody}
+use Rattle.chain.specs.declared.block.Body.TheVariants.{Locking as LockingBody}
 use Rattle.chain.specs.declared.block.Block.{Block}
 use Rattle.chain.specs.declared.block.Next.{Next}
 use Rattle.chain.specs.declared.block.Next.TheVariants.{End, Follow}
 use Rattle.invariants.specs.BlockParse.{body_at, block_at}
-use Rattle.readings.specs.ReaderComplete.{reader-complete}
-use Rattle.invariants.specs.Chained.{Chained, chained-end, chained_more, read-chained}
+use Rattle.invariants.specs.Chained.{Chained, chained-end, chained_more}
 use Rattle.message.specs.Caller.{caller_of}
 use Rattle.message.specs.Refusal.{status, forms_of, status_of}
 use Rattle.message.specs.declared.refusal.Status.{Status}
 use Rattle.message.specs.declared.refusal.Refusal.{Refusal}
 use Rattle.message.specs.declared.refusal.Refusal.TheVariants.{NotServed, NotSentence, NoSession, NoTree, NoOpen, NoAccess, LockType, NoSuchLock, PassesEnd, LockNotGranted, FileLockConflict, NoRecord, NoSpace, OpenMode, BadAccess, NoSuchFile, BadShare, NoFids}
 use Rattle.message.specs.declared.caller.Caller.{Caller}
-use Rattle.message.specs.Command.{Said, locked, logged_off, read, wrote, plain, core_read, core_wrote, opened, Given, refused, done, do_locking, do_read, do_write, perform}
+use Rattle.message.specs.Command.{Said, locked, logged_off, read, wrote, plain, core_read, core_wrote, opened, Given, refused, done, perform}
 use Rattle.message.specs.JustOpened.{opened_by, body_meant}
 use Rattle.message.specs.Reply.{reply_block, refused_block, reply_size}
-use Rattle.message.specs.Message.{area_of, data_of, Ran, after, link_to, after_given, run, Taken, take-message}
-use Rattle.invariants.specs.JustOpenedLaws.{run-first}
+use Rattle.message.specs.Message.{area_of, data_of, Ran, after, link_to, after_given, run, Taken}
 use Rattle.demands.specs.Malformed.{length-area}
 use Rattle.invariants.specs.ReplySize.{length-block}
-use Rattle.demands.specs.LoneLock.{held_in, held-status, Conflicts, BarsLock, read-conflict, write-conflict, lone_range, shared_in, lock-conflict}
-use Rattle.demands.specs.Admitted.{Admitted}
-use Rattle.demands.specs.CommandReasons.{BarsRead, BarsWrite, OnlyTwoBits, served-exact}
+use Rattle.demands.specs.LoneLock.{held_in, held-status, Conflicts, BarsLock, lone_range, shared_in}
 use Rattle.invariants.specs.Fit.{Fit}
 use Rattle.demands.specs.StatusRead.{status_read}
-use Rattle.demands.specs.Calls.{sentence-answered, length-call}
 
 -- the call's reply says that the first command is refused for conflict: Status 1/33 in a reply of 35 bytes, the header and one refused block. (Where a later
 -- command is refused, the reply has the first one's block too.)
@@ -184,7 +172,6 @@ module _ (connection : ℕ) (s : List ℕ) (b : Block) (bs : List Block) (e : bl
   -- and those behind it
   abbrev pub first-ran : Ran
   first-ran = after_given first-given bs FIRST t memory (λ j p u m. run (caller_of connection s) s j bs p u m)
-
   -- the open o that the command names
 
 -- ---- a message of one command: every reply with 1/33 is 35 bytes long

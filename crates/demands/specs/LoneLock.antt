@@ -1,12 +1,12 @@
 -- When a lone lock, a read or a write is refused for a lock (document 01, "Locks, reads and writes"; document 02, CR 3), in plain propositions. Assumes nothing.
-use Rattle.std.specs.Prelude.{◌≡◌, ◌↔◌, ℕ, min, max, ◌+◌, ◌-◌, ◌*◌, ◌/◌, ◌%◌, ◌^◌, Bool, false, cond, not, ◌&&◌, length, leb, ltb}
+use Rattle.std.specs.Prelude.{◌≡◌, ◌↔◌, ℕ, min, max, ◌+◌, ◌-◌, ◌*◌, ◌/◌, ◌%◌, Bool, false, cond, not, ◌&&◌, length, leb, ltb}
 use Rattle.std.proofs.Math.Path.{refl, ap}
 use Rattle.std.proofs.Common.{sym, ◌∙◌, arith}
 use Rattle.std.proofs.Math.Bool.{true}
 use mathlib.Core.List.{List, [], ◌∷◌, ◌++◌, Memᴰ as In}
 use Rattle.std.proofs.Math.ListN.{get_or}
 use Rattle.std.proofs.Math.Dec.{eqb}
-use borrow.Author.Tests.{eqb-true, eq-eqb, le-ltb, not-true}
+use borrow.Author.Tests.{eqb-true, eq-eqb, not-true}
 use Rattle.lists.specs.Walk.{any, found}
 use Rattle.lists.specs.Truth.{both_hold, hold-both, fails, not-decided-twice, not-holds}
 use Rattle.lists.specs.declared.Found.{Found}
@@ -16,7 +16,7 @@ use Rattle.records.specs.declared.Lock.{Lock}
 use Rattle.records.specs.declared.Tables.{Tables}
 use Rattle.records.specs.Empty.{no_open, no_lock}
 use Rattle.records.specs.Held.{sessions_of, trees_of, opens_of, locks_of}
-use Rattle.locks.specs.Range.{Overlap, overlaps, passes_end, overlap-iff}
+use Rattle.locks.specs.Range.{Overlap, overlaps, overlap-iff}
 use Rattle.locks.specs.Wire.{range_size, range_at, ranges_at, small_form, small-back}
 use Rattle.locks.specs.Answer.{owns, bars, in_way, answers_for, answers}
 use Rattle.locks.specs.Request.{of_header, ranges_of, ask_of as ask_for, lock_of, release_all, granted, after_walk, grant_all, after_grants, range_passes, after_releases, request, settle, locking, Result, done as done_with, refused as refused_by}
@@ -37,7 +37,7 @@ use Rattle.chain.specs.declared.block.WriteFields.{WriteFields}
 use Rattle.chain.specs.declared.block.RangeFields.{RangeFields}
 use Rattle.message.specs.declared.caller.Caller.{Caller}
 use Rattle.message.specs.Contents.{size_of, grown, sized_to}
-use Rattle.message.specs.Command.{Given, Said, core_wrote, refused, done, is_session, with_session, with_tree, is_open, open_at, with_open, served_type, request_of, locking_end, locking_after, do_locking, ask_by, unless_barred, barring, do_read, writing, ends_past, do_write, as_core, range_by, one_range, do_range, between_sizes, do_set_size}
+use Rattle.message.specs.Command.{Given, Said, core_wrote, refused, done, is_session, with_session, with_tree, is_open, open_at, with_open, served_type, request_of, locking_end, locking_after, do_locking, ask_by, unless_barred, barring, do_read, writing, ends_past, do_write, as_core, range_by, one_range, between_sizes, do_set_size}
 use Rattle.message.specs.Refusal.{status, forms_of, status_of, holder_of}
 use Rattle.message.specs.declared.refusal.HeldBy.{HeldBy}
 use Rattle.message.specs.declared.refusal.HeldBy.TheVariants.{Nobody, Holder as held_by}

@@ -1,9 +1,8 @@
 -- "2/22 header command not served" (document 01, "Refusals on the wire"), exactly: of the messages fit to be answered those, and only those, whose header's
 -- command is none of the twelve. Assumes nothing.
-use Rattle.std.specs.Prelude.{◌≡◌, refl, ◌↔◌, ℕ, ◌+◌, ◌*◌, true, List, [], ◌∷◌, length, get_or, ltb, eqb}
-use Rattle.std.proofs.Common.{sym, ap, ◌∙◌, inl, inr, arith, eqb-true}
+use Rattle.std.specs.Prelude.{◌≡◌, refl, ℕ, ◌+◌, ◌*◌, true, List, [], ◌∷◌, length, get_or, ltb, eqb}
+use Rattle.std.proofs.Common.{ap, arith, eqb-true}
 use Rattle.std.proofs.Math.Option.{Option, none, some}
-use Rattle.lists.specs.Truth.{fails, either-holds}
 use Rattle.records.specs.declared.Tables.{Tables}
 use Rattle.records.specs.Empty.{no_open}
 use Rattle.records.specs.Held.{opens_of, locks_of}
@@ -12,7 +11,7 @@ use Rattle.locks.specs.Request.{ranges_of, Result, refused as refused_by, settle
 use Rattle.locks.specs.declared.types.Request.{Request}
 use Rattle.locks.specs.declared.types.Outcome.TheVariants.{Malformed}
 use Rattle.soundness.specs.File.{file_of}
-use Rattle.chain.specs.Layout.{CLOSE, PROCESS_EXIT, LOCKING, READ, WRITE, TREE_DISCONNECT, LOGOFF, CORE-READ, CORE-WRITE, LOCK_BYTE_RANGE, UNLOCK_BYTE_RANGE, OPEN, header_command, FIRST}
+use Rattle.chain.specs.Layout.{header_command, FIRST}
 use Rattle.chain.specs.Chain.{blocks}
 use Rattle.chain.specs.declared.block.LockingFields.{LockingFields}
 use Rattle.chain.specs.declared.block.ReadFields.{ReadFields}
@@ -29,11 +28,8 @@ use Rattle.message.specs.declared.refusal.Status.{Status}
 use Rattle.message.specs.declared.refusal.Refusal.TheVariants.{NoAccess, LockType}
 use Rattle.message.specs.Command.{Given, refused, done, served_type, request_of, locking_end, locking_after, do_locking, do_read, ends_past, do_write, as_core, one_range, do_range, do_set_size, do_core_write, do_open, perform}
 use Rattle.message.specs.JustOpened.{NOBODY, body_meant}
-use Rattle.message.specs.Message.{area_of, data_of, Ran, after, after_given, run, served, only_status, run_chain, answered, take-message}
+use Rattle.message.specs.Message.{area_of, data_of, Ran, after, after_given, run, served, only_status, run_chain, answered}
 use Rattle.invariants.specs.GivenCases.{cond-case, request-case, session-case, tree-case, open-case, barred-case, writing-case, opening-case}
-use Rattle.demands.specs.Malformed.{not-served}
-use Rattle.invariants.specs.Fit.{Fit}
-use Rattle.demands.specs.StatusRead.{status_read}
 
 -- "Known: a request served": "CLOSE 0x04, PROCESS_EXIT 0x11, LOCKING_ANDX 0x24, READ_ANDX 0x2E, WRITE_ANDX 0x2F, TREE_DISCONNECT 0x71, LOGOFF_ANDX 0x74", and document
 -- 02, CR 3: "READ 0x0A, WRITE 0x0B, LOCK_BYTE_RANGE 0x0C and UNLOCK_BYTE_RANGE 0x0D"; CR 6: "OPEN_ANDX 0x2D"

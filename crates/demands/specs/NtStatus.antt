@@ -1,24 +1,16 @@
 -- The Status of a message in both forms (document 02, CR 7): what a reply with the bit carries, and a message with the bit beside the same message without it. Assumes nothing.
-use Rattle.std.specs.Prelude.{◌≡◌, refl, ℕ, ◌+◌, ◌≤◌, ◌↔◌, true, not, ◌||◌, eqb, ltb, List, length, drop}
-use Rattle.std.proofs.Common.{sym, ap, ◌∙◌, arith, eqb-true, eq-eqb}
-use Rattle.std.proofs.Math.Option.{Option, none, some}
+use Rattle.std.specs.Prelude.{◌≡◌, ℕ, ◌+◌, ◌≤◌, true, List, length, drop}
+use Rattle.std.proofs.Common.{sym, ap, ◌∙◌, arith}
 use Rattle.std.proofs.Math.ListN.{take}
 use Rattle.lists.specs.Put.{put}
-use Rattle.lists.specs.Truth.{test-cases}
 use Rattle.wire.specs.LittleEndian.{byte_at, le16_at, le32_at}
 use Rattle.records.specs.declared.Tables.{Tables}
-use Rattle.soundness.specs.Sound.{sound}
-use Rattle.chain.specs.Layout.{header_command, block_end}
-use Rattle.chain.specs.Grammar.{Span, Reading, Sentence}
-use Rattle.chain.specs.declared.block.Block.{Block}
+use Rattle.chain.specs.Layout.{block_end}
+use Rattle.chain.specs.Grammar.{Span, Reading}
 use Rattle.chain.specs.Header.{starts_smb, is_reply, dropped}
-use Rattle.chain.specs.Chain.{blocks}
 use Rattle.invariants.specs.BlockParse.{block_inside}
-use Rattle.invariants.specs.ReaderSound.{reader-sound}
-use Rattle.readings.specs.ReaderComplete.{no-sentence}
-use Rattle.invariants.specs.Fit.{Fit, fit-answered}
+use Rattle.invariants.specs.Fit.{Fit}
 use Rattle.readings.specs.FreeBytes.{AllStand}
-use Rattle.readings.proofs.FreeBytes.{free-reading, all_alike}
 use Rattle.readings.specs.MovedBytes.{part_same}
 use Rattle.message.specs.Refusal.{status, forms_of}
 use Rattle.message.specs.declared.refusal.Status.{Status}
@@ -26,18 +18,14 @@ use Rattle.message.specs.declared.refusal.Forms.{Forms}
 use Rattle.message.specs.declared.refusal.HeldBy.{HeldBy}
 use Rattle.message.specs.declared.refusal.Refusal.TheVariants.{NotServed, NotSentence, NoSession, NoTree, NoOpen, NoAccess, LockType, NoSuchLock, PassesEnd, LockNotGranted, FileLockConflict, NoRecord, NoSpace, OpenMode, BadAccess, NoSuchFile, BadShare, NoFids}
 use Rattle.message.specs.Reply.{two, four, nt_bit, status_number, reply_header}
-use Rattle.message.specs.Message.{Ran, served, answered, reply_of, Taken, not_taken, replied, take-message}
-use Rattle.claims.specs.YesOrNo.{RanBefore, TakenBefore, header01, untaken, replied_before, take_before}
-use Rattle.claims.specs.BeforeHolder.{blank, ran_without, both-chosen}
-use Rattle.claims.proofs.BeforeHolder.{answered-before}
-use Rattle.claims.specs.StatusList.{Ended, all_done, a-refusal, answered-ended, FormsSay}
-use Rattle.claims.proofs.StatusList.{ended-says}
-use Rattle.demands.specs.StatusRead.{status_read, succeeded, zero-succeeded, status-replied, zero_number}
+use Rattle.message.specs.Message.{Ran, answered, reply_of, Taken, replied, take-message}
+use Rattle.claims.specs.YesOrNo.{header01, replied_before}
+use Rattle.claims.specs.BeforeHolder.{blank, ran_without}
+use Rattle.claims.specs.StatusList.{Ended, all_done, a-refusal, FormsSay}
+use Rattle.demands.specs.StatusRead.{status_read}
 use Rattle.demands.specs.Returned.{two_back}
-use Rattle.demands.specs.Malformed.{malformed-nothing, not-served}
-use Rattle.demands.specs.FreeBytesMessage.{HeaderBut11, sent-answered}
-use Rattle.demands.specs.Taken.{not_short}
-use Rattle.demands.specs.Calls.{status-number-call, length-call}
+use Rattle.demands.specs.FreeBytesMessage.{HeaderBut11}
+use Rattle.demands.specs.Calls.{status-number-call}
 use Rattle.demands.specs.CoreMoved.{stands-in}
 
 -- ---- what the reply carries
@@ -122,7 +110,6 @@ pub back : {s t : List ℕ} → ButByte11 s t → ButByte11 t s
 back but = record { same_length = sym but.same_length; same = λ k n. sym (but.same k n) }
 
 module _ (connection : ℕ) (s t : List ℕ) (but : ButByte11 s t) (u : Tables) (memory : List ℕ) where
-
   pub dropped-alike : dropped t ≡ dropped s
   unfolding dropped starts_smb is_reply
   dropped-alike =

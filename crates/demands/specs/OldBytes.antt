@@ -1,26 +1,18 @@
 -- Old bytes never show (document 02, CR 3: "with zeros where it grows and no byte changed where it shrinks"): a file that was cut and grows again, by a count of 0 or by a
 -- write further on, has zeros where it grew; and whatever stands in the file memory at or above a file's size, no history of calls tells it. Assumes nothing.
 use Rattle.std.specs.Prelude.{◌≡◌, ℕ, ◌+◌, ◌-◌, ◌*◌, ◌≤◌, ◌<◌, List, [], ◌∷◌, get_or, replicate}
-use Rattle.std.proofs.Math.Path.{refl, sym, ap}
-use Rattle.std.proofs.Common.{◌∙◌, ext_get_or}
-use Rattle.std.proofs.Math.Logic.{inl, inr}
+use Rattle.std.proofs.Math.Path.{refl, ap}
+use Rattle.std.proofs.Common.{◌∙◌}
 use native.Mathlib.Omega.{arith}
-use Rattle.std.proofs.Math.Decide.{ℕ_discrete}
 use Rattle.std.proofs.Math.ListN.{length}
-use Rattle.std.proofs.lemmas.List.{length-replicate, get_or-replicate}
-use Rattle.records.specs.declared.File.{File}
 use Rattle.records.specs.declared.Name.{Name}
 use Rattle.records.specs.declared.Tables.{Tables}
-use Rattle.records.specs.Empty.{no_file}
 use Rattle.records.specs.Held.{with_sessions, with_trees, with_opens, with_catalogue}
 use Rattle.host.specs.declared.ending.One.{One}
-use Rattle.host.specs.HostCall.{no_tables, refused as host_refused, done as host_done, add_session, add_tree, add_open, load_file, load_memory, drop_connection, set_catalogue, ask_unchanged, end_one}
+use Rattle.host.specs.HostCall.{refused as host_refused, done as host_done, add_session, add_tree, add_open, load_file, load_memory, drop_connection, set_catalogue, ask_unchanged, end_one}
 use Rattle.host.specs.declared.answer.Returned.{Returned}
 use Rattle.claims.specs.RemovalPlain.{files-stand}
-use Rattle.claims.specs.HostAnswer.{load_file-refused, load_file-number, load_memory-refused}
-use Rattle.claims.specs.AskUnchanged.{ask-stands}
-use Rattle.claims.specs.LoadBytes.{load_memory-done, load_file-size, load_file-others}
-use Rattle.invariants.specs.HostCases.{load-passed, add_session-either, add_tree-either, add_open-either, drop_connection-either, end_one-either, set_catalogue-either}
+use Rattle.invariants.specs.HostCases.{add_session-either, add_tree-either, add_open-either, drop_connection-either, end_one-either, set_catalogue-either}
 use Rattle.invariants.specs.Sound.{Good}
 use Rattle.invariants.specs.Fit.{Fit, take-message-good}
 use Rattle.claims.proofs.SoundPlain.{sound-plain}
@@ -28,16 +20,14 @@ use Rattle.chain.specs.Layout.{FIRST, first_fid, core_offset}
 use Rattle.wire.specs.LittleEndian.{byte_at}
 use Rattle.message.specs.declared.refusal.HeldBy.{HeldBy}
 use Rattle.message.specs.declared.refusal.HeldBy.TheVariants.{Nobody}
-use Rattle.message.specs.Contents.{size_of, contents, read_bytes}
+use Rattle.message.specs.Contents.{contents, read_bytes}
 use Rattle.message.specs.Caller.{caller_of}
 use Rattle.message.specs.Message.{Taken, take-message}
-use Rattle.demands.specs.FileBytes.{contents-byte, read-contents, beside, read_length}
-use Rattle.demands.specs.FileCommands.{WroteFile}
-use Rattle.demands.specs.SetSize.{SizeSet, SetSizeDone}
+use Rattle.demands.specs.SetSize.{SetSizeDone}
 use Rattle.demands.specs.WireFields.{read_from}
 use Rattle.demands.specs.Effects.{ReadDone, CoreReadDone}
-use Rattle.demands.specs.Reached.{HostCall, add-session, add-tree, add-open, load, drop as drop-one, end-one, set-catalogue, ask, message, take-message-memory, call-good, start-good, ReachedLending, lending-start, lending-call, lending-reached}
-use Rattle.demands.specs.Shown.{Shown, files-shown}
+use Rattle.demands.specs.Reached.{HostCall, add-session, add-tree, add-open, load, drop as drop-one, end-one, set-catalogue, ask, message, take-message-memory}
+use Rattle.demands.specs.Shown.{Shown}
 
 -- ---- a file that was cut and grows again
 

@@ -7,7 +7,7 @@ use Rattle.std.proofs.Math.Option.{some}
 use Rattle.std.proofs.Math.ListN.{set}
 use Rattle.wire.specs.LittleEndian.{byte_at}
 use Rattle.records.specs.declared.Tables.{Tables}
-use Rattle.message.specs.Refusal.{status, success}
+use Rattle.message.specs.Refusal.{success}
 use Rattle.message.specs.declared.refusal.Forms.{Forms}
 use Rattle.message.specs.declared.refusal.HeldBy.{HeldBy}
 use Rattle.chain.specs.Layout.{header_command, FIRST, block_end}

@@ -1,7 +1,7 @@
 -- FID 0xFFFF behind an OPEN_ANDX (document 02, CR 6: "READ_ANDX may follow .., where FID 0xFFFF means the file just opened; for 0xFFFF, and only then, demand 3's separate READ
 -- carries the FID returned"), by the bytes of messages and replies. Assumes nothing.
 use Rattle.std.specs.Prelude.{◌≡◌, refl, ℕ, ◌+◌, ◌*◌, ◌%◌, ◌≤◌, ◌<◌, true, take}
-use Rattle.std.proofs.Common.{sym, ap, ◌∙◌, arith, get_or-take, eq-eqb}
+use Rattle.std.proofs.Common.{ap, ◌∙◌, arith, get_or-take, eq-eqb}
 use Rattle.std.proofs.Math.Decide.{ℕ_discrete}
 use mathlib.Core.List.{List, [], ◌∷◌, ◌++◌, Memᴰ as In}
 use Rattle.std.proofs.Math.ListN.{length}
@@ -11,16 +11,13 @@ use Rattle.records.specs.declared.Tables.{Tables}
 use Rattle.lists.specs.Members.{in_map}
 use Rattle.numbers.specs.Column.{fid_of}
 use Rattle.soundness.specs.Sound.{sound}
-use Rattle.chain.specs.Layout.{READ, OPEN, NO_COMMAND, header_command, FIRST, word_count, andx_command, fid_after_andx, open_flags}
+use Rattle.chain.specs.Layout.{READ, OPEN, NO_COMMAND, header_command, FIRST, andx_command, open_flags}
 use Rattle.chain.specs.Grammar.{Name, IsBlock, locking-10, locking-20, read-10, read-12, write-12, write-14, close, logoff, tree-disconnect, process-exit, core-read, core-write, lock-byte-range, unlock-byte-range, open-15, MayFollow, locking-read, locking-write, locking-core-read, locking-core-write, read-close, write-write, write_read, write-close, open-read, read-andx, NamedAndx, Span, ReadingFrom, plain_end, andx-end, andx-next, Reading}
 use Rattle.chain.specs.declared.block.Block.{Block}
 use Rattle.chain.specs.declared.block.Body.TheVariants.{Logoff}
 use Rattle.chain.specs.declared.block.Next.TheVariants.{End}
-use Rattle.invariants.specs.BlockParse.{block_inside, block_size, andx-words, plain-not-andx}
-use Rattle.invariants.specs.ReaderSound.{span_of}
+use Rattle.invariants.specs.BlockParse.{plain-not-andx}
 use Rattle.invariants.specs.Fit.{Fit, fit-answered}
-use Rattle.readings.specs.Moved.{Moved}
-use Rattle.readings.proofs.Moved.{moved-fid}
 use Rattle.invariants.specs.Numbered.{numbered_within}
 use Rattle.invariants.specs.SoundParts.{sound-says}
 use Rattle.message.specs.Refusal.{success, forms_of, holder_of}
@@ -33,13 +30,12 @@ use Rattle.message.specs.declared.link.Link.TheVariants.{None as none}
 use Rattle.message.specs.declared.refusal.HeldBy.TheVariants.{Nobody}
 use Rattle.message.specs.JustOpened.{NOBODY, opened_by}
 use Rattle.demands.specs.Admitted.{Admitted}
-use Rattle.demands.specs.Alone.{alone-command, alone-moved, length-alone}
-use Rattle.demands.specs.Carrying.{carrying-byte, carried-fid, asks-opened, carrying-named, carrying-other, lone-gives}
+use Rattle.demands.specs.Carrying.{carrying-byte, lone-gives}
 use Rattle.demands.specs.Returned.{returned_fid, reply-returned, reply-none, Silent, silent-said, other-silent}
 use Rattle.demands.specs.CallsOneByOne.{reply_in, reply-read}
 use Rattle.demands.specs.CoreMoved.{Stands, stands-in}
 use Rattle.demands.specs.OpenEffects.{OpenDone}
-use Rattle.demands.specs.SpansOneByOne.{alone_span, alone-span, own_span}
+use Rattle.demands.specs.SpansOneByOne.{alone_span, own_span}
 use Rattle.demands.specs.Taken.{not_short}
 
 -- ---- by the grammar

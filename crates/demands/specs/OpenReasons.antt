@@ -1,52 +1,40 @@
 -- The status of an OPEN_ANDX and the one reason for it, in plain words (document 02, CR 6: "Refusals, after 2/5: 2/65535 OpenMode, 1/12 access or sharing code, 1/2 name, 1/5 tree
 -- right, 1/32 sharing, 1/4 all 64 FIDs in use"). A reason names the failure of those before it in that order; the status is given just where its reason holds. Assumes nothing.
-use Rattle.std.specs.Prelude.{◌≡◌, ◌↔◌, ℕ, ◌≤◌, ◌<◌, Bool, false, cond, ◌&&◌, leb, eqb}
+use Rattle.std.specs.Prelude.{◌≡◌, ℕ, ◌≤◌, ◌<◌, Bool, ◌&&◌, leb, eqb}
 use Rattle.std.proofs.Math.Path.{refl, sym, ap}
 use Rattle.std.proofs.Common.{◌∙◌}
 use Rattle.std.proofs.Math.Logic.{inl, inr}
 use native.Mathlib.Omega.{arith}
-use Rattle.std.proofs.Math.Decide.{ℕ_discrete}
 use Rattle.std.proofs.Math.Bool.{true}
 use Rattle.std.proofs.lemmas.Bool.{false≢true}
-use mathlib.Core.List.{List, [], ◌∷◌, ◌++◌, Memᴰ as In}
+use mathlib.Core.List.{List, [], ◌∷◌, Memᴰ as In}
 use Rattle.std.proofs.Math.ListN.{get_or}
-use borrow.Author.Tests.{leb-true, leb-false, le-leb, lt-leb, eqb-true, eqb-false, eq-eqb, ne_eqb}
+use borrow.Author.Tests.{leb-true, leb-false, le-leb, eqb-true, eq-eqb}
 use Rattle.lists.specs.Walk.{any, found}
-use Rattle.lists.specs.Truth.{both_hold, hold-both, fails, decided, not-decided-twice}
+use Rattle.lists.specs.Truth.{both_hold, hold-both, decided}
 use Rattle.lists.specs.Members.{any-one, one-any}
-use Rattle.lists.specs.PairLaws.{in_place}
-use Rattle.lists.specs.FoundLaws.{found_below}
-use Rattle.lists.specs.declared.Found.{Found}
-use Rattle.lists.specs.declared.Found.TheVariants.{At, Nothing}
+use Rattle.lists.specs.declared.Found.TheVariants.{At}
 use Rattle.records.specs.declared.Tree.{Tree}
 use Rattle.records.specs.declared.Name.{Name}
 use Rattle.records.specs.declared.Tables.{Tables}
 use Rattle.records.specs.Empty.{no_name}
-use Rattle.records.specs.Held.{trees_of, opens_of, names_of, with_opens}
-use Rattle.numbers.specs.Column.{tid_of}
+use Rattle.records.specs.Held.{trees_of, names_of}
 use Rattle.catalogue.specs.Name.{folded, same_name, name_bytes, is_named}
 use Rattle.soundness.specs.Sound.{sound, holds_open, sharing_ok}
 use Rattle.invariants.specs.RuleLaws.{holds-says}
-use Rattle.invariants.specs.Numbered.{numbered-same}
 use Rattle.invariants.specs.SoundParts.{sound-says}
-use Rattle.invariants.specs.FoundFacts.{found-hit, found-miss}
-use Rattle.invariants.specs.GivenCases.{cond-case}
+use Rattle.invariants.specs.FoundFacts.{found-hit}
 use Rattle.claims.specs.SoundPlain.{holds-ok, permits-says}
-use Rattle.claims.proofs.SoundPlain.{sound-plain}
 use Rattle.claims.specs.CataloguePlain.{SameName}
 use Rattle.claims.proofs.CataloguePlain.{same-name-plain}
 use Rattle.claims.specs.HostReasons.{HasTree, HasPermitting, HasReadOnly}
 use Rattle.claims.specs.Cases.{status_in}
 use Rattle.chain.specs.declared.block.OpenFields.{OpenFields}
 use Rattle.message.specs.declared.caller.Caller.{Caller}
-use Rattle.message.specs.Refusal.{status, forms_of}
+use Rattle.message.specs.Refusal.{status}
 use Rattle.message.specs.declared.refusal.Status.{Status}
-use Rattle.message.specs.declared.refusal.Refusal.TheVariants.{NoAccess, OpenMode, BadAccess, BadShare, NoFids}
-use Rattle.message.specs.Contents.{size_of}
-use Rattle.message.specs.Sharing.{kept_out}
-use Rattle.message.specs.Command.{Given, refused, done, codes_served, open_by, opened_said, open_file, open_named, do_open}
+use Rattle.message.specs.Command.{Given, codes_served, open_by, do_open}
 use Rattle.demands.specs.Admitted.{SessionHere, no-session, NoTreeFor, before-tree, no-tree}
-use Rattle.demands.specs.LoneLock.{some_at}
 use Rattle.demands.specs.Sharing.{KeptOut}
 
 -- ---- the plain words

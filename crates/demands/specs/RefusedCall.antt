@@ -1,20 +1,17 @@
 -- A refusal in a chain, said of the call (document 01, "Refusals on the wire"): "A command refused changes no table and no file byte, its own unlocks
 -- included. Commands before it in the chain stand; those after it aren't begun." Assumes nothing.
-use Rattle.std.specs.Prelude.{◌≡◌, ℕ, ◌+◌, ◌≤◌, true, List, [], ◌∷◌, ◌++◌, drop}
+use Rattle.std.specs.Prelude.{◌≡◌, ℕ, ◌+◌, ◌≤◌, List, [], ◌∷◌, ◌++◌, drop}
 use Rattle.std.proofs.Math.Path.{refl, ap}
-use Rattle.std.proofs.Common.{sym, ◌∙◌, arith, append_assoc, length-append}
-use Rattle.std.proofs.Math.Logic.{inl, inr}
-use Rattle.std.proofs.Math.Option.{Option, none, some}
+use Rattle.std.proofs.Common.{◌∙◌, arith, append_assoc, length-append}
+use Rattle.std.proofs.Math.Option.{some}
 use Rattle.std.proofs.Math.ListN.{length, take}
 use Rattle.std.proofs.Math.Seq.{drop-append-add}
 use Rattle.std.proofs.lemmas.List.{drop-append-le}
 use Rattle.lists.specs.Put.{put}
-use Rattle.lists.specs.Truth.{decided}
 use Rattle.records.specs.declared.Tables.{Tables}
-use Rattle.chain.specs.Layout.{header_command, FIRST}
+use Rattle.chain.specs.Layout.{FIRST}
 use Rattle.chain.specs.Chain.{blocks}
 use Rattle.chain.specs.declared.block.Block.{Block}
-use Rattle.readings.specs.ReaderComplete.{no-sentence}
 use Rattle.message.specs.Caller.{caller_of}
 use Rattle.message.specs.declared.caller.Caller.{Caller}
 use Rattle.message.specs.Refusal.{status, forms_of, status_of, holder_of}
@@ -22,10 +19,10 @@ use Rattle.message.specs.declared.refusal.Refusal.{Refusal}
 use Rattle.message.specs.Command.{Said, Given, refused, done, perform}
 use Rattle.message.specs.JustOpened.{NOBODY, opened_by, body_meant}
 use Rattle.message.specs.Reply.{reply_header, reply_block, refused_block, reply_size}
-use Rattle.message.specs.Message.{area_of, data_of, Ran, after, link_to, after_given, run, served, only_status, answered, reply_of, Taken, replied, take-message}
+use Rattle.message.specs.Message.{area_of, data_of, Ran, after, link_to, after_given, run, answered, reply_of, Taken, replied, take-message}
 use Rattle.invariants.specs.ReplySize.{length-block, length-header}
 use Rattle.invariants.specs.Fit.{Fit, fit-answered}
-use Rattle.demands.specs.Taken.{not_short, malformed-taken, not-served-taken}
+use Rattle.demands.specs.Taken.{not_short}
 use Rattle.demands.specs.StatusRead.{status_read}
 use Rattle.demands.specs.Calls.{sentence-answered, length-call}
 use Rattle.demands.specs.LoneCall.{given-least}

@@ -8,15 +8,9 @@ use Rattle.std.proofs.Math.ListN.{length, get_or-append, length-append, length-d
 use Rattle.std.proofs.Math.Seq.{get_or-take, get_or-drop, length-take-le}
 use Rattle.lists.specs.Put.{put}
 use Rattle.wire.specs.LittleEndian.{byte_at}
-use Rattle.records.specs.declared.Tables.{Tables}
-use Rattle.message.specs.Refusal.{status}
 use Rattle.message.specs.declared.refusal.Forms.{Forms}
 use Rattle.message.specs.Reply.{two, four, nt_bit, status_number, reply_header}
-use Rattle.message.specs.Message.{answered, reply_of, replied, take-message}
-use Rattle.invariants.specs.Fit.{Fit, fit-answered}
-use Rattle.claims.specs.StatusList.{smb-bytes, answered-ended}
-use Rattle.claims.proofs.StatusList.{ended-says}
-use Rattle.demands.specs.Taken.{not_short}
+use Rattle.claims.specs.StatusList.{smb-bytes}
 
 -- "A reply copies Command, PIDHigh, TID, PIDLow, UID and MID; Flags is 0x80 plus the request's 0x08; .. the rest is 0 but for Status", of which the old form has a zero byte at
 -- 6; Flags2 is the request's & 0x4001 (docs/DECISIONS.md, 127)

@@ -5,19 +5,14 @@ use Rattle.std.proofs.Common.{sym, ap, ◌∙◌, zero-add, arith, get_or-drop}
 use Rattle.std.proofs.Math.Bool.{not}
 use Rattle.std.proofs.Math.ListN.{length, drop}
 use Rattle.std.proofs.Math.Seq.{drop-append_seam}
-use borrow.Author.Tests.{ltb-false, not-false}
 use Rattle.lists.specs.Put.{put}
 use Rattle.lists.specs.PutLaws.{length-put}
-use Rattle.lists.specs.Truth.{neither-holds}
 use Rattle.wire.specs.LittleEndian.{byte_at}
 use Rattle.records.specs.declared.Tables.{Tables}
 use Rattle.soundness.specs.Sound.{sound}
-use Rattle.invariants.specs.Shaped.{Shaped}
 use Rattle.chain.specs.Header.{dropped}
 use Rattle.message.specs.Message.{answered, reply_of, Taken, not_taken, replied, take-message}
 use Rattle.invariants.specs.GivenCases.{cond-case}
-use Rattle.demands.specs.Taken.{not_short, not-long}
-use Rattle.invariants.specs.ReplyRoom.{reply-room}
 
 -- ---- a refusal
 

@@ -1,43 +1,22 @@
 -- What a core WRITE of count 0 leaves (document 02, CR 3: "A core WRITE of count 0 sets the file's size to the offset (past 4,096 is 3/39), with zeros where it grows
 -- and no byte changed where it shrinks"), said of the definitions, of the command, of the call and of the message's bytes. Assumes nothing.
-use Rattle.std.specs.Prelude.{◌≡◌, ℕ, ◌+◌, ◌-◌, ◌*◌, ◌≤◌, ◌<◌, List, [], ◌∷◌, ◌++◌, length, take, get_or, set, replicate, ltb}
-use Rattle.std.proofs.Common.{sym, ◌∙◌, inl, inr, arith, length-take, length-append, get_or-take, get_or-append-add, ext_get_or, ltb-true, ltb-false, eq-eqb}
-use Rattle.std.proofs.Math.Path.{ap}
-use Rattle.std.proofs.Math.Option.{some}
-use Rattle.std.proofs.lemmas.List.{length-replicate, get_or-replicate}
-use Rattle.std.proofs.Math.ListN.{get_or-append}
-use Rattle.lists.specs.Truth.{decided}
+use Rattle.std.specs.Prelude.{◌≡◌, ℕ, ◌+◌, ◌-◌, ◌*◌, ◌≤◌, List, ◌++◌, length, take, get_or, set, replicate}
+use Rattle.std.proofs.Common.{◌∙◌, arith, length-take, length-append}
+use Rattle.std.proofs.lemmas.List.{length-replicate}
 use Rattle.lists.specs.PutLaws.{put-nothing}
 use Rattle.records.specs.declared.Open.{Open}
-use Rattle.records.specs.declared.File.{File}
 use Rattle.records.specs.declared.Tables.{Tables}
 use Rattle.records.specs.Change.{raised, changes_of}
 use Rattle.records.specs.Empty.{no_file}
 use Rattle.records.specs.Held.{with_files}
-use Rattle.claims.proofs.SoundPlain.{sound-plain}
 use Rattle.claims.specs.RemovalPlain.{CatalogueStands}
-use Rattle.invariants.specs.SoundParts.{sound-says}
-use Rattle.invariants.specs.Sound.{Good, size-most}
-use Rattle.invariants.specs.Fit.{Fit}
-use Rattle.invariants.specs.BlockParse.{body_at}
-use Rattle.chain.specs.Layout.{CORE-WRITE, header_command, FIRST, first_fid, core_count, core_offset}
-use Rattle.chain.specs.Grammar.{Span, Reading}
-use Rattle.chain.specs.Chain.{blocks}
-use Rattle.chain.specs.declared.block.WriteFields.{WriteFields}
-use Rattle.chain.specs.declared.block.Body.TheVariants.{CoreWrite as CoreWriteBody}
-use Rattle.chain.specs.declared.block.Block.{Block}
-use Rattle.message.specs.Caller.{caller_of}
+use Rattle.invariants.specs.Sound.{Good}
 use Rattle.message.specs.declared.caller.Caller.{Caller}
-use Rattle.message.specs.Refusal.{status}
 use Rattle.message.specs.Contents.{size_of, contents, grown, sized_to}
-use Rattle.message.specs.Command.{Said, done, do_set_size, do_core_write}
-use Rattle.message.specs.Message.{Taken, take-message}
-use Rattle.demands.specs.StatusRead.{status_read}
+use Rattle.message.specs.Message.{Taken}
 use Rattle.demands.specs.Admitted.{Admitted}
-use Rattle.demands.specs.FileBytes.{Grew, contents-byte, contents-length, contents-same, file-inside, grown-bytes, change-here, sized-changes, sized_same, sized-size, sized-others, sized-records}
-use Rattle.demands.specs.FileCommands.{catalogue-kept}
+use Rattle.demands.specs.FileBytes.{Grew, contents-length, file-inside, sized-size}
 use Rattle.demands.specs.ReplyBytes.{CoreWriteBlock}
-use Rattle.demands.specs.WireFields.{core_write_fields, one-first, first_body}
 
 -- ---- the plain words
 
@@ -63,7 +42,6 @@ pub record SizeSet (t after : Tables) (file size : ℕ) (memory left : List ℕ)
 -- ---- the definitions
 
 module _ (t : Tables) (memory : List ℕ) (file size : ℕ) (g : Good t) (full : length memory ≡ 65536) (low : file ≤ 15) (within : size ≤ 4096) where
-
   pub sized : size_of (sized_to t file size) file ≡ size
   sized = sized-size t file size g.shaped low
 

@@ -1,18 +1,16 @@
 -- What opens of one file deny each other, in plain words (document 02, CR 6: "access codes 0 to 2, sharing codes 1 to 4: deny both, deny write, deny read, deny none"; "An
 -- open fails if it asks what another open of the file denies or denies what one has; opens by the host deny nothing"), and that the test says just that.
 -- Assumes nothing.
-use Rattle.std.specs.Prelude.{◌≡◌, refl, ◌↔◌, ℕ, Bool, true, ◌&&◌, ◌||◌, eqb}
+use Rattle.std.specs.Prelude.{◌≡◌, refl, ℕ, Bool, true, eqb}
 use Rattle.std.proofs.Math.Logic.{inl, inr}
 use Rattle.std.proofs.Common.{arith}
 use mathlib.Core.List.{Memᴰ as In}
-use borrow.Author.Tests.{eqb-true, eq-eqb}
-use Rattle.lists.specs.Walk.{any}
-use Rattle.lists.specs.Members.{any-one, one-any}
-use Rattle.lists.specs.Truth.{both_hold, hold-both, either-holds, holds-first, holds-second}
+use borrow.Author.Tests.{eqb-true}
+use Rattle.lists.specs.Truth.{either-holds}
 use Rattle.records.specs.declared.Open.{Open}
 use Rattle.records.specs.declared.Tables.{Tables}
 use Rattle.records.specs.Held.{opens_of}
-use Rattle.message.specs.Sharing.{reads, writes, denies_reading, denies_writing, denied, kept_out}
+use Rattle.message.specs.Sharing.{reads, writes, denies_reading, denies_writing}
 
 -- ---- the plain words
 

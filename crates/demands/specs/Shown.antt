@@ -1,64 +1,37 @@
 -- Whatever stands in the file memory at or above a file's size, no command, no chain and no message tells it (document 02, CR 3: "with zeros where it grows and no byte
 -- changed where it shrinks"): two file memories of which every file shows the same bytes give the same, and what they leave shows the same again. Assumes nothing.
-use Rattle.std.specs.Prelude.{◌≡◌, Bool, true, false, cond, not, ◌||◌, List, [], ◌++◌, drop, get_or, leb, ltb, eqb}
+use Rattle.std.specs.Prelude.{◌≡◌, Bool, true, false, cond, List, ◌++◌, drop, get_or}
 use Rattle.std.proofs.Math.Path.{refl, ap}
-use Rattle.std.proofs.Common.{sym, ◌∙◌, inl, inr, ltb-true, ltb-false, eq-eqb}
-use Prim.Native.Nat.{ℕ, max, ◌+◌, ◌-◌, ◌*◌, ◌≤◌, ◌<◌}
+use Rattle.std.proofs.Common.{sym, ◌∙◌}
+use Prim.Native.Nat.{ℕ, ◌+◌, ◌*◌, ◌≤◌, ◌<◌}
 use native.Mathlib.Omega.{arith}
-use Rattle.std.proofs.Math.Decide.{ℕ_discrete}
-use Rattle.std.proofs.Math.Option.{Option, none, some}
 use Rattle.std.proofs.Math.ListN.{length}
-use Rattle.lists.specs.Truth.{decided}
-use Rattle.lists.specs.Walk.{any, found}
+use Rattle.lists.specs.Walk.{any}
 use Rattle.lists.specs.declared.Found.{Found}
 use Rattle.lists.specs.declared.Found.TheVariants.{At, Nothing}
 use Rattle.records.specs.declared.Open.{Open}
-use Rattle.records.specs.declared.File.{File}
 use Rattle.records.specs.declared.Tables.{Tables}
-use Rattle.records.specs.Empty.{no_open, no_name}
-use Rattle.records.specs.Held.{sessions_of, trees_of, opens_of, names_of, with_opens}
-use Rattle.locks.specs.declared.types.Ask.{Ask}
-use Rattle.locks.specs.declared.types.Locking.{Locking}
-use Rattle.locks.specs.declared.types.Outcome.{Outcome}
-use Rattle.locks.specs.declared.types.Outcome.TheVariants.{Done, Malformed as BadRanges, NoSuchLock as NoLock, PassesEnd as PastEnd, Conflict as InWay, NoRecord as NoRoom}
-use Rattle.catalogue.specs.Name.{is_named}
-use Rattle.soundness.specs.Lookup.{is_tree}
-use Rattle.soundness.specs.Sound.{sound, holds_open}
-use Rattle.removal.specs.Removal.{remove}
-use Rattle.removal.specs.declared.Gone.{Gone}
-use Rattle.claims.specs.RemovalPlain.{files-stand}
-use Rattle.invariants.specs.SoundParts.{sound-says}
-use Rattle.invariants.specs.Sound.{Good, Keeps, keeps-good, perform-keeps, size-most, open-file}
+use Rattle.records.specs.Empty.{no_open}
+use Rattle.records.specs.Held.{sessions_of, opens_of}
+use Rattle.invariants.specs.Sound.{Good, Keeps, keeps-good}
 use Rattle.invariants.specs.BlockParse.{body_at, block_at}
-use Rattle.invariants.specs.Chained.{Chained, chained-end, chained_more, read-chained}
-use Rattle.chain.specs.Layout.{header_command, FIRST}
-use Rattle.chain.specs.Header.{dropped}
-use Rattle.chain.specs.Chain.{blocks}
 use Rattle.chain.specs.Grammar.{IsBlock}
-use Rattle.chain.specs.declared.block.LockingFields.{LockingFields}
-use Rattle.chain.specs.declared.block.ReadFields.{ReadFields}
 use Rattle.chain.specs.declared.block.WriteFields.{WriteFields}
-use Rattle.chain.specs.declared.block.RangeFields.{RangeFields}
-use Rattle.chain.specs.declared.block.OpenFields.{OpenFields}
 use Rattle.chain.specs.declared.block.Body.{Body}
 use Rattle.chain.specs.declared.block.Body.TheVariants.{Locking as LockingBody, Read as ReadBody, Write as WriteBody, Close, Logoff, TreeDisconnect, ProcessExit, CoreRead as CoreReadBody, CoreWrite as CoreWriteBody, LockByteRange, UnlockByteRange, Open as OpenBody}
 use Rattle.chain.specs.declared.block.Block.{Block}
 use Rattle.chain.specs.declared.block.Next.{Next}
-use Rattle.message.specs.Caller.{caller_of}
 use Rattle.message.specs.declared.refusal.Forms.{Forms}
 use Rattle.message.specs.declared.caller.Caller.{Caller}
-use Rattle.message.specs.Refusal.{forms_of}
 use Rattle.message.specs.declared.refusal.Refusal.{Refusal}
-use Rattle.message.specs.declared.refusal.Refusal.TheVariants.{NotServed, NotSentence, NoSession, NoTree, NoAccess, LockType, NoSpace, OpenMode, BadAccess, BadShare, NoFids}
-use Rattle.message.specs.Contents.{size_of, contents, read_bytes, grown, written, resized, sized_to}
-use Rattle.message.specs.Command.{Said, Given, refused, done, is_session, with_session, with_tree, is_open, open_at, with_open, served_type, with_lock_list, locking_end, locking_after, do_locking, unless_barred, barring, do_read, writing, ends_past, do_write, as_core, do_range, do_set_size, do_core_write, codes_served, open_by, open_file, open_named, do_open, perform}
-use Rattle.message.specs.Sharing.{kept_out}
-use Rattle.message.specs.JustOpened.{NOBODY, opened_by, body_meant}
+use Rattle.message.specs.declared.refusal.Refusal.TheVariants.{NoSession}
+use Rattle.message.specs.Contents.{size_of, contents}
+use Rattle.message.specs.Command.{Said, Given, refused, done, is_session, with_session, open_at, unless_barred, as_core}
+use Rattle.message.specs.JustOpened.{opened_by, body_meant}
 use Rattle.message.specs.Reply.{reply_block, reply_size}
-use Rattle.message.specs.Message.{area_of, data_of, Ran, after, link_to, after_given, run, served, only_status, run_chain, answered, reply_of, Taken, not_taken, replied, take-message}
+use Rattle.message.specs.Message.{area_of, data_of, Ran, after, link_to, after_given, only_status, Taken}
 use Rattle.demands.specs.LockWords.{never}
-use Rattle.demands.specs.MemorySize.{write-ends}
-use Rattle.demands.specs.FileBytes.{contents-byte, contents-same, Wrote, grown-bytes, Grew, written-nothing, resized-nothing, sized-size, sized-others, resized-size, resized-others}
+use Rattle.demands.specs.FileBytes.{contents-byte, contents-same}
 use Rattle.demands.specs.FileCommands.{data-counted, core-counted}
 
 -- ---- file memories that show the same

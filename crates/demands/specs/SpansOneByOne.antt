@@ -1,22 +1,17 @@
 -- "Sent one to a message" over the blocks of a reading (document 01): the message that a block makes of its own depends on its command, place and length alone, so
 -- the messages of a reading are known from the message's bytes, with no reader between. Assumes nothing.
-use Rattle.std.specs.Prelude.{◌≡◌, refl, ℕ, ◌-◌, cond, List, [], ◌∷◌, ◌++◌, map, length, take, drop, set}
-use Rattle.std.proofs.Common.{ap, ◌∙◌}
+use Rattle.std.specs.Prelude.{◌≡◌, refl, ℕ, ◌-◌, cond, List, [], ◌∷◌, ◌++◌, map, take, drop, set}
 use Rattle.records.specs.declared.Tables.{Tables}
 use Rattle.chain.specs.Layout.{data_offset}
-use Rattle.chain.specs.Grammar.{Span, Reading}
+use Rattle.chain.specs.Grammar.{Span}
 use Rattle.chain.specs.declared.block.Block.{Block}
 use Rattle.invariants.specs.ReaderSound.{span_of}
-use Rattle.invariants.specs.Sound.{Good}
-use Rattle.invariants.specs.Fit.{Fit}
 use Rattle.message.specs.declared.refusal.HeldBy.TheVariants.{Nobody}
 use Rattle.message.specs.Message.{Taken, take-message}
 use Rattle.demands.specs.Alone.{end_set, data_set, alone_block, alone}
-use Rattle.message.specs.JustOpened.{NOBODY}
 use Rattle.demands.specs.Returned.{returned_fid}
 use Rattle.demands.specs.Carrying.{carrying}
-use Rattle.demands.specs.OneByOne.{own}
-use Rattle.demands.specs.CallsOneByOne.{Calls, reply_in, last_call, call_then, carried_out, call_on, call_all, compared_call}
+use Rattle.demands.specs.CallsOneByOne.{Calls, reply_in, last_call, call_then, carried_out, call_on}
 
 -- "each block in turn makes a message of the chain's header with the block's command, then the block at 32, with AndXCommand 0xFF where it has one, and a
 -- WRITE_ANDX's DataOffset less by what the block moved"

@@ -1,26 +1,23 @@
 -- What the host sees of the stream's exported functions, in the words of `stream`, from the equations of the contracts. Assumes nothing.
-use Rattle.std.specs.Prelude.{◌≡◌, ℕ, ◌+◌, ◌≤◌, ◌<◌, true, List, [], ◌∷◌, ◌++◌, length, get_or, eqb, ltb}
-use Rattle.std.proofs.Math.Path.{refl, sym, ap}
+use Rattle.std.specs.Prelude.{◌≡◌, ℕ, ◌+◌, ◌≤◌, ◌<◌, true, List, [], ◌∷◌, ◌++◌, length, get_or, eqb}
+use Rattle.std.proofs.Math.Path.{refl, sym}
 use Rattle.std.proofs.Common.{◌∙◌}
 use native.Mathlib.Omega.{arith}
-use borrow.Author.Tests.{eqb-true, eqb-false, lt-ltb, le-ltb, ltb-true, ltb-false}
+use borrow.Author.Tests.{eqb-true, eqb-false, lt-ltb, le-ltb}
 use Rattle.lists.specs.Put.{put}
-use Rattle.lists.specs.Truth.{test-cases, fails}
+use Rattle.lists.specs.Truth.{test-cases}
 use Rattle.stream.specs.declared.state.State.{State}
 use Rattle.stream.specs.declared.reader.Event.TheVariants.{NoMessage, InPiece, InBuffer}
 use Rattle.stream.specs.Stream.{First, wanted, stops, whole, first}
 use Rattle.stream.specs.State.{stopped_by, pending, is_left}
-use Rattle.stream.specs.Reader.{Read, step_of, refused, handed, read_by, read}
+use Rattle.stream.specs.Reader.{Read, step_of, handed, read_by, read}
 use Rattle.stream.specs.Writer.{framed, written_of, write}
-use Rattle.stream.specs.StateLaws.{is-left-stopped}
-use Rattle.stream.specs.ReaderLaws.{read-not-left, read-stopped, read-going}
-use Rattle.boundary.specs.StreamWords.{state_in, words_of, step_words, piece_read, step_after, written_after}
+use Rattle.boundary.specs.StreamWords.{state_in, words_of, piece_read, step_after, written_after}
 use Rattle.boundary.specs.OutParameter.{on_done}
-use Rattle.boundary.specs.StreamWordsLaws.{step-stands, step_given, written_stands}
-use Rattle.claims.specs.StreamCut.{stopped-words, stops-number}
+use Rattle.boundary.specs.StreamWordsLaws.{step-stands}
+use Rattle.claims.specs.StreamCut.{stops-number}
 use Rattle.claims.specs.StreamStates.{LeftBySome}
-use Rattle.claims.proofs.StreamStates.{left-passes, passes-left}
-use Rattle.claims.proofs.StreamStatesStated.{left-not-five}
+use Rattle.claims.proofs.StreamStates.{left-passes}
 
 -- ---- the plain words
 

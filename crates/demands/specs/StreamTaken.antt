@@ -1,10 +1,10 @@
 -- "Demands 2 and 3 speak of the messages handed out" (document 02, CR 1): a host that feeds a connection's bytes to the reader as they come and takes each message
 -- handed out gets what it gets of the messages that the stream carries in one piece. Assumes nothing.
-use Rattle.std.specs.Prelude.{◌≡◌, true, length, take, drop}
+use Rattle.std.specs.Prelude.{◌≡◌, length, take, drop}
 use Rattle.std.proofs.Math.Path.{refl, ap}
-use Rattle.std.proofs.Common.{sym, ◌∙◌, arith}
-use Prim.Native.Nat.{ℕ, zero, suc, ◌+◌, ◌≤◌, ◌<◌}
-use mathlib.Core.List.{List, [], ◌∷◌, ◌++◌, flatten}
+use Rattle.std.proofs.Common.{arith}
+use Prim.Native.Nat.{ℕ, zero, suc, ◌≤◌}
+use mathlib.Core.List.{List, [], ◌∷◌, ◌++◌}
 use Rattle.records.specs.declared.Tables.{Tables}
 use Rattle.message.specs.declared.refusal.HeldBy.{HeldBy}
 use Rattle.message.specs.Message.{Taken, take-message}
@@ -13,13 +13,12 @@ use Rattle.invariants.specs.Fit.{take-message-good}
 use Rattle.stream.specs.declared.state.State.{State}
 use Rattle.stream.specs.declared.reader.Event.{Event}
 use Rattle.stream.specs.declared.reader.Event.TheVariants.{NoMessage, InPiece, InBuffer}
-use Rattle.stream.specs.Stream.{Begins, message, begins, First, wanted, stops, whole, first, Carried, with_message, carried_by, carried, Left, begun, stopped, fed}
-use Rattle.stream.specs.State.{none_begun, state_of, left_of, is_left}
+use Rattle.stream.specs.Stream.{begins, First, wanted, stops, whole, first, Carried, with_message, carried_by, carried}
+use Rattle.stream.specs.State.{state_of}
 use Rattle.stream.specs.Reader.{Read, read}
 use Rattle.stream.specs.BeginsLaws.{shown, message-head, judged-message}
-use Rattle.claims.specs.StreamLaws.{whole-seen, whole-size, first-shorter, carried_step}
-use Rattle.claims.specs.StreamCut.{Drained, handed_out, drain_on, drain_within, drained, drained_all, number_of, AllBytes, reader-however-cut}
-use Rattle.claims.proofs.StreamCut.{reader-in-one}
+use Rattle.claims.specs.StreamLaws.{whole-seen, whole-size}
+use Rattle.claims.specs.StreamCut.{Drained, handed_out, drain_on, number_of}
 use Rattle.claims.specs.StreamBack.{AllShort, no-messages, short-one}
 use Rattle.demands.specs.CallsOneByOne.{reply_in}
 

@@ -17,8 +17,7 @@ use Rattle.chain.specs.declared.block.Block.{Block}
 use Rattle.chain.specs.declared.block.Next.{Next}
 use Rattle.chain.specs.declared.block.Next.TheVariants.{End, Follow}
 use Rattle.invariants.specs.BlockParse.{block_at, block_inside, block_size, behind}
-use Rattle.readings.specs.FreeBytes.{AllStand, AllAlike}
-use Rattle.readings.proofs.FreeBytes.{all_alike}
+use Rattle.readings.specs.FreeBytes.{AllAlike}
 use Rattle.invariants.specs.Chained.{Chained, chained-end, chained_more, read-chained}
 use Rattle.message.specs.Message.{served, only_status, answered, reply_of, replied, take-message}
 use Rattle.invariants.specs.Fit.{Fit, fit-answered}

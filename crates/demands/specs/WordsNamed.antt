@@ -1,25 +1,19 @@
 -- Which word is which field: the words that the host lends are the struct of include/gateway.h, in its order (docs/HOST.md, "What is
 -- lent"; the numbers of the words are those that examples/fields.c reads off the header). Of words in use that fit. Assumes nothing.
 use Rattle.std.specs.Prelude.{◌≡◌, true, cond}
-use Rattle.std.proofs.Math.Path.{sym, ap}
+use Rattle.std.proofs.Math.Path.{ap}
 use Rattle.std.proofs.Common.{◌∙◌, get_or-take, get_or-drop}
-use Prim.Native.Nat.{ℕ, suc, ◌+◌, ◌*◌, ◌≤◌, ◌<◌}
-use native.Mathlib.Omega.{arith}
-use mathlib.Core.List.{List, [], ◌∷◌, ◌++◌}
-use Rattle.std.proofs.Math.ListN.{length, get_or, length-append, get_or-append}
-use Rattle.std.proofs.Math.Seq.{get_or-append_seam}
+use Prim.Native.Nat.{ℕ, ◌+◌, ◌*◌, ◌<◌}
+use mathlib.Core.List.{List}
+use Rattle.std.proofs.Math.ListN.{length, get_or}
 use Rattle.lists.specs.Truth.{both_hold}
 use Rattle.records.specs.Empty.{no_session, no_tree, no_open, no_lock, no_file, no_name}
 use Rattle.records.specs.declared.Session.{Session}
 use Rattle.records.specs.declared.Tree.{Tree}
 use Rattle.records.specs.declared.Open.{Open}
 use Rattle.records.specs.declared.Lock.{Lock}
-use Rattle.records.specs.declared.File.{File}
 use Rattle.records.specs.declared.Name.{Name}
-use Rattle.tables.specs.Words.{word, part, record_at, session_limits, tree_limits, open_limits, lock_limits, name_limits, name_array, table_fits, in_use_fit, tables_of}
-use Rattle.tables.specs.PartLaws.{length_part}
-use Rattle.tables.specs.ArrayLaws.{file-at}
-use Rattle.tables.specs.FitLaws.{sessions-faithful, trees-faithful, opens-faithful, locks-faithful, names-faithful}
+use Rattle.tables.specs.Words.{word, part, record_at, session_limits, tree_limits, open_limits, lock_limits, name_limits, table_fits, in_use_fit, tables_of}
 
 -- ---- the words of a record, by number
 

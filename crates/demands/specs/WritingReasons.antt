@@ -1,11 +1,9 @@
 -- The status of a write and the one reason for it, whatever bytes it covers and whatever it comes to (document 01, "Refusals on the wire"; document 02, CR 3): what a WRITE
 -- and a core WRITE of count 0 have in common. Assumes nothing.
-use Rattle.std.specs.Prelude.{◌≡◌, refl, ◌⊎◌, ◌↔◌, ℕ, Bool, true, false, cond, List, get_or, eqb}
+use Rattle.std.specs.Prelude.{◌≡◌, refl, ◌⊎◌, ℕ, Bool, true, false, cond, List, get_or, eqb}
 use Rattle.std.proofs.Common.{sym, ◌∙◌, arith}
 use Rattle.std.proofs.Math.Path.{ap}
 use Rattle.std.proofs.Math.Logic.{inl, inr}
-use borrow.Author.Tests.{eqb-true, eqb-false, eq-eqb, ne_eqb}
-use Rattle.lists.specs.Truth.{decided}
 use Rattle.lists.specs.declared.Found.{Found}
 use Rattle.lists.specs.declared.Found.TheVariants.{At, Nothing}
 use Rattle.records.specs.declared.Open.{Open}
@@ -18,10 +16,10 @@ use Rattle.claims.specs.Cases.{status_in}
 use Rattle.message.specs.declared.caller.Caller.{Caller}
 use Rattle.message.specs.Refusal.{status, forms_of}
 use Rattle.message.specs.declared.refusal.Status.{Status}
-use Rattle.message.specs.declared.refusal.Refusal.TheVariants.{NoAccess, NoSpace}
-use Rattle.message.specs.Command.{Given, refused, done, ask_by, unless_barred, barring, writing}
+use Rattle.message.specs.declared.refusal.Refusal.TheVariants.{NoSpace}
+use Rattle.message.specs.Command.{Given, refused, done, ask_by, unless_barred, writing}
 use Rattle.demands.specs.LoneLock.{held_in, nobody-holds, held-status, Conflicts, May, InWay, Owner, writing-conflict as writing-exact}
-use Rattle.demands.specs.Admitted.{Admitted, NoOpenFor, with-open}
+use Rattle.demands.specs.Admitted.{Admitted, NoOpenFor}
 
 -- a write, by the locks in its way, by what makes it end past 4,096 and by what lets it fit: "or a write on access 0", 1/33, "class 3, code 39, write would end past 4,096"
 pub data WritingStatus (c : Caller) (t : Tables) (fid : ℕ) (Bars : Open → Type 0) (Past Fits : Type 0) : Status → Type 0 where

@@ -1,1 +1,3 @@
+#![tactic(auto)]
+
 // Theorems on what a message gives; no code.

@@ -1,6 +1,6 @@
 -- A digest of numbers: a polynomial in 257, modulo the largest prime below 2^32. Assumes nothing.
 use Rattle.std.specs.Prelude.{◌≡◌, ℕ, ◌+◌, ◌*◌, ◌%◌, ◌≤◌, ◌<◌, List, [], ◌∷◌, length, drop, get_or}
-use Rattle.std.proofs.Common.{ap, ◌∙◌, add-one, drop_of_length-le, drop-cons}
+use Rattle.std.proofs.Common.{add-one, drop_of_length-le, drop-cons}
 
 -- one number more
 unfoldable pub added : ℕ → ℕ → ℕ

@@ -1,4 +1,5 @@
 // A digest of numbers: a polynomial in 257, modulo the largest prime below 2^32.
+#![tactic(auto)]
 
 ghost use Rattle.std.specs.Prelude.{◌≡◌, ◌<◌};
 ghost use Rattle.digest.specs.Digest.{digest};

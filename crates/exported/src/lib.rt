@@ -1,5 +1,6 @@
 // Each exported function called as it stands, with what the host sees of it in the core's own words (`demands/specs/Exported.antt`,
 // `StreamSeen.antt`). A contract of `gateway` that says less, or that speaks of another argument, does not give these.
+#![tactic(auto)]
 
 ghost use Rattle.std.specs.Prelude.{◌≡◌, length, replicate};
 ghost use Rattle.tables.specs.Words.{tables_of};

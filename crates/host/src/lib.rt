@@ -1,6 +1,7 @@
 // The host calls on the words that the host lends (document 01, "What a call returns"): `session::add_session`,
 // `tree::add_tree`, `open::add_open`, `file::load_file`, `connection::drop_connection`, `names::set_catalogue`,
 // `unchanged::ask_unchanged` and `ending::end_one`; and `empty::empty_words` to start from.
+#![tactic(auto)]
 
 pub mod answer;
 pub mod connection;

@@ -38,7 +38,7 @@ use Rattle.message.specs.JustOpened.{NOBODY, opened_by, body_meant}
 use Rattle.message.specs.Reply.{reply_header, reply_block, refused_block, reply_size}
 use Rattle.message.specs.Message.{Ran, after, link_to, after_given, run, served, only_status, run_chain, answered, reply_of}
 use Rattle.message.specs.declared.refusal.Refusal.{Refusal}
-use Rattle.message.specs.declared.refusal.Refusal.TheVariants.{NotServed, NoAccess, LockType, NoSpace}
+use Rattle.message.specs.declared.refusal.Refusal.TheVariants.{NotServed, NoAccess, LockType}
 use Rattle.invariants.specs.GivenCases.{cond-case, request-case, session-case, tree-case, open-case, barred-case, writing-case, opening-case}
 use Rattle.invariants.specs.ReplySize.{length-block, length-header}
 use Rattle.invariants.specs.Sound.{Good, Keeps, keeps-good, perform-keeps, size-most}

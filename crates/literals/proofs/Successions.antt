@@ -1,15 +1,10 @@
 -- Of specs/Successions.antt: what rests on its other theorems. Assumes nothing.
-use Rattle.std.specs.Prelude.{◌≡◌, refl, ◌↔◌, ℕ, zero, suc, ◌+◌, ◌≤◌, ◌<◌, Bool, true, false, not, ◌&&◌, eqb}
-use Rattle.std.proofs.Common.{sym, ◌∙◌, arith, eqb-true, eq-eqb}
-use Rattle.std.proofs.Math.Decide.{ℕ_discrete}
-use Rattle.std.proofs.lemmas.Bool.{false≢true}
-use mathlib.Core.List.Memᴰ.{head as first}
-use mathlib.Core.List.Memᴰ.{tail as later}
-use mathlib.Core.List.{List, [], ◌∷◌, Memᴰ as In}
-use Rattle.lists.specs.Walk.{any, all}
-use Rattle.lists.specs.Members.{all-each, any-one, one-any}
-use Rattle.lists.specs.Truth.{both_hold, hold-both}
-use Rattle.chain.specs.Layout.{CLOSE, LOCKING, READ, WRITE, CORE-READ, CORE-WRITE, OPEN}
+use Rattle.std.specs.Prelude.{◌≡◌, ◌↔◌, ℕ, ◌<◌, true, eqb}
+use Rattle.std.proofs.Common.{sym, ◌∙◌, arith, eqb-true}
+use mathlib.Core.List.{Memᴰ as In}
+use Rattle.lists.specs.Walk.{all}
+use Rattle.lists.specs.Members.{all-each, any-one}
+use Rattle.lists.specs.Truth.{both_hold}
 use Rattle.chain.specs.Grammar.{MayFollow}
 use Rattle.chain.specs.Parse.{may_follow}
 use Rattle.invariants.specs.Follows.{follow-table}

@@ -1,12 +1,11 @@
 -- Document 01's places of the fields ("The grammar of a chain"), of the core commands' (document 02, CR 3) and of OPEN_ANDX's (CR 6), a second time, as numbers, and the whole processes of ranges (CR 4). Each message below has at each place the place itself,
 -- in hex, but where the grammar asks another byte. So a field that is read at another place, or from other bytes, is another number.
 -- Assumes nothing.
-use Rattle.std.specs.Prelude.{◌≡◌, refl, ℕ, ◌+◌, ◌-◌, ◌*◌, ◌/◌, ◌%◌, Bool, true, false, List, [], ◌∷◌, ◌++◌, replicate}
+use Rattle.std.specs.Prelude.{◌≡◌, refl, ℕ, ◌+◌, ◌-◌, ◌*◌, ◌/◌, ◌%◌, true, false, List, [], ◌∷◌, ◌++◌, replicate}
 use Rattle.lists.specs.Walk.{keep}
 use Rattle.wire.specs.LittleEndian.{le16_at, le32_at}
 use Rattle.locks.specs.Wire.{range_size, number_at, range_from, range_at, ranges_at, small_form}
 use Rattle.locks.specs.Request.{of_header, ranges_of}
-use Rattle.locks.specs.declared.types.LockRange.{LockRange}
 use Rattle.locks.specs.declared.types.Request.{Request}
 use Rattle.chain.specs.Judged.{is_whole}
 use Rattle.chain.specs.Parse.{shaped, bare, is_large, locking_fits, read_fits, data_inside, write_fits, core_write_fits, terminated, open_fits, may_follow, link_fits, link_at, answer, wide_offset, parse_locking, parse_read, parse_write, parse_logoff, parse_bare, parse_core_write, parse_open, parse}
@@ -18,7 +17,7 @@ use Rattle.chain.specs.declared.block.Body.TheVariants.{Locking, Read, Write, Cl
 use Rattle.chain.specs.declared.block.Next.{Next}
 use Rattle.chain.specs.declared.block.Next.TheVariants.{End, Follow}
 use Rattle.chain.specs.declared.block.Parsed.{Parsed}
-use Rattle.chain.specs.declared.block.Parsed.TheVariants.{Whole, Malformed}
+use Rattle.chain.specs.declared.block.Parsed.TheVariants.{Whole}
 use Rattle.message.specs.Caller.{caller_of}
 use Rattle.message.specs.Command.{request_of, range_by, one_range, name_asked}
 use Rattle.message.specs.Message.{area_of, data_of}

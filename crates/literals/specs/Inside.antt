@@ -1,15 +1,14 @@
 -- "Otherwise the command must be in the last column and the offset, from the header's start, at least the end of this block" (document 01, "The grammar
 -- of a chain"): a whole READ_ANDX block that stands inside the bytes of the block before it is no next block. Assumes nothing.
-use Rattle.std.specs.Prelude.{◌≡◌, refl, ℕ, List, [], ◌∷◌, ◌++◌, map, length, replicate}
-use Rattle.std.proofs.Math.Option.{none, some}
+use Rattle.std.specs.Prelude.{◌≡◌, refl, ℕ, List, [], ◌∷◌, ◌++◌, replicate}
+use Rattle.std.proofs.Math.Option.{some}
 use Rattle.wire.specs.LittleEndian.{le16_at, le32_at}
-use Rattle.chain.specs.Grammar.{Span, ReadingFrom, Reading, Sentence}
+use Rattle.chain.specs.Grammar.{Sentence}
 use Rattle.chain.specs.Parse.{shaped, bare, read_fits, data_inside, write_fits, may_follow, link_fits, link_at, answer, wide_offset, parse_read, parse_write, parse}
 use Rattle.chain.specs.Chain.{before, after_block, after_parse, blocks_within, blocks_from, blocks}
 use Rattle.chain.specs.declared.block.Block.{Block}
 use Rattle.chain.specs.declared.block.Body.TheVariants.{Read, Write}
 use Rattle.chain.specs.declared.block.Next.TheVariants.{End, Follow}
-use Rattle.invariants.specs.ReaderSound.{span_of, reader-sound-from, reader-sound}
 use Rattle.readings.specs.ReaderComplete.{no-sentence}
 
 -- a READ_ANDX block of 23 bytes that ends its chain: FID 4, offset and max as given

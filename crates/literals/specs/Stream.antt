@@ -1,5 +1,5 @@
 -- The session header of RFC 1002 (document 02, CR 1), its numbers a second time. Assumes nothing.
-use Rattle.std.specs.Prelude.{◌≡◌, refl, ℕ, Bool, true, false, not, List, [], ◌∷◌, length, take, replicate, eqb}
+use Rattle.std.specs.Prelude.{◌≡◌, refl, ℕ, not, [], ◌∷◌, replicate, eqb}
 use Rattle.lists.specs.Walk.{keep}
 use Rattle.lists.specs.Put.{put}
 use Rattle.stream.specs.Stream.{length_of, known, judge_length, judge, header_of}

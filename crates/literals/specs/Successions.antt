@@ -1,19 +1,17 @@
 -- What may follow what (document 02, CR 5): "of all 65,536 pairs it allows exactly the eight listed"; CR 6: "CR 5's eight pairs become nine". The checker computes one test over the whole table, and a
 -- lemma turns the test into the rule. Assumes nothing.
-use Rattle.std.specs.Prelude.{◌≡◌, refl, ◌↔◌, ℕ, zero, suc, ◌+◌, ◌≤◌, ◌<◌, Bool, true, false, not, ◌&&◌, eqb}
-use Rattle.std.proofs.Common.{sym, ◌∙◌, arith, eqb-true, eq-eqb}
+use Rattle.std.specs.Prelude.{◌≡◌, refl, ℕ, zero, suc, ◌+◌, ◌≤◌, ◌<◌, Bool, true, false, not, ◌&&◌, eqb}
+use Rattle.std.proofs.Common.{sym, arith, eq-eqb}
 use Rattle.std.proofs.Math.Decide.{ℕ_discrete}
 use Rattle.std.proofs.lemmas.Bool.{false≢true}
 use mathlib.Core.List.Memᴰ.{head as first}
 use mathlib.Core.List.Memᴰ.{tail as later}
 use mathlib.Core.List.{List, [], ◌∷◌, Memᴰ as In}
 use Rattle.lists.specs.Walk.{any, all}
-use Rattle.lists.specs.Members.{all-each, any-one, one-any}
-use Rattle.lists.specs.Truth.{both_hold, hold-both}
+use Rattle.lists.specs.Members.{one-any}
+use Rattle.lists.specs.Truth.{hold-both}
 use Rattle.chain.specs.Layout.{CLOSE, LOCKING, READ, WRITE, CORE-READ, CORE-WRITE, OPEN}
-use Rattle.chain.specs.Grammar.{MayFollow}
 use Rattle.chain.specs.Parse.{may_follow}
-use Rattle.invariants.specs.Follows.{follow-table}
 use Rattle.literals.specs.Counting.{count_from}
 
 -- a command, and one that may follow it

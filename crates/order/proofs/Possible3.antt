@@ -1,58 +1,25 @@
 -- Of specs/Possible3.antt: what rests on its other theorems. Assumes nothing.
-use Rattle.std.specs.Prelude.{◌≡◌, refl, ℕ, ◌+◌, true, false, List, [], ◌∷◌, ◌++◌, length, replicate, get_or}
+use Rattle.std.specs.Prelude.{◌≡◌, refl, ℕ, List, ◌++◌, replicate, get_or}
 use Rattle.std.proofs.Common.{ap, ◌∙◌, arith}
-use mathlib.Core.List.Memᴰ.{head as first}
-use Rattle.std.proofs.lemmas.List.{length-replicate}
-use Rattle.lists.specs.Put.{put}
-use Rattle.lists.specs.Walk.{any, all, all_tails, found, found_from}
-use Rattle.lists.specs.Stored.{stored}
 use Rattle.wire.specs.LittleEndian.{le16_at, le32_at}
-use Rattle.records.specs.declared.Open.{Open}
-use Rattle.records.specs.declared.Lock.{Lock}
 use Rattle.records.specs.declared.Tables.{Tables}
-use Rattle.records.specs.Empty.{no_session, no_tree, no_open, no_lock, no_file, no_name}
-use Rattle.records.specs.Held.{with_files, with_opens}
-use Rattle.numbers.specs.Number.{contains, number_ok, numbered}
-use Rattle.locks.specs.Range.{overlaps, passes_end}
-use Rattle.locks.specs.Wire.{range_size, number_at, range_from, range_at, ranges_at, small_form}
-use Rattle.locks.specs.Answer.{owns, bars, in_way, named, answers_for, answers}
-use Rattle.locks.specs.Request.{of_header, ranges_of, holder_at, ask_of, lock_of, remove_at, after_find, release_all, after_walk, grant_all, after_grants, range_passes, after_releases, request, settle, locking}
-use Rattle.soundness.specs.File.{file_of}
-use Rattle.soundness.specs.Lookup.{is_tree}
-use Rattle.catalogue.specs.Name.{none_doubled, catalogue_ok}
-use Rattle.soundness.specs.Sound.{within_room, file_ok, tree_ok, permits, holds_open, sharing_ok, open_ok, sound_records, lock_ok, agree, agree_all, sound_locks, sound, seen_ok}
 use Rattle.chain.specs.Layout.{LOCKING, READ, WRITE, CORE-READ, CORE-WRITE, LOCK_BYTE_RANGE, UNLOCK_BYTE_RANGE}
-use Rattle.chain.specs.Header.{starts_smb, is_reply, dropped}
-use Rattle.chain.specs.Parse.{shaped, bare, is_large, locking_fits, core_write_fits, may_follow, link_fits, link_at, answer, parse_locking, parse_bare, parse_core_write, parse}
-use Rattle.chain.specs.Chain.{before, after_block, after_parse, blocks_within, blocks_from, blocks}
-use Rattle.message.specs.Caller.{caller_of}
-use Rattle.message.specs.Refusal.{status, forms_of, holder_of}
-use Rattle.message.specs.declared.refusal.HeldBy.{HeldBy}
-use Rattle.message.specs.declared.refusal.HeldBy.TheVariants.{Nobody, Holder as held_by}
-use Rattle.message.specs.Command.{is_session, with_session, with_tree, is_open, open_at, with_open, served_type, request_of, with_lock_list, locking_end, locking_after, do_locking, ask_by, unless_barred, barring, do_read, ends_past, do_write, core_said, as_core, range_by, one_range, do_range, between_sizes, do_set_size, do_core_write, perform}
-use Rattle.message.specs.Contents.{size_of, contents, read_bytes, written, resized, sized_to}
-use Rattle.message.specs.Reply.{two, link_words, reply_size, reply_block, refused_block}
-use Rattle.message.specs.JustOpened.{fid_meant, body_meant}
-use Rattle.message.specs.Message.{area_of, data_of, Ran, after, link_to, after_given, run, served, run_chain, answered, Taken, replied}
+use Rattle.chain.specs.Parse.{shaped, core_write_fits, answer, parse_core_write, parse}
+use Rattle.chain.specs.Chain.{after_block, after_parse, blocks_within, blocks_from, blocks}
+use Rattle.message.specs.declared.refusal.HeldBy.TheVariants.{Nobody}
+use Rattle.message.specs.Message.{answered, Taken, replied}
 use Rattle.invariants.specs.Sound.{Good}
 use Rattle.invariants.specs.Fit.{fit-answered, take-message-good}
 use Rattle.invariants.specs.ReaderSound.{span_of, reader-sound}
-use Rattle.claims.specs.HostReasons.{HasTree}
-use Rattle.claims.specs.StreamKept.{Bytes}
 use Rattle.literals.specs.State.{memory}
 use Rattle.literals.specs.CoreCommands.{core_write as core_write_of, size_to}
 use Rattle.demands.proofs.Calls.{status-call}
-use Rattle.demands.specs.Calls.{length-call}
-use Rattle.demands.specs.Admitted.{SessionHere, Admitted}
 use Rattle.demands.specs.Reached.{take-message-memory}
 use Rattle.demands.specs.DataBlock.{BadCoreWrite, alone, not-marked}
-use Rattle.demands.specs.CorePairCalls.{EqualFields}
-use Rattle.demands.specs.CorePairCases.{sent, core_read, andx_read, core_write, andx_write, core_bytes, andx_locking, short100, BothSent, PairSent, read-sent, write-sent, lock-sent, unlock-sent, ChainSent, chain-sent}
-use Rattle.order.specs.Call.{Call, gives, Answerable, OneCommand, Says, sender, sending}
-use Rattle.order.specs.Demand2.{ValidCoreOpen}
-use Rattle.order.specs.Request3.{AsksSize, SentInstead, OnWhatItLeft}
+use Rattle.demands.specs.CorePairCases.{sent, core_read, andx_read, core_write, andx_write, core_bytes, andx_locking, short100, PairSent, read-sent, write-sent, lock-sent, unlock-sent, chain-sent}
+use Rattle.order.specs.Call.{gives, Answerable, Says}
+use Rattle.order.specs.Request3.{AsksSize}
 use Rattle.order.proofs.Request3.{request-3}
-use Rattle.records.specs.Change.{changes_of, noting}
 use Rattle.order.specs.Possible3.{ChainPossible, Given, PairPossible, answerable, asked, bad_block, bench, bench-sound, bench_open, both-sent, call-says, cut, given-here, good, grow, grown, grown-on-it, kept, left_there, lock_then_read, memory-whole, one-write, others, others_hold, own, too_large, valid-open}
 
 -- the file is cut from 6 to 4

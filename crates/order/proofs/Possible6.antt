@@ -1,57 +1,26 @@
 -- Of specs/Possible6.antt: what rests on its other theorems. Assumes nothing.
-use Rattle.std.specs.Prelude.{◌≡◌, refl, ℕ, true, false, List, [], ◌∷◌, ◌++◌, length, replicate}
-use Rattle.std.proofs.Common.{sym, subst, ◌∙◌, arith}
+use Rattle.std.specs.Prelude.{◌≡◌, refl, ℕ, false, List, [], ◌∷◌}
+use Rattle.std.proofs.Common.{sym, subst, arith}
 use mathlib.Core.List.Memᴰ.{head as first}
 use Rattle.std.proofs.lemmas.List.{length-replicate}
-use Rattle.lists.specs.Walk.{any, all, all_tails, found, found_from}
-use Rattle.lists.specs.Stored.{stored}
-use Rattle.wire.specs.LittleEndian.{le16_at, le32_at}
-use Rattle.records.specs.declared.Name.{Name}
-use Rattle.records.specs.declared.Tables.{Tables}
-use Rattle.records.specs.Empty.{no_session, no_tree, no_open, no_lock, no_file, no_name}
-use Rattle.records.specs.Held.{with_opens, with_catalogue}
-use Rattle.numbers.specs.Number.{contains, number_ok, numbered, free_from, smallest_free}
-use Rattle.locks.specs.Range.{overlaps, passes_end}
-use Rattle.catalogue.specs.Name.{folded, same_name, name_bytes, is_named, not_zero, name_ok, differ, none_doubled, catalogue_ok}
-use Rattle.soundness.specs.File.{file_of}
-use Rattle.soundness.specs.Lookup.{is_tree}
-use Rattle.soundness.specs.Sound.{within_room, file_ok, tree_ok, permits, holds_open, sharing_ok, open_ok, sound_records, lock_ok, agree, agree_all, sound_locks, sound, seen_ok}
-use Rattle.host.specs.HostCall.{done, set_catalogue}
-use Rattle.chain.specs.Layout.{READ, OPEN, FIRST, fid_after_andx}
-use Rattle.chain.specs.Grammar.{Span, Reading}
-use Rattle.chain.specs.Header.{starts_smb, is_reply, dropped}
-use Rattle.chain.specs.Parse.{shaped, bare, read_fits, terminated, open_fits, may_follow, link_fits, link_at, answer, wide_offset, parse_read, parse_open, open_fields, parse}
-use Rattle.chain.specs.Chain.{before, after_block, after_parse, blocks_within, blocks_from, blocks}
+use Rattle.wire.specs.LittleEndian.{le16_at}
+use Rattle.chain.specs.Layout.{OPEN, FIRST, fid_after_andx}
+use Rattle.chain.specs.Header.{dropped}
+use Rattle.chain.specs.Parse.{open_fields}
 use Rattle.message.specs.Caller.{caller_of}
-use Rattle.message.specs.Refusal.{status, forms_of}
-use Rattle.message.specs.declared.refusal.Status.{Status}
-use Rattle.message.specs.Contents.{size_of, contents, read_bytes}
-use Rattle.message.specs.Sharing.{reads, writes, denies_reading, denies_writing, denied, kept_out}
-use Rattle.message.specs.Command.{is_session, with_session, with_tree, is_open, open_at, with_open, ask_by, unless_barred, barring, do_read, codes_served, name_asked, open_by, opened_said, open_file, open_named, do_open, perform}
-use Rattle.message.specs.Reply.{reply_size}
-use Rattle.message.specs.JustOpened.{opened_by, fid_meant, body_meant}
-use Rattle.message.specs.Message.{area_of, data_of, after, after_given, run, served, run_chain, answered}
+use Rattle.message.specs.Refusal.{status}
 use Rattle.invariants.specs.Sound.{Good}
-use Rattle.invariants.specs.ReaderSound.{span_of, reader-sound}
 use Rattle.claims.specs.HostReasons.{HasTree, HasPermitting}
-use Rattle.claims.proofs.CataloguePlain.{same-name-plain}
-use Rattle.literals.specs.State.{name, memory}
+use Rattle.literals.specs.State.{memory}
 use Rattle.literals.specs.Replies.{message}
-use Rattle.literals.specs.Opening.{crl, open_words, opening, crl_bytes, open_crl, crl_then_read, read_of, asking}
-use Rattle.demands.proofs.Calls.{status-call}
+use Rattle.literals.specs.Opening.{open_words, opening, crl_bytes, open_crl, asking}
 use Rattle.demands.specs.Admitted.{SessionHere}
-use Rattle.demands.specs.Alone.{named_andx, end_set, data_set}
-use Rattle.demands.specs.Carrying.{asks_opened, carrying}
-use Rattle.demands.specs.Sharing.{writes-1, writing, writing-by-2, asks-denied, KeptOut}
-use Rattle.demands.specs.OpenReasons.{NamesFile, OpenPermitted}
+use Rattle.demands.specs.OpenReasons.{OpenPermitted}
 use Rattle.demands.specs.OpenEffects.{OpenDone}
-use Rattle.demands.specs.SpansOneByOne.{alone_span, own_span}
-use Rattle.demands.specs.SpansRefused.{last_returned}
 use Rattle.demands.specs.WireFields.{open_name}
-use Rattle.order.specs.Call.{Call, gives, Answerable, OneCommand, Says, sender, some_room, own_message}
+use Rattle.order.specs.Call.{gives, Answerable, Says, sender, own_message}
 use Rattle.order.specs.Demand2.{DoneAlone, demand-2}
 use Rattle.order.proofs.Request6.{request-6}
-use Rattle.records.specs.Change.{changes_of, noting}
 use Rattle.order.specs.Possible6.{DoneBy, asked, call-says, chain-nobody, chain-reading, first-message, given-here, good, kept, memory-whole, named_here, office, office-sound, one-open, open_first, open_span, open_then_read, read_span, to_read, to_write, two_names, write-kept-out}
 
 pub answerable : (s : List ℕ) (others : ℕ) → Good (office two_names 2 others) → dropped s ≡ false → Answerable (asked s others)

@@ -1,16 +1,11 @@
 -- Of specs/Possible7.antt: what rests on its other theorems. Assumes nothing.
-use Rattle.std.specs.Prelude.{◌≡◌, refl, ℕ, ◌/◌, ◌%◌, false, List, [], set, replicate}
-use Rattle.std.proofs.Common.{◌∙◌, length-set, get_or-set_other}
-use Rattle.wire.specs.LittleEndian.{byte_at}
-use Rattle.chain.specs.Layout.{LOCKING, header_command}
-use Rattle.chain.specs.Header.{starts_smb, is_reply, dropped}
-use Rattle.chain.specs.Grammar.{Reading}
+use Rattle.std.specs.Prelude.{[], replicate}
+use Rattle.std.proofs.Common.{◌∙◌}
 use Rattle.claims.specs.Cases.{message}
-use Rattle.demands.specs.NtStatus.{ButByte11}
-use Rattle.demands.proofs.NtStatus.{reading-too, form-alone}
-use Rattle.order.specs.Call.{Call, Answerable}
+use Rattle.demands.proofs.NtStatus.{form-alone}
+use Rattle.order.specs.Call.{Answerable}
 use Rattle.order.specs.Demand2.{RefusedForConflict}
-use Rattle.order.specs.Possible.{plant, asked, kept-61, chain_spans, chain-reading}
+use Rattle.order.specs.Possible.{plant, asked, kept-61}
 use Rattle.order.proofs.Possible.{plant-good, answerable, lock-refused}
 use Rattle.order.specs.Possible7.{but-byte, kept, lock_with_bit, with_bit}
 

@@ -1,66 +1,25 @@
 -- Of specs/Request3.antt: what rests on its other theorems. Assumes nothing.
-use Rattle.std.specs.Prelude.{◌≡◌, refl, ◌↔◌, ℕ, ◌+◌, ◌*◌, ◌^◌, ◌≤◌, ◌<◌, false, length, get_or, ltb}
+use Rattle.std.specs.Prelude.{ℕ, ltb}
 use Rattle.std.proofs.Common.{sym, ap, subst, ◌∙◌, inl, inr, arith, ltb-true, ltb-false}
-use Rattle.std.proofs.Math.Decide.{ℕ_discrete}
-use mathlib.Core.List.{List, [], ◌∷◌, ◌++◌, Memᴰ as In}
 use Rattle.lists.specs.Truth.{decided}
-use Rattle.wire.specs.LittleEndian.{byte_at, le16_at, le32_at, le16-below}
 use Rattle.records.specs.declared.Open.{Open}
-use Rattle.records.specs.declared.Lock.{Lock}
-use Rattle.records.specs.declared.Tables.{Tables}
-use Rattle.records.specs.Held.{locks_of}
-use Rattle.locks.specs.declared.types.LockRange.{LockRange}
-use Rattle.host.specs.HostCall.{no_tables}
-use Rattle.chain.specs.Layout.{LOCKING, READ, WRITE, CORE-READ, CORE-WRITE, LOCK_BYTE_RANGE, UNLOCK_BYTE_RANGE, header_command, FIRST, block_end, andx_command, andx_offset, data_length, first_fid, core_count, core_offset, range_length, range_offset}
-use Rattle.chain.specs.Grammar.{IsBlock, MayFollow, Span, span_at, Reading}
-use Rattle.chain.specs.Parse.{range_fields}
-use Rattle.chain.specs.declared.block.WriteFields.{WriteFields}
-use Rattle.chain.specs.declared.block.RangeFields.{RangeFields}
-use Rattle.message.specs.Caller.{caller_of}
-use Rattle.message.specs.Contents.{size_of}
+use Rattle.chain.specs.Layout.{FIRST, core_offset}
 use Rattle.message.specs.Refusal.{status}
-use Rattle.message.specs.declared.caller.Caller.{Caller}
-use Rattle.message.specs.declared.refusal.Status.{Status}
-use Rattle.invariants.specs.Fit.{take-message-good}
-use Rattle.invariants.specs.SoundParts.{sound-says}
-use Rattle.invariants.specs.Sound.{Good, size-most}
-use Rattle.readings.specs.CoreAlone.{EndsChain, Core, may-end, ends_read, ends-write, core-lock, core-unlock, CoreStands, core-last, core-follows, core-alone, core-ends}
-use Rattle.readings.proofs.CoreAlone.{core-stands}
-use Rattle.claims.proofs.SoundPlain.{sound-plain}
-use Rattle.claims.specs.StreamKept.{Bytes}
-use Rattle.demands.specs.NotServed.{Known, known-core-read, known-core-write, known-lock, known-unlock}
-use Rattle.demands.specs.LoneLock.{InWay, Owner}
-use Rattle.demands.specs.LockWords.{Named, TakenOut}
-use Rattle.demands.specs.Admitted.{no-session, before-tree, no-tree, before-open, no-open}
-use Rattle.demands.specs.CoreReasons.{LockStatus, lock-not, lock-barred, lock-full, lock-done, unlock-unnamed, unlock-done}
-use Rattle.demands.specs.WritingReasons.{write-space, write_done}
-use Rattle.demands.specs.WireFields.{read_from, write_from, write_data, core_read_fields, core_write_fields, core_data}
-use Rattle.demands.specs.CommandReasons.{count-0}
-use Rattle.demands.proofs.FirstReadings.{first-set-size-reading, one-conflict, core-write-exact, lock-exact, unlock-exact}
+use Rattle.demands.specs.NotServed.{known-core-read, known-core-write, known-lock, known-unlock}
+use Rattle.demands.specs.WireFields.{write_from, write_data, core_data}
 use Rattle.demands.specs.HolderLone.{same-open}
-use Rattle.demands.specs.DataBlock.{BadCoreWrite, AnsweredMalformed, marked-block, reading-block}
 use Rattle.demands.proofs.DataBlock.{bad-data-block}
-use Rattle.demands.specs.CorePairCalls.{EqualReadWrite, EqualFields, BlocksAlike, SameCalls, SameLocking, ChainsAlike}
-use Rattle.demands.proofs.CorePairCallsStated.{core-calls}
-use Rattle.demands.proofs.CorePairCalls.{chain-calls}
 use Rattle.demands.specs.FileCommands.{WroteFile}
 use Rattle.demands.proofs.Effects.{read-reading, write-reading, core-read-reading, core-write-reading}
 use Rattle.demands.specs.SetSize.{SizeSet}
-use Rattle.demands.proofs.SetSize.{set-size-reading}
-use Rattle.demands.proofs.LockEffects.{lock-reading, unlock-reading}
-use Rattle.demands.specs.Processes.{range-whole}
 use Rattle.demands.proofs.Processes.{own-sender}
 use Rattle.demands.specs.Taken.{not-long}
-use Rattle.demands.specs.SpansOneByOne.{own_span}
-use Rattle.demands.specs.CoreMoved.{SameBlock}
 use Rattle.demands.proofs.CoreMoved.{core-sent}
-use Rattle.demands.specs.Reached.{take-message-memory}
-use Rattle.demands.specs.OldBytes.{ZeroFrom, zero-in-reply, zero-in-core-reply, Asked, history}
+use Rattle.demands.specs.OldBytes.{ZeroFrom, zero-in-reply, zero-in-core-reply}
 use Rattle.demands.proofs.OldBytes.{cut-then-grown, cut-then-written, never-shows, first-never-shows}
-use Rattle.order.specs.Call.{Call, gives, Answerable, OneCommand, Says, sender, sending}
-use Rattle.order.specs.Demand1.{StatusForItsReason, RoomSuffices, demand-1}
-use Rattle.order.specs.Demand2.{DoneAlone, ValidOpen, core_asked, ValidCoreOpen, covered_from, covered_count}
-use Rattle.order.specs.Demand3.{Demand3, demand-3}
+use Rattle.order.specs.Call.{gives}
+use Rattle.order.specs.Demand1.{demand-1}
+use Rattle.order.specs.Demand3.{demand-3}
 use Rattle.order.specs.Request3.{LockBetween, OldBytesNeverShow, Request3, SetsTheSize, counterparts, file-low, left-good, left-whole, longest-reply, moved, never-arise, nothing-unlocked, on-wire, size-covers, size-done, size-past, size-set, standing, two-codes}
 
 pub sizes : SetsTheSize

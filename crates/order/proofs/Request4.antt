@@ -1,35 +1,15 @@
 -- Of specs/Request4.antt: what rests on its other theorems. Assumes nothing.
-use Rattle.std.specs.Prelude.{◌≡◌, refl, ◌↔◌, ℕ, ◌+◌, ◌*◌, ◌/◌, ◌^◌, ◌≤◌, ◌<◌, false}
+use Rattle.std.specs.Prelude.{◌≡◌, refl}
 use Rattle.std.proofs.Common.{sym, ◌∙◌}
-use mathlib.Core.List.{List, [], ◌∷◌, ◌++◌, Memᴰ as In}
-use Rattle.wire.specs.LittleEndian.{le16_at}
-use Rattle.records.specs.declared.Open.{Open}
-use Rattle.records.specs.declared.Lock.{Lock}
-use Rattle.records.specs.declared.Tables.{Tables}
-use Rattle.records.specs.Held.{opens_of, locks_of}
-use Rattle.locks.specs.Range.{Overlap}
-use Rattle.locks.specs.declared.types.LockRange.{LockRange}
-use Rattle.chain.specs.Layout.{LOCKING, READ, WRITE, PROCESS_EXIT, CORE-READ, CORE-WRITE, LOCK_BYTE_RANGE, UNLOCK_BYTE_RANGE, header_command, FIRST, fid_after_andx, read_max, data_length, lock_type, unlock_count, lock_count, first_fid, core_count, core_offset}
-use Rattle.chain.specs.Grammar.{Span, Reading}
 use Rattle.message.specs.Caller.{caller_of}
-use Rattle.host.specs.HostCall.{add_open}
-use Rattle.claims.specs.StreamKept.{Bytes}
 use Rattle.claims.specs.HostFrames.{add_open-frame}
 use Rattle.demands.proofs.ReplyHeader.{reply-header as header-given}
-use Rattle.demands.specs.SpansOneByOne.{own_span}
-use Rattle.demands.specs.LoneLock.{Owner}
-use Rattle.demands.specs.LockWords.{Named}
-use Rattle.demands.specs.CommandReasons.{OnlyTwoBits}
-use Rattle.demands.specs.WireFields.{read_from, write_from}
 use Rattle.demands.proofs.FirstReadings.{first-set-size-reading}
-use Rattle.demands.proofs.EffectsStated.{exit-reading}
-use Rattle.demands.specs.LockEffects.{RangeOn, GrantedLock}
 use Rattle.demands.proofs.LockEffects.{locking-reading, lock-reading}
-use Rattle.demands.specs.Processes.{UpperHalvesDiffer, RangeProcess, LockTaken, ExitLeaves, sender-process, sender-32, same-process, other-process, range-process, exit-leaves}
+use Rattle.demands.specs.Processes.{sender-process, sender-32, same-process, other-process, range-process}
 use Rattle.demands.proofs.Processes.{lock-taken, not_own, bars-read, bars-write, bars-core-read, bars-core-write, unlock-refused, core-unlock-refused, own-sender}
 use Rattle.demands.proofs.ProcessesStated.{names-not}
-use Rattle.order.specs.Call.{Call, gives, Answerable, OneCommand, Says, sender, sending}
-use Rattle.order.specs.Demand2.{ReplyHeader, DoneAlone, ValidOpen, RefusedForConflict, core_asked, ValidCoreOpen, covered_from, covered_count}
+use Rattle.order.specs.Call.{gives, sender}
 use Rattle.order.specs.Request4.{Request4, exit-left}
 
 pub request-4 : Request4

@@ -1,27 +1,11 @@
 -- Of specs/Request7.antt: what rests on its other theorems. Assumes nothing.
-use Rattle.std.specs.Prelude.{◌≡◌, ◌↔◌, ◌⊎◌, ℕ, ◌*◌, ◌/◌, ◌%◌, true}
-use Rattle.std.proofs.Common.{sym, ◌∙◌, inl, inr, eq-eqb}
-use mathlib.Core.List.{List, Memᴰ as In}
-use Rattle.std.proofs.lemmas.List.{length-replicate}
-use Rattle.wire.specs.LittleEndian.{byte_at}
-use Rattle.chain.specs.Layout.{LOCKING, READ, WRITE, CORE-READ, CORE-WRITE, LOCK_BYTE_RANGE, header_command}
-use Rattle.chain.specs.Grammar.{Span, Reading}
-use Rattle.message.specs.Refusal.{status, forms_of, status_of, nt_of}
-use Rattle.message.specs.declared.refusal.Refusal.{Refusal}
-use Rattle.message.specs.Reply.{nt_bit}
-use Rattle.claims.specs.StatusList.{status_list, listed, read_nt, as_one, as_one_lem}
-use Rattle.claims.proofs.StatusList.{one-old-form, nt-apart, found-exactly, none-zero}
-use Rattle.demands.specs.NtStatus.{NtBeside, ButByte11, SameButForm}
-use Rattle.demands.proofs.NtStatus.{nt-beside, form-alone, number-zero}
+use Rattle.std.proofs.Common.{inl, inr}
+use Rattle.demands.proofs.NtStatus.{form-alone, number-zero}
 use Rattle.demands.specs.ConflictCodes.{conflict_code}
-use Rattle.demands.proofs.ConflictCodes.{first-coded, chain-coded}
-use Rattle.demands.proofs.ReplyHeader.{reply-header}
-use Rattle.order.specs.Call.{Call, gives, Answerable, Says, status_given, status_number_given, AsksNt, sending, some_room}
-use Rattle.order.specs.Demand1.{Demand1, CommandRefused, demand-1}
-use Rattle.order.specs.Demand2.{Demand2, demand-2, RefusedForConflict}
-use Rattle.order.specs.Demand3.{Demand3, demand-3}
-use Rattle.order.specs.Request2.{RepliesStand, replies-stand-so}
-use Rattle.order.specs.Possible.{chain_spans}
+use Rattle.order.specs.Demand1.{demand-1}
+use Rattle.order.specs.Demand2.{demand-2}
+use Rattle.order.specs.Demand3.{demand-3}
+use Rattle.order.specs.Request2.{replies-stand-so}
 use Rattle.order.specs.Possible7.{lock_with_bit, bit-set, bit-reading, bit-locking}
 use Rattle.order.proofs.Possible7.{bit-answerable, bit-refused}
 use Rattle.order.specs.Request7.{ByTheCommand, EitherForm, Request7, carries_so, first_by, one-list-so, refused-by}

@@ -1,43 +1,18 @@
 -- Of specs/Request8.antt: what rests on its other theorems. Assumes nothing.
-use Rattle.std.specs.Prelude.{◌≡◌, refl, ◌↔◌, ℕ, ◌+◌, ◌≤◌, ◌<◌, true, false, length}
-use Rattle.std.proofs.Common.{ap, ◌∙◌, inl, inr, arith}
-use mathlib.Core.List.{List, map, Memᴰ as In}
+use Rattle.std.proofs.Common.{ap, arith}
 use Rattle.std.proofs.lemmas.List.{get_or-replicate}
-use Rattle.records.specs.declared.Open.{Open}
 use Rattle.records.specs.declared.File.{File}
-use Rattle.records.specs.declared.Tables.{Tables}
-use Rattle.records.specs.Change.{raised, changes_of}
+use Rattle.records.specs.Change.{changes_of}
 use Rattle.records.specs.Empty.{no_file}
-use Rattle.records.specs.Held.{opens_of}
-use Rattle.lists.specs.Truth.{not-decided-twice}
-use Rattle.numbers.specs.Number.{contains}
-use Rattle.numbers.specs.Column.{fid_of}
-use Rattle.soundness.specs.Sound.{sound}
-use Rattle.host.specs.HostCall.{no_tables, add_open, load_file, ask_unchanged}
-use Rattle.chain.specs.Layout.{READ, WRITE, CORE-READ, CORE-WRITE, OPEN, FIRST, data_length, core_count, core_offset}
-use Rattle.message.specs.Contents.{size_of}
-use Rattle.claims.specs.AskUnchanged.{AskReason, UpToDate, ask-given, ask-stands, ask-refused}
-use Rattle.claims.proofs.AskUnchanged.{ask-reason, answer-of, other-answer}
-use Rattle.claims.specs.HostFrames.{add_open-frame, load_file-frame}
+use Rattle.host.specs.HostCall.{no_tables}
+use Rattle.claims.specs.HostFrames.{load_file-frame}
 use Rattle.claims.proofs.SoundPlain.{sound-plain}
-use Rattle.invariants.specs.Numbered.{one-named}
-use Rattle.invariants.specs.Sound.{Good}
-use Rattle.demands.proofs.Effects.{write-reading, read-reading, core-read-reading, core-write-reading}
-use Rattle.demands.proofs.OpenEffects.{open-reading}
-use Rattle.demands.specs.Reached.{Reached, start-good}
-use Rattle.demands.proofs.Reached.{reached-good}
-use Rattle.demands.specs.Remembering.{OnlyRemembers}
+use Rattle.demands.proofs.Effects.{write-reading, core-write-reading}
 use Rattle.demands.specs.HolderLone.{same-open}
-use Rattle.demands.specs.OldBytes.{Asked, left_by}
-use Rattle.demands.specs.LastRead.{Reads, reads_after, none_read}
-use Rattle.demands.specs.LastReadKept.{Kept, snoc-or}
-use Rattle.demands.specs.LastReadHistory.{AsItWas, ReadAgain, start-kept}
-use Rattle.demands.proofs.LastReadHistory.{history-kept, history-good, up-to-date-was, out-of-date-why}
 use Rattle.demands.proofs.SetSize.{set-size-reading}
-use Rattle.order.specs.Call.{Call, gives}
-use Rattle.order.specs.Demand1.{Demand1, demand-1, exactly}
-use Rattle.order.specs.Demand2.{Demand2, demand-2, DoneAlone, ValidOpen, ValidCoreOpen}
-use Rattle.order.specs.Demand3.{Demand3, demand-3}
+use Rattle.order.specs.Demand1.{demand-1}
+use Rattle.order.specs.Demand2.{demand-2}
+use Rattle.order.specs.Demand3.{demand-3}
 use Rattle.order.specs.Request8.{ChangeNumber, Request8, answers-so, raises, remembers-so, staffing-so}
 
 pub numbers-raised : ChangeNumber

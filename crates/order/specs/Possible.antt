@@ -6,7 +6,6 @@ use Rattle.std.proofs.Common.{sym, ap, ◌∙◌, arith, get_or-take, get_or-dro
 use mathlib.Core.List.Memᴰ.{head as first}
 use mathlib.Core.List.Memᴰ.{tail as later}
 use mathlib.Core.List.{List, [], ◌∷◌, ◌++◌, Memᴰ as In}
-use Rattle.std.proofs.lemmas.List.{length-replicate}
 use Rattle.lists.specs.Truth.{both_hold}
 use Rattle.lists.specs.Put.{put}
 use Rattle.lists.specs.Walk.{any, all, all_tails, found, found_from}
@@ -24,7 +23,7 @@ use Rattle.soundness.specs.Lookup.{is_tree}
 use Rattle.catalogue.specs.Name.{none_doubled, catalogue_ok}
 use Rattle.soundness.specs.Sound.{within_room, file_ok, tree_ok, permits, holds_open, sharing_ok, open_ok, sound_records, lock_ok, agree, agree_all, sound_locks, sound, seen_ok}
 use Rattle.chain.specs.Layout.{FIRST, lock_type}
-use Rattle.chain.specs.Grammar.{Span, Reading, Sentence}
+use Rattle.chain.specs.Grammar.{Span, Reading}
 use Rattle.chain.specs.Header.{starts_smb, is_reply, dropped}
 use Rattle.chain.specs.Parse.{shaped, bare, is_large, locking_fits, read_fits, may_follow, link_fits, link_at, answer, wide_offset, parse_locking, parse_read, parse}
 use Rattle.chain.specs.Chain.{before, after_block, after_parse, blocks_within, blocks_from, blocks}
@@ -36,15 +35,11 @@ use Rattle.message.specs.Command.{is_session, with_session, with_tree, is_open, 
 use Rattle.message.specs.Contents.{size_of, contents, read_bytes}
 use Rattle.message.specs.Reply.{two, link_words, reply_size, reply_block, refused_block}
 use Rattle.message.specs.JustOpened.{fid_meant, body_meant}
-use Rattle.message.specs.Message.{area_of, data_of, after, link_to, after_given, run, served, run_chain, answered, Taken, replied}
+use Rattle.message.specs.Message.{area_of, data_of, after, link_to, after_given, run, served, run_chain, answered}
 use Rattle.invariants.specs.Sound.{Good}
-use Rattle.invariants.specs.Fit.{fit-answered}
 use Rattle.invariants.specs.ReaderSound.{span_of, reader-sound}
 use Rattle.claims.specs.Cases.{message}
 use Rattle.demands.specs.NotServed.{known-locking}
-use Rattle.demands.specs.SentenceCases.{message-60-none}
-use Rattle.demands.proofs.Calls.{status-call}
-use Rattle.demands.specs.Calls.{length-call}
 use Rattle.claims.specs.HostReasons.{HasTree}
 use Rattle.demands.specs.Admitted.{SessionHere}
 use Rattle.demands.specs.CommandReasons.{OnlyTwoBits}
@@ -54,7 +49,7 @@ use Rattle.literals.specs.TwoProcesses.{sent_by, exit}
 use Rattle.demands.specs.WireFields.{sender_process}
 use Rattle.demands.specs.Processes.{UpperHalvesDiffer}
 use Rattle.order.specs.Demand2.{range_asked, AsksOneLock, ValidOpen}
-use Rattle.order.specs.Call.{Call, gives, Answerable, BeginsKnown, Says}
+use Rattle.order.specs.Call.{Call, BeginsKnown}
 use Rattle.records.specs.Change.{changes_of, noting}
 use Rattle.records.specs.Held.{with_opens}
 

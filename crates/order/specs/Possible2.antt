@@ -1,7 +1,6 @@
 -- A request whose second range is refused by its first is possible (document 02, CR 2: "A lock granted earlier in the same request may be the answer, though it is
 -- undone"): an instance that the checker computes. Assumes nothing.
-use Rattle.std.specs.Prelude.{◌≡◌, refl, ℕ, false, List, [], ◌∷◌, ◌++◌, length, replicate}
-use Rattle.std.proofs.Common.{ap, ◌∙◌}
+use Rattle.std.specs.Prelude.{◌≡◌, refl, ℕ, false, List, [], ◌∷◌, ◌++◌, replicate}
 use Rattle.lists.specs.Walk.{any, found, found_from}
 use Rattle.lists.specs.Stored.{stored}
 use Rattle.wire.specs.LittleEndian.{le16_at, le32_at}
@@ -20,9 +19,8 @@ use Rattle.message.specs.Refusal.{holder_of}
 use Rattle.message.specs.declared.refusal.HeldBy.TheVariants.{Holder as held_by}
 use Rattle.message.specs.Command.{is_session, with_session, with_tree, is_open, open_at, with_open, served_type, request_of, locking_end, locking_after, do_locking, perform}
 use Rattle.message.specs.JustOpened.{fid_meant, body_meant}
-use Rattle.message.specs.Message.{area_of, data_of, after_given, run, served, run_chain, answered, Taken, replied}
-use Rattle.invariants.specs.Fit.{fit-answered}
-use Rattle.order.specs.Call.{Call, gives, Answerable}
+use Rattle.message.specs.Message.{area_of, data_of, after_given, run, served, run_chain, answered}
+use Rattle.order.specs.Call.{Call}
 use Rattle.order.specs.Possible.{plant, asked}
 
 -- LOCKING through FID 1, exclusive, with no unlock and two locks: the bytes 0 to 9 for process 8 and 5 to 14 for process 9; the header's process is 7, as the open's

@@ -23,7 +23,7 @@ use Rattle.soundness.specs.File.{file_of}
 use Rattle.soundness.specs.Lookup.{is_tree}
 use Rattle.catalogue.specs.Name.{none_doubled, catalogue_ok}
 use Rattle.soundness.specs.Sound.{within_room, file_ok, tree_ok, permits, holds_open, sharing_ok, open_ok, sound_records, lock_ok, agree, agree_all, sound_locks, sound, seen_ok}
-use Rattle.chain.specs.Layout.{LOCKING, READ, WRITE, CORE-READ, CORE-WRITE, LOCK_BYTE_RANGE, UNLOCK_BYTE_RANGE}
+use Rattle.chain.specs.Layout.{LOCKING, CORE-READ, CORE-WRITE, LOCK_BYTE_RANGE, UNLOCK_BYTE_RANGE}
 use Rattle.chain.specs.Header.{starts_smb, is_reply, dropped}
 use Rattle.chain.specs.Parse.{shaped, bare, is_large, locking_fits, core_write_fits, may_follow, link_fits, link_at, answer, parse_locking, parse_bare, parse_core_write, parse}
 use Rattle.chain.specs.Chain.{before, after_block, after_parse, blocks_within, blocks_from, blocks}
@@ -37,7 +37,7 @@ use Rattle.message.specs.Reply.{two, link_words, reply_size, reply_block, refuse
 use Rattle.message.specs.JustOpened.{fid_meant, body_meant}
 use Rattle.message.specs.Message.{area_of, data_of, Ran, after, link_to, after_given, run, served, run_chain, answered, Taken, replied}
 use Rattle.invariants.specs.Sound.{Good}
-use Rattle.invariants.specs.Fit.{fit-answered, take-message-good}
+use Rattle.invariants.specs.Fit.{fit-answered}
 use Rattle.invariants.specs.ReaderSound.{span_of, reader-sound}
 use Rattle.claims.specs.HostReasons.{HasTree}
 use Rattle.claims.specs.StreamKept.{Bytes}
@@ -46,13 +46,11 @@ use Rattle.literals.specs.CoreCommands.{core_write as core_write_of, size_to}
 use Rattle.demands.proofs.Calls.{status-call}
 use Rattle.demands.specs.Calls.{length-call}
 use Rattle.demands.specs.Admitted.{SessionHere, Admitted}
-use Rattle.demands.specs.Reached.{take-message-memory}
-use Rattle.demands.specs.DataBlock.{BadCoreWrite, alone, not-marked}
 use Rattle.demands.specs.CorePairCalls.{EqualFields}
-use Rattle.demands.specs.CorePairCases.{sent, core_read, andx_read, core_write, andx_write, core_bytes, andx_locking, short100, BothSent, PairSent, read-sent, write-sent, lock-sent, unlock-sent, ChainSent, chain-sent}
-use Rattle.order.specs.Call.{Call, gives, Answerable, OneCommand, Says, sender, sending}
+use Rattle.demands.specs.CorePairCases.{sent, core_read, core_write, core_bytes, andx_locking, short100, BothSent, ChainSent}
+use Rattle.order.specs.Call.{Call, gives, Answerable, OneCommand, Says, sending}
 use Rattle.order.specs.Demand2.{ValidCoreOpen}
-use Rattle.order.specs.Request3.{AsksSize, SentInstead, OnWhatItLeft}
+use Rattle.order.specs.Request3.{SentInstead, OnWhatItLeft}
 use Rattle.records.specs.Change.{changes_of, noting}
 
 -- ---- a bench

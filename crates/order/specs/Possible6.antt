@@ -2,9 +2,8 @@
 -- that is refused 1/32, and a chain of an OPEN_ANDX and a READ_ANDX of FID 0xFFFF. Each is an instance that the checker computes. (Whole replies, and each other refusal:
 -- literals/specs/Opening.antt.) Assumes nothing.
 use Rattle.std.specs.Prelude.{◌≡◌, refl, ℕ, true, false, List, [], ◌∷◌, ◌++◌, length, replicate}
-use Rattle.std.proofs.Common.{sym, subst, ◌∙◌, arith}
+use Rattle.std.proofs.Common.{◌∙◌}
 use mathlib.Core.List.Memᴰ.{head as first}
-use Rattle.std.proofs.lemmas.List.{length-replicate}
 use Rattle.lists.specs.Walk.{any, all, all_tails, found, found_from}
 use Rattle.lists.specs.Stored.{stored}
 use Rattle.wire.specs.LittleEndian.{le16_at, le32_at}
@@ -19,10 +18,10 @@ use Rattle.soundness.specs.File.{file_of}
 use Rattle.soundness.specs.Lookup.{is_tree}
 use Rattle.soundness.specs.Sound.{within_room, file_ok, tree_ok, permits, holds_open, sharing_ok, open_ok, sound_records, lock_ok, agree, agree_all, sound_locks, sound, seen_ok}
 use Rattle.host.specs.HostCall.{done, set_catalogue}
-use Rattle.chain.specs.Layout.{READ, OPEN, FIRST, fid_after_andx}
+use Rattle.chain.specs.Layout.{READ, OPEN, fid_after_andx}
 use Rattle.chain.specs.Grammar.{Span, Reading}
 use Rattle.chain.specs.Header.{starts_smb, is_reply, dropped}
-use Rattle.chain.specs.Parse.{shaped, bare, read_fits, terminated, open_fits, may_follow, link_fits, link_at, answer, wide_offset, parse_read, parse_open, open_fields, parse}
+use Rattle.chain.specs.Parse.{shaped, bare, read_fits, terminated, open_fits, may_follow, link_fits, link_at, answer, wide_offset, parse_read, parse_open, parse}
 use Rattle.chain.specs.Chain.{before, after_block, after_parse, blocks_within, blocks_from, blocks}
 use Rattle.message.specs.Caller.{caller_of}
 use Rattle.message.specs.Refusal.{status, forms_of}
@@ -35,23 +34,20 @@ use Rattle.message.specs.JustOpened.{opened_by, fid_meant, body_meant}
 use Rattle.message.specs.Message.{area_of, data_of, after, after_given, run, served, run_chain, answered}
 use Rattle.invariants.specs.Sound.{Good}
 use Rattle.invariants.specs.ReaderSound.{span_of, reader-sound}
-use Rattle.claims.specs.HostReasons.{HasTree, HasPermitting}
 use Rattle.claims.proofs.CataloguePlain.{same-name-plain}
 use Rattle.literals.specs.State.{name, memory}
 use Rattle.literals.specs.Replies.{message}
 use Rattle.literals.specs.Opening.{crl, open_words, opening, crl_bytes, open_crl, crl_then_read, read_of, asking}
 use Rattle.demands.proofs.Calls.{status-call}
-use Rattle.demands.specs.Admitted.{SessionHere}
 use Rattle.demands.specs.Alone.{named_andx, end_set, data_set}
 use Rattle.demands.specs.Carrying.{asks_opened, carrying}
 use Rattle.demands.specs.Sharing.{writes-1, writing, writing-by-2, asks-denied, KeptOut}
-use Rattle.demands.specs.OpenReasons.{NamesFile, OpenPermitted}
+use Rattle.demands.specs.OpenReasons.{NamesFile}
 use Rattle.demands.specs.OpenEffects.{OpenDone}
 use Rattle.demands.specs.SpansOneByOne.{alone_span, own_span}
 use Rattle.demands.specs.SpansRefused.{last_returned}
 use Rattle.demands.specs.WireFields.{open_name}
-use Rattle.order.specs.Call.{Call, gives, Answerable, OneCommand, Says, sender, some_room, own_message}
-use Rattle.order.specs.Demand2.{DoneAlone, demand-2}
+use Rattle.order.specs.Call.{Call, gives, Answerable, OneCommand, Says, some_room, own_message}
 use Rattle.records.specs.Change.{changes_of, noting}
 
 -- ---- tables with a catalogue

@@ -1,16 +1,15 @@
 -- A lock refused to a message that asks for NT status is possible (document 02, CR 7): the LOCKING of Possible.antt that meets a lock, with the bit. Assumes nothing.
-use Rattle.std.specs.Prelude.{◌≡◌, refl, ℕ, ◌/◌, ◌%◌, false, List, [], set, replicate}
-use Rattle.std.proofs.Common.{◌∙◌, length-set, get_or-set_other}
+use Rattle.std.specs.Prelude.{◌≡◌, refl, ℕ, ◌/◌, ◌%◌, false, List, [], set}
+use Rattle.std.proofs.Common.{length-set, get_or-set_other}
 use Rattle.wire.specs.LittleEndian.{byte_at}
 use Rattle.chain.specs.Layout.{LOCKING, header_command}
 use Rattle.chain.specs.Header.{starts_smb, is_reply, dropped}
 use Rattle.chain.specs.Grammar.{Reading}
 use Rattle.claims.specs.Cases.{message}
 use Rattle.demands.specs.NtStatus.{ButByte11}
-use Rattle.demands.proofs.NtStatus.{reading-too, form-alone}
-use Rattle.order.specs.Call.{Call, Answerable}
-use Rattle.order.specs.Demand2.{RefusedForConflict}
-use Rattle.order.specs.Possible.{plant, asked, kept-61, chain_spans, chain-reading}
+use Rattle.demands.proofs.NtStatus.{reading-too}
+use Rattle.order.specs.Call.{Call}
+use Rattle.order.specs.Possible.{plant, asked, chain_spans, chain-reading}
 
 -- the message with Flags2 0x4000
 unfoldable pub with_bit : List ℕ

@@ -9,12 +9,11 @@ use Rattle.locks.specs.declared.types.Holder.{Holder}
 use Rattle.chain.specs.Layout.{LOCKING, READ, WRITE, CORE-READ, CORE-WRITE, LOCK_BYTE_RANGE, header_command, FIRST, fid_after_andx, lock_type, unlock_count, read_max, data_length, first_fid, core_count, core_offset}
 use Rattle.chain.specs.Grammar.{Span, Reading}
 use Rattle.chain.specs.Parse.{range_fields}
-use Rattle.message.specs.Caller.{caller_of}
 use Rattle.message.specs.declared.refusal.HeldBy.TheVariants.{Nobody, Holder as held_by}
 use Rattle.message.specs.JustOpened.{NOBODY}
 use Rattle.message.specs.Reply.{nt_bit}
 use Rattle.message.specs.Message.{run}
-use Rattle.invariants.specs.ReaderSound.{span_of, reader-sound}
+use Rattle.invariants.specs.ReaderSound.{span_of}
 use Rattle.invariants.specs.Sound.{Good}
 use Rattle.claims.specs.YesOrNo.{take_before}
 use Rattle.claims.specs.BeforeHolder.{without_holder, but_status}
@@ -23,19 +22,11 @@ use Rattle.demands.specs.LoneLock.{Owner, AnyLock}
 use Rattle.demands.specs.CommandReasons.{OnlyTwoBits}
 use Rattle.demands.specs.RefusedCall.{Untouched}
 use Rattle.demands.specs.WireFields.{read_from, write_from}
-use Rattle.demands.proofs.HolderExactlyStated.{holder-exactly}
-use Rattle.demands.proofs.HolderExactly.{nobody-exactly}
-use Rattle.demands.specs.HolderExactly.{undone-nobody}
 use Rattle.demands.specs.HolderWords.{FirstInWay, RangeLockHeld}
 use Rattle.demands.specs.HolderStands.{Met}
-use Rattle.demands.proofs.HolderStands.{holder-exact, tables_then}
 use Rattle.demands.specs.HolderOpen.{HolderFound}
-use Rattle.demands.proofs.HolderOpen.{holder-found}
-use Rattle.demands.proofs.HolderBytes.{holder-bytes}
 use Rattle.demands.specs.HolderFirst.{FirstMeets}
-use Rattle.demands.proofs.HolderFirst.{alone-first, first-undone, read_first, write-first, lone-lock-first, core-read-first, core-write-first, set-size-first, core-lock-first}
 use Rattle.demands.specs.HolderWire.{LockHeldOn, OwnRangeOn}
-use Rattle.demands.proofs.HolderWire.{lock-first, lock-own, lock-listed, range-first}
 use Rattle.demands.specs.StatusRead.{status_read}
 use Rattle.demands.proofs.NtStatus.{status-as-before}
 use Rattle.order.specs.Call.{Call, gives, Answerable, Says, sender, status_given, AsksNt}

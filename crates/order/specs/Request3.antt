@@ -1,9 +1,8 @@
 -- Change request 3 of document 02, "The oldest benches", sentence by sentence. Assumes nothing.
-use Rattle.std.specs.Prelude.{◌≡◌, refl, ◌↔◌, ℕ, ◌+◌, ◌*◌, ◌^◌, ◌≤◌, ◌<◌, false, length, get_or, ltb}
-use Rattle.std.proofs.Common.{sym, ap, subst, ◌∙◌, inl, inr, arith, ltb-true, ltb-false}
+use Rattle.std.specs.Prelude.{◌≡◌, refl, ◌↔◌, ℕ, ◌+◌, ◌*◌, ◌^◌, ◌≤◌, ◌<◌, false, length, get_or}
+use Rattle.std.proofs.Common.{sym, ap, subst, ◌∙◌, arith}
 use Rattle.std.proofs.Math.Decide.{ℕ_discrete}
 use mathlib.Core.List.{List, [], ◌∷◌, ◌++◌, Memᴰ as In}
-use Rattle.lists.specs.Truth.{decided}
 use Rattle.wire.specs.LittleEndian.{byte_at, le16_at, le32_at, le16-below}
 use Rattle.records.specs.declared.Open.{Open}
 use Rattle.records.specs.declared.Lock.{Lock}
@@ -28,39 +27,33 @@ use Rattle.readings.specs.CoreAlone.{EndsChain, Core, may-end, ends_read, ends-w
 use Rattle.readings.proofs.CoreAlone.{core-stands}
 use Rattle.claims.proofs.SoundPlain.{sound-plain}
 use Rattle.claims.specs.StreamKept.{Bytes}
-use Rattle.demands.specs.NotServed.{Known, known-core-read, known-core-write, known-lock, known-unlock}
+use Rattle.demands.specs.NotServed.{Known}
 use Rattle.demands.specs.LoneLock.{InWay, Owner}
 use Rattle.demands.specs.LockWords.{Named, TakenOut}
 use Rattle.demands.specs.Admitted.{no-session, before-tree, no-tree, before-open, no-open}
 use Rattle.demands.specs.CoreReasons.{LockStatus, lock-not, lock-barred, lock-full, lock-done, unlock-unnamed, unlock-done}
 use Rattle.demands.specs.WritingReasons.{write-space, write_done}
-use Rattle.demands.specs.WireFields.{read_from, write_from, write_data, core_read_fields, core_write_fields, core_data}
+use Rattle.demands.specs.WireFields.{read_from, write_from, core_read_fields, core_write_fields}
 use Rattle.demands.specs.CommandReasons.{count-0}
 use Rattle.demands.proofs.FirstReadings.{first-set-size-reading, one-conflict, core-write-exact, lock-exact, unlock-exact}
 use Rattle.demands.specs.HolderLone.{same-open}
 use Rattle.demands.specs.DataBlock.{BadCoreWrite, AnsweredMalformed, marked-block, reading-block}
-use Rattle.demands.proofs.DataBlock.{bad-data-block}
 use Rattle.demands.specs.CorePairCalls.{EqualReadWrite, EqualFields, BlocksAlike, SameCalls, SameLocking, ChainsAlike}
 use Rattle.demands.proofs.CorePairCallsStated.{core-calls}
 use Rattle.demands.proofs.CorePairCalls.{chain-calls}
-use Rattle.demands.specs.FileCommands.{WroteFile}
-use Rattle.demands.proofs.Effects.{read-reading, write-reading, core-read-reading, core-write-reading}
+use Rattle.demands.proofs.Effects.{core-read-reading, core-write-reading}
 use Rattle.demands.specs.SetSize.{SizeSet}
 use Rattle.demands.proofs.SetSize.{set-size-reading}
 use Rattle.demands.proofs.LockEffects.{lock-reading, unlock-reading}
 use Rattle.demands.specs.Processes.{range-whole}
-use Rattle.demands.proofs.Processes.{own-sender}
-use Rattle.demands.specs.Taken.{not-long}
 use Rattle.demands.specs.SpansOneByOne.{own_span}
 use Rattle.demands.specs.CoreMoved.{SameBlock}
-use Rattle.demands.proofs.CoreMoved.{core-sent}
 use Rattle.demands.specs.Reached.{take-message-memory}
-use Rattle.demands.specs.OldBytes.{ZeroFrom, zero-in-reply, zero-in-core-reply, Asked, history}
-use Rattle.demands.proofs.OldBytes.{cut-then-grown, cut-then-written, never-shows, first-never-shows}
+use Rattle.demands.specs.OldBytes.{ZeroFrom, Asked, history}
 use Rattle.order.specs.Call.{Call, gives, Answerable, OneCommand, Says, sender, sending}
-use Rattle.order.specs.Demand1.{StatusForItsReason, RoomSuffices, demand-1}
+use Rattle.order.specs.Demand1.{StatusForItsReason, RoomSuffices}
 use Rattle.order.specs.Demand2.{DoneAlone, ValidOpen, core_asked, ValidCoreOpen, covered_from, covered_count}
-use Rattle.order.specs.Demand3.{Demand3, demand-3}
+use Rattle.order.specs.Demand3.{Demand3}
 
 -- In names READ and WRITE without more are the AndX requests, as in document 01; document 02's READ 0x0A and WRITE 0x0B, of which the comments here speak, are the core READ and
 -- WRITE (docs/DECISIONS.md, 81). What each of the four leaves where it is carried out, with every byte of its reply block, is demand 2's `CarriedOut`; each Status with its reason is demand 1's

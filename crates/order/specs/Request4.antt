@@ -1,6 +1,5 @@
 -- Change request 4 of document 02, "Two processes taken for one", sentence by sentence. Assumes nothing.
-use Rattle.std.specs.Prelude.{◌≡◌, refl, ◌↔◌, ℕ, ◌+◌, ◌*◌, ◌/◌, ◌^◌, ◌≤◌, ◌<◌, false}
-use Rattle.std.proofs.Common.{sym, ◌∙◌}
+use Rattle.std.specs.Prelude.{◌≡◌, ◌↔◌, ℕ, ◌+◌, ◌*◌, ◌/◌, ◌^◌, ◌≤◌, ◌<◌, false}
 use mathlib.Core.List.{List, [], ◌∷◌, ◌++◌, Memᴰ as In}
 use Rattle.wire.specs.LittleEndian.{le16_at}
 use Rattle.records.specs.declared.Open.{Open}
@@ -14,20 +13,14 @@ use Rattle.chain.specs.Grammar.{Span, Reading}
 use Rattle.message.specs.Caller.{caller_of}
 use Rattle.host.specs.HostCall.{add_open}
 use Rattle.claims.specs.StreamKept.{Bytes}
-use Rattle.claims.specs.HostFrames.{add_open-frame}
-use Rattle.demands.proofs.ReplyHeader.{reply-header as header-given}
 use Rattle.demands.specs.SpansOneByOne.{own_span}
 use Rattle.demands.specs.LoneLock.{Owner}
 use Rattle.demands.specs.LockWords.{Named}
 use Rattle.demands.specs.CommandReasons.{OnlyTwoBits}
 use Rattle.demands.specs.WireFields.{read_from, write_from}
-use Rattle.demands.proofs.FirstReadings.{first-set-size-reading}
 use Rattle.demands.proofs.EffectsStated.{exit-reading}
 use Rattle.demands.specs.LockEffects.{RangeOn, GrantedLock}
-use Rattle.demands.proofs.LockEffects.{locking-reading, lock-reading}
-use Rattle.demands.specs.Processes.{UpperHalvesDiffer, RangeProcess, LockTaken, ExitLeaves, sender-process, sender-32, same-process, other-process, range-process, exit-leaves}
-use Rattle.demands.proofs.Processes.{lock-taken, not_own, bars-read, bars-write, bars-core-read, bars-core-write, unlock-refused, core-unlock-refused, own-sender}
-use Rattle.demands.proofs.ProcessesStated.{names-not}
+use Rattle.demands.specs.Processes.{UpperHalvesDiffer, RangeProcess, LockTaken, ExitLeaves, exit-leaves}
 use Rattle.order.specs.Call.{Call, gives, Answerable, OneCommand, Says, sender, sending}
 use Rattle.order.specs.Demand2.{ReplyHeader, DoneAlone, ValidOpen, RefusedForConflict, core_asked, ValidCoreOpen, covered_from, covered_count}
 

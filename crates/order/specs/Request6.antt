@@ -1,10 +1,9 @@
 -- Change request 6 of document 02, "Opening by name", sentence by sentence. Assumes nothing.
-use Rattle.std.specs.Prelude.{◌≡◌, refl, ◌↔◌, ℕ, ◌+◌, ◌-◌, ◌/◌, ◌%◌, ◌≤◌, ◌<◌, true, length, take, drop, eqb}
-use Rattle.std.proofs.Common.{sym, ap, ◌∙◌, arith}
+use Rattle.std.specs.Prelude.{◌≡◌, refl, ◌↔◌, ℕ, ◌-◌, ◌/◌, ◌%◌, ◌≤◌, true, take, drop, eqb}
+use Rattle.std.proofs.Common.{◌∙◌, arith}
 use mathlib.Core.List.Memᴰ.{head as first}
 use mathlib.Core.List.Memᴰ.{tail as later}
 use mathlib.Core.List.{List, [], ◌∷◌, Memᴰ as In}
-use Rattle.std.proofs.lemmas.List.{length-replicate}
 use Rattle.wire.specs.LittleEndian.{byte_at, le16_at}
 use Rattle.records.specs.declared.Open.{Open}
 use Rattle.records.specs.declared.Tables.{Tables}
@@ -36,9 +35,9 @@ use Rattle.demands.specs.Taken.{not-long}
 use Rattle.demands.specs.WireFields.{open_name}
 use Rattle.demands.proofs.FirstReadings.{open-shared-exact}
 use Rattle.order.specs.Call.{Call, gives, Answerable, OneCommand, Says, sender, some_room, own_message}
-use Rattle.order.specs.Demand1.{Demand1, demand-1}
-use Rattle.order.specs.Demand2.{Demand2, demand-2}
-use Rattle.order.specs.Demand3.{Demand3, demand-3}
+use Rattle.order.specs.Demand1.{Demand1}
+use Rattle.order.specs.Demand2.{Demand2}
+use Rattle.order.specs.Demand3.{Demand3}
 
 -- Each Status of an OPEN_ANDX with its reason, in the order of the refusals, is demand 1's `StatusForItsReason` (`opening`); what one that is done leaves and says, with the reply's
 -- bytes, demand 2's `CarriedOut` (`opening`); the host's call, `NumberForItsReason`, `RefusedByNumber` and `HostCallsDone` (`catalogue`). That a refusal changes nothing, that

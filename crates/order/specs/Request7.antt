@@ -1,6 +1,6 @@
 -- Change request 7 of document 02, "NT status", sentence by sentence. Assumes nothing.
 use Rattle.std.specs.Prelude.{◌≡◌, ◌↔◌, ◌⊎◌, ℕ, ◌*◌, ◌/◌, ◌%◌, true}
-use Rattle.std.proofs.Common.{sym, ◌∙◌, inl, inr, eq-eqb}
+use Rattle.std.proofs.Common.{sym, ◌∙◌, eq-eqb}
 use mathlib.Core.List.{List, Memᴰ as In}
 use Rattle.std.proofs.lemmas.List.{length-replicate}
 use Rattle.wire.specs.LittleEndian.{byte_at}
@@ -12,17 +12,17 @@ use Rattle.message.specs.Reply.{nt_bit}
 use Rattle.claims.specs.StatusList.{status_list, listed, read_nt, as_one, as_one_lem}
 use Rattle.claims.proofs.StatusList.{one-old-form, nt-apart, found-exactly, none-zero}
 use Rattle.demands.specs.NtStatus.{NtBeside, ButByte11, SameButForm}
-use Rattle.demands.proofs.NtStatus.{nt-beside, form-alone, number-zero}
+use Rattle.demands.proofs.NtStatus.{nt-beside}
 use Rattle.demands.specs.ConflictCodes.{conflict_code}
 use Rattle.demands.proofs.ConflictCodes.{first-coded, chain-coded}
 use Rattle.demands.proofs.ReplyHeader.{reply-header}
 use Rattle.order.specs.Call.{Call, gives, Answerable, Says, status_given, status_number_given, AsksNt, sending, some_room}
-use Rattle.order.specs.Demand1.{Demand1, CommandRefused, demand-1}
-use Rattle.order.specs.Demand2.{Demand2, demand-2, RefusedForConflict}
-use Rattle.order.specs.Demand3.{Demand3, demand-3}
-use Rattle.order.specs.Request2.{RepliesStand, replies-stand-so}
+use Rattle.order.specs.Demand1.{Demand1, CommandRefused}
+use Rattle.order.specs.Demand2.{Demand2, RefusedForConflict}
+use Rattle.order.specs.Demand3.{Demand3}
+use Rattle.order.specs.Request2.{RepliesStand}
 use Rattle.order.specs.Possible.{chain_spans}
-use Rattle.order.specs.Possible7.{lock_with_bit, bit-set, bit-reading, bit-locking}
+use Rattle.order.specs.Possible7.{lock_with_bit}
 
 -- Class and code are what a reader of either form finds (Call.antt: `status_given`), so demands 1, 2 and 3 say of both forms what they say of a Status: each with its reason, what a
 -- command that is done leaves, what is malformed. Demand 3's `OneToAMessage` is an equation of every byte of the reply, Status in its form among them; so is demand 1's

@@ -2,12 +2,10 @@
 use Rattle.std.specs.Prelude.{◌≡◌, refl, ◌↔◌, ℕ, ◌+◌, ◌≤◌, ◌<◌, true, false, length}
 use Rattle.std.proofs.Common.{ap, ◌∙◌, inl, inr, arith}
 use mathlib.Core.List.{List, map, Memᴰ as In}
-use Rattle.std.proofs.lemmas.List.{get_or-replicate}
 use Rattle.records.specs.declared.Open.{Open}
 use Rattle.records.specs.declared.File.{File}
 use Rattle.records.specs.declared.Tables.{Tables}
 use Rattle.records.specs.Change.{raised, changes_of}
-use Rattle.records.specs.Empty.{no_file}
 use Rattle.records.specs.Held.{opens_of}
 use Rattle.lists.specs.Truth.{not-decided-twice}
 use Rattle.numbers.specs.Number.{contains}
@@ -18,11 +16,11 @@ use Rattle.chain.specs.Layout.{READ, WRITE, CORE-READ, CORE-WRITE, OPEN, FIRST, 
 use Rattle.message.specs.Contents.{size_of}
 use Rattle.claims.specs.AskUnchanged.{AskReason, UpToDate, ask-given, ask-stands, ask-refused}
 use Rattle.claims.proofs.AskUnchanged.{ask-reason, answer-of, other-answer}
-use Rattle.claims.specs.HostFrames.{add_open-frame, load_file-frame}
+use Rattle.claims.specs.HostFrames.{add_open-frame}
 use Rattle.claims.proofs.SoundPlain.{sound-plain}
 use Rattle.invariants.specs.Numbered.{one-named}
 use Rattle.invariants.specs.Sound.{Good}
-use Rattle.demands.proofs.Effects.{write-reading, read-reading, core-read-reading, core-write-reading}
+use Rattle.demands.proofs.Effects.{read-reading, core-read-reading}
 use Rattle.demands.proofs.OpenEffects.{open-reading}
 use Rattle.demands.specs.Reached.{Reached, start-good}
 use Rattle.demands.proofs.Reached.{reached-good}
@@ -33,11 +31,10 @@ use Rattle.demands.specs.LastRead.{Reads, reads_after, none_read}
 use Rattle.demands.specs.LastReadKept.{Kept, snoc-or}
 use Rattle.demands.specs.LastReadHistory.{AsItWas, ReadAgain, start-kept}
 use Rattle.demands.proofs.LastReadHistory.{history-kept, history-good, up-to-date-was, out-of-date-why}
-use Rattle.demands.proofs.SetSize.{set-size-reading}
 use Rattle.order.specs.Call.{Call, gives}
-use Rattle.order.specs.Demand1.{Demand1, demand-1, exactly}
-use Rattle.order.specs.Demand2.{Demand2, demand-2, DoneAlone, ValidOpen, ValidCoreOpen}
-use Rattle.order.specs.Demand3.{Demand3, demand-3}
+use Rattle.order.specs.Demand1.{Demand1, exactly}
+use Rattle.order.specs.Demand2.{Demand2, DoneAlone, ValidOpen, ValidCoreOpen}
+use Rattle.order.specs.Demand3.{Demand3}
 
 -- What a READ leaves is demand 2's `CarriedOut` (`read`, `core-read`), and in a chain demand 3's `OneToAMessage`, which compares the tables, so what every open remembers, after every
 -- command: in WRITE, READ of one chain the READ remembers the number after the WRITE. That a command refused raises nothing and remembers nothing is demand 1's, of every command; so

@@ -1,1 +1,3 @@
+#![tactic(auto)]
+
 // The order, sentence by sentence: statements, each proved by the theorem that it cites; no code.

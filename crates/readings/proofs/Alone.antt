@@ -6,9 +6,7 @@ use Rattle.chain.specs.Layout.{header_command, FIRST, NO_COMMAND, andx_command}
 use Rattle.chain.specs.Grammar.{IsBlock, NamedAndx}
 use Rattle.chain.specs.Chain.{blocks, blocks_from}
 use Rattle.chain.specs.declared.block.Next.TheVariants.{End}
-use Rattle.chain.specs.declared.block.Block.{Block}
-use Rattle.invariants.specs.BlockTests.{Served, plain, andx}
-use Rattle.invariants.specs.BlockParse.{body_at, block_at, block-served, Linked, link-plain, link-end, parse-complete, block_size}
+use Rattle.invariants.specs.BlockParse.{body_at, block_at, block-served, parse-complete, block_size}
 use Rattle.chain.specs.ChainLaws.{chain-end}
 use Rattle.readings.specs.Moved.{Moved, moved_body}
 use Rattle.readings.proofs.Moved.{moved-block, moved-body, moved-size}

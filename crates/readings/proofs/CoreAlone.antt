@@ -1,12 +1,9 @@
 -- Of specs/CoreAlone.antt: what rests on its other theorems. Assumes nothing.
-use Rattle.std.specs.Prelude.{◌≡◌, refl, ◌↔◌, ℕ, ◌≤◌}
-use Rattle.std.proofs.Common.{sym, ap, ◌∙◌, arith}
+use Rattle.std.specs.Prelude.{refl, ℕ}
 use mathlib.Core.List.Memᴰ.{head as first}
 use mathlib.Core.List.Memᴰ.{tail as later}
-use mathlib.Core.List.{List, [], ◌∷◌, Memᴰ as In}
-use Rattle.chain.specs.Layout.{LOCKING, CORE-READ, CORE-WRITE, LOCK_BYTE_RANGE, UNLOCK_BYTE_RANGE, header_command, FIRST, block_end, andx_command, andx_offset}
-use Rattle.chain.specs.Grammar.{IsBlock, MayFollow, locking-read, locking-write, locking-core-read, locking-core-write, read-close, write-write, write_read, write-close, open-read, Plain, core-read-plain, core-write-plain, lock-byte-range-plain, unlock-byte-range-plain, Span, span_at, ReadingFrom, plain_end, andx-end, andx-next, Reading}
-use Rattle.invariants.specs.BlockParse.{follow-andx, plain-not-andx}
+use mathlib.Core.List.{List, Memᴰ as In}
+use Rattle.chain.specs.Grammar.{Span, span_at, ReadingFrom, plain_end, andx-end, andx-next, Reading}
 use Rattle.readings.specs.CoreAlone.{Core, CoreStands, core-last, in-front, in_one}
 
 pub stands_from : {s : List ℕ} {command at : ℕ} {spans : List Span} → ReadingFrom s command at spans → (x : Span) → In x spans → Core x.command → CoreStands x spans

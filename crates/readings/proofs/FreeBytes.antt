@@ -1,17 +1,15 @@
 -- Of specs/FreeBytes.antt: what rests on its other theorems. Assumes nothing.
-use Rattle.std.specs.Prelude.{◌≡◌, ℕ, ◌+◌, ◌-◌, ◌≤◌, ◌<◌, length}
+use Rattle.std.specs.Prelude.{◌≡◌, ℕ, ◌+◌, ◌≤◌, ◌<◌}
 use Rattle.std.proofs.Math.Path.{refl, sym, ap}
 use Rattle.std.proofs.Common.{◌∙◌, arith}
 use mathlib.Core.List.Memᴰ.{head as first}
 use mathlib.Core.List.Memᴰ.{tail as later}
-use mathlib.Core.List.{List, [], ◌∷◌, Memᴰ as In}
+use mathlib.Core.List.{List, [], ◌∷◌}
 use Rattle.std.proofs.Math.Option.{some}
-use Rattle.wire.specs.LittleEndian.{byte_at, le16_at}
+use Rattle.wire.specs.LittleEndian.{le16_at}
 use Rattle.chain.specs.Layout.{NO_COMMAND, header_command, word_count, block_end, andx_command, andx_offset, data_offset}
 use Rattle.chain.specs.Grammar.{IsBlock, MayFollow, NamedAndx, Span, span_at, ReadingFrom, plain_end, andx-end, andx-next, Reading}
 use Rattle.chain.specs.Chain.{before, blocks_from, blocks}
-use Rattle.chain.specs.declared.block.Body.{Body}
-use Rattle.chain.specs.declared.block.Body.TheVariants.{Locking, Read, Write, Close, Logoff, TreeDisconnect, ProcessExit, CoreRead, CoreWrite, LockByteRange, UnlockByteRange, Open}
 use Rattle.chain.specs.declared.block.Next.{Next}
 use Rattle.chain.specs.declared.block.Next.TheVariants.{End, Follow}
 use Rattle.chain.specs.declared.block.Block.{Block}
@@ -24,10 +22,9 @@ use Rattle.chain.specs.ChainLaws.{chain-end}
 use Rattle.chain.proofs.ChainLaws.{chain_more}
 use Rattle.invariants.specs.ReaderSound.{reader-sound-from}
 use Rattle.readings.specs.ReaderComplete.{reader-complete-from}
-use Rattle.readings.specs.Moved.{moved_body, Moved}
+use Rattle.readings.specs.Moved.{Moved}
 use Rattle.readings.proofs.Moved.{moved-block, moved-body, moved-size}
 use Rattle.readings.specs.FreeBytes.{Alike, AllAlike, AllStand, byte-same, moved_nowhere, stands_alike}
-
 
 module _ {s t : List ℕ} {command at : ℕ} (h : IsBlock s at command) (alike : Alike s t (span_at s command at)) where
   -- a number of two such bytes

@@ -3,19 +3,17 @@ use Rattle.std.proofs.Math.Path.{◌≡◌, ap}
 use Rattle.std.specs.Prelude.{refl, ◌↔◌, ℕ, suc, true, false}
 use Rattle.std.proofs.Common.{sym, ◌∙◌, arith}
 use Rattle.std.proofs.Math.Logic.{inl, inr}
-use mathlib.Core.List.{List, [], ◌∷◌, ◌++◌, map}
+use mathlib.Core.List.{List, [], ◌∷◌, map}
 use Rattle.std.proofs.Math.Option.{Option, none, some}
 use Rattle.std.proofs.Math.ListN.{get_or}
 use Rattle.lists.specs.Truth.{decided}
-use Rattle.chain.specs.Grammar.{Span, Reading, Sentence}
+use Rattle.chain.specs.Grammar.{Span, Reading}
 use Rattle.chain.specs.Header.{dropped}
 use Rattle.chain.specs.Chain.{blocks}
 use Rattle.chain.specs.declared.block.Block.{Block}
-use Rattle.text.specs.Digits.{decimal, hex_byte}
-use Rattle.text.specs.DigitLaws.{decimal-small}
-use Rattle.listing.specs.Text.{line, end_line, lines_from, not_chain, dropped_line, listed, listing}
+use Rattle.listing.specs.Text.{lines_from, not_chain, dropped_line, listed, listing}
 use Rattle.invariants.specs.ReaderSound.{span_of}
-use Rattle.readings.specs.ReaderComplete.{reader-complete, no-sentence}
+use Rattle.readings.specs.ReaderComplete.{reader-complete}
 use Rattle.readings.specs.ListingExact.{dropped-text, kept-text, line-span, lines-first, span_lines}
 
 pub lines-spans : (k : ℕ) (bs : List Block) → lines_from k bs ≡ span_lines k (map span_of bs)

@@ -1,24 +1,17 @@
 -- Of specs/ListingExact.antt: what rests on its other theorems. Assumes nothing.
 use Rattle.std.proofs.Math.Path.{◌≡◌, ap}
-use Rattle.std.specs.Prelude.{refl, ◌↔◌, ℕ, suc, true, false}
+use Rattle.std.specs.Prelude.{◌↔◌, ℕ, false}
 use Rattle.std.proofs.Common.{sym, ◌∙◌, arith}
 use Rattle.std.proofs.Math.Logic.{inl, inr}
-use mathlib.Core.List.{List, [], ◌∷◌, ◌++◌, map}
-use Rattle.std.proofs.Math.Option.{Option, none, some}
+use mathlib.Core.List.{List}
 use Rattle.std.proofs.Math.ListN.{get_or}
 use Rattle.lists.specs.Truth.{decided}
-use Rattle.chain.specs.Grammar.{Span, Reading, Sentence}
+use Rattle.chain.specs.Grammar.{Sentence}
 use Rattle.chain.specs.Header.{dropped}
-use Rattle.chain.specs.Chain.{blocks}
-use Rattle.chain.specs.declared.block.Block.{Block}
-use Rattle.text.specs.Digits.{decimal, hex_byte}
-use Rattle.text.specs.DigitLaws.{decimal-small}
-use Rattle.listing.specs.Text.{line, end_line, lines_from, not_chain, dropped_line, listed, listing}
-use Rattle.invariants.specs.ReaderSound.{span_of}
-use Rattle.readings.specs.ReaderComplete.{reader-complete, no-sentence}
+use Rattle.listing.specs.Text.{not_chain, dropped_line, listed, listing}
+use Rattle.readings.specs.ReaderComplete.{no-sentence}
 use Rattle.readings.proofs.ListingExact.{reading-listed}
 use Rattle.readings.specs.ListingExact.{dropped-text, kept-text, lines-first}
-
 
 module _ (s : List ℕ) where
   -- "else only `not a chain`": exactly if the message is not dropped and is no sentence

@@ -1,14 +1,13 @@
 -- Of specs/Moved.antt: what rests on its other theorems. Assumes nothing.
-use Rattle.std.specs.Prelude.{◌≡◌, refl, ℕ, ◌+◌, ◌-◌, ◌*◌, ◌≤◌, ◌<◌, Bool, true, false, List, length, eqb}
+use Rattle.std.specs.Prelude.{◌≡◌, refl, ℕ, ◌+◌, ◌-◌, ◌*◌, ◌≤◌, ◌<◌, List, eqb}
 use Rattle.std.proofs.Common.{ap, ◌∙◌, add-zero, arith, eqb-true}
 use Rattle.wire.specs.LittleEndian.{byte_at, le16_at, le32_at}
 use Rattle.chain.specs.Layout.{CLOSE, PROCESS_EXIT, LOCKING, READ, WRITE, CORE-READ, CORE-WRITE, LOCK_BYTE_RANGE, UNLOCK_BYTE_RANGE, OPEN, word_count, byte_area, byte_count, block_end, area_byte, fid_after_andx, lock_type, unlock_count, lock_count, offset_low, read_max, read_offset_high, data_length, data_offset, write_offset_high, first_fid, core_count, core_offset, data_mark, marked_length, range_length, range_offset, open_flags, access_mode, open_mode}
-use Rattle.chain.specs.Grammar.{Shape, Bare, Ranges, Data, MarkedData, Name, IsBlock, locking-10, locking-20, read-10, read-12, write-12, write-14, close, logoff, tree-disconnect, process-exit, core-read, core-write, lock-byte-range, unlock-byte-range, open-15, NamedAndx, locking-andx, read-andx, write-andx, Plain, close-plain, tree-disconnect-plain, process-exit-plain, core-read-plain, core-write-plain, lock-byte-range-plain, unlock-byte-range-plain}
+use Rattle.chain.specs.Grammar.{Shape, Bare, Ranges, Data, MarkedData, Name, IsBlock, locking-10, locking-20, read-10, read-12, write-12, write-14, close, logoff, tree-disconnect, process-exit, core-read, core-write, lock-byte-range, unlock-byte-range, open-15, NamedAndx, locking-andx, read-andx, write-andx, Plain, close-plain, core-read-plain, core-write-plain, lock-byte-range-plain, unlock-byte-range-plain}
 use Rattle.chain.specs.Parse.{wide_offset, range_fields}
-use Rattle.chain.specs.declared.block.Body.{Body}
-use Rattle.chain.specs.declared.block.Body.TheVariants.{Locking, Read, Write, Close, Logoff, TreeDisconnect, ProcessExit, CoreRead, CoreWrite, LockByteRange, UnlockByteRange, Open}
+use Rattle.chain.specs.declared.block.Body.TheVariants.{LockByteRange, UnlockByteRange}
 use Rattle.invariants.specs.BlockParse.{body_at, plain-not-andx, andx-words, block_size}
-use Rattle.readings.specs.SameNumbers.{SameBytes, same-16, same-32}
+use Rattle.readings.specs.SameNumbers.{same-16, same-32}
 use Rattle.readings.specs.Unread.{UnreadWord, Unread}
 use Rattle.readings.specs.UnreadLaws.{in_words, unread-locking, unread-read, unread-write, unread-core, range-read, unread-front, unread-fid, open-looked}
 use Rattle.readings.proofs.UnreadLaws.{unread-before-count, marked-looked, name-looked}
@@ -18,7 +17,6 @@ use Rattle.readings.specs.Moved.{kept-count}
 use Rattle.readings.specs.Moved.{kept-front}
 use Rattle.readings.specs.Moved.{kept-not-write}
 use Rattle.readings.specs.Moved.{kept-plain}
-
 
 module _ {s : List ℕ} {at : ℕ} {t : List ℕ} {to : ℕ} {command : ℕ} (m : Moved s at t to command) where
   -- a number of two bytes that are kept, and one of four

@@ -1,6 +1,6 @@
 -- Of specs/MovedBytes.antt: what rests on its other theorems. Assumes nothing.
-use Rattle.std.specs.Prelude.{◌≡◌, refl, ℕ, ◌+◌, ◌-◌, ◌*◌, ◌≤◌, ◌<◌, Bool, true, false, List, length, take, drop}
-use Rattle.std.proofs.Common.{sym, ◌∙◌, ap, arith, length-drop, length-take-le, get_or-take, get_or-drop, ext_get_or}
+use Rattle.std.specs.Prelude.{◌≡◌, refl, ℕ, ◌+◌, ◌-◌, ◌*◌, ◌≤◌, ◌<◌, Bool, List, length}
+use Rattle.std.proofs.Common.{sym, ◌∙◌, ap, arith, ext_get_or}
 use Rattle.wire.specs.LittleEndian.{byte_at}
 use Rattle.locks.specs.Wire.{range_size, ranges_at}
 use Rattle.chain.specs.Layout.{LOCKING, WRITE, CORE-WRITE, OPEN, word_count, byte_area, byte_count, block_end, lock_type, unlock_count, lock_count, data_length, data_offset}
@@ -13,7 +13,6 @@ use Rattle.readings.specs.RangeBytes.{ranges-same}
 use Rattle.readings.specs.Moved.{Moved}
 use Rattle.readings.proofs.Moved.{moved-bytes, moved-count, moved-end, moved-area, moved_length}
 use Rattle.readings.specs.MovedBytes.{area_at, byte-part, length_part, part, part_same, within}
-
 
 module _ {s : List ℕ} {at : ℕ} {t : List ℕ} {to : ℕ} {command : ℕ} (m : Moved s at t to command) (h : IsBlock s at command) where
   -- the part ends inside the other message

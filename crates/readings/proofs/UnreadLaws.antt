@@ -3,11 +3,10 @@ use Rattle.std.specs.Prelude.{◌≡◌, refl, ℕ, ◌+◌, ◌*◌, ◌/◌, �
 use Rattle.std.proofs.Common.{arith}
 use Rattle.std.proofs.lemmas.Bool.{eqb-false}
 use Rattle.locks.specs.Wire.{range_size}
-use Rattle.chain.specs.Layout.{CLOSE, PROCESS_EXIT, LOCKING, READ, WRITE, CORE-READ, CORE-WRITE, LOCK_BYTE_RANGE, UNLOCK_BYTE_RANGE, OPEN, NO_COMMAND, word_count, byte_area, andx_command, lock_type, data_length, data_offset}
-use Rattle.chain.specs.Grammar.{IsBlock, locking-10, locking-20, read-10, read-12, write-12, write-14, close, logoff, tree-disconnect, process-exit, core-read, core-write, lock-byte-range, unlock-byte-range, open-15, NamedAndx, close-plain, core-read-plain, core-write-plain}
+use Rattle.chain.specs.Layout.{LOCKING, WRITE, CORE-WRITE, OPEN, NO_COMMAND, word_count, byte_area, andx_command, lock_type, data_length, data_offset}
+use Rattle.chain.specs.Grammar.{IsBlock, locking-10, locking-20, read-10, read-12, write-12, write-14, close, logoff, tree-disconnect, process-exit, core-read, core-write, lock-byte-range, unlock-byte-range, open-15, NamedAndx}
 use Rattle.chain.specs.Parse.{is_large}
-use Rattle.invariants.specs.BlockParse.{plain-not-andx}
-use Rattle.readings.specs.Unread.{UnreadWord, locking-word, read_word, write_word, close-word, core-read-word, core-write-word, open-flags-word, open-access-word, open-size-word, Unread, unread-word, unread-reserved, unread-offset, unread-pad, unread-before, unread-behind}
+use Rattle.readings.specs.Unread.{UnreadWord, Unread, unread-word, unread-reserved, unread-offset, unread-pad, unread-before, unread-behind}
 use Rattle.readings.specs.UnreadLaws.{open-looked, unread-andx, unread-close, unread-core, unread-locking, unread-named, unread-read, unread-write}
 
 -- and ByteCount, behind the words

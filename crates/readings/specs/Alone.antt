@@ -1,17 +1,13 @@
 -- A block that makes a message of its own is that message's only block, with the same fields.
 -- Assumes nothing.
-use Rattle.std.specs.Prelude.{◌≡◌, refl, ℕ, List, [], ◌∷◌}
-use Rattle.std.proofs.Common.{◌∙◌}
-use Rattle.std.proofs.Math.Option.{some}
-use Rattle.chain.specs.Layout.{header_command, FIRST, NO_COMMAND, andx_command}
-use Rattle.chain.specs.Grammar.{IsBlock, NamedAndx}
-use Rattle.chain.specs.Chain.{blocks, blocks_from}
+use Rattle.std.specs.Prelude.{◌≡◌, ℕ, List}
+use Rattle.chain.specs.Layout.{NO_COMMAND, andx_command}
+use Rattle.chain.specs.Grammar.{NamedAndx}
 use Rattle.chain.specs.declared.block.Next.TheVariants.{End}
 use Rattle.chain.specs.declared.block.Block.{Block}
 use Rattle.invariants.specs.BlockTests.{Served, plain, andx}
-use Rattle.invariants.specs.BlockParse.{body_at, block_at, block-served, Linked, link-plain, link-end, parse-complete, block_size}
-use Rattle.chain.specs.ChainLaws.{chain-end}
-use Rattle.readings.specs.Moved.{Moved, moved_body}
+use Rattle.invariants.specs.BlockParse.{body_at, Linked, link-plain, link-end, block_size}
+use Rattle.readings.specs.Moved.{moved_body}
 
 -- "with AndXCommand 0xFF where it has one": nothing follows
 pub alone-link : (t : List ℕ) (at : ℕ) {command : ℕ} → Served command → (NamedAndx command → andx_command t at ≡ NO_COMMAND) → Linked t command at End

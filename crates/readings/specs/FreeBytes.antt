@@ -1,30 +1,16 @@
 -- "Bytes between or after blocks are free": a reading depends on the bytes of its blocks alone, and of these on those that are looked at.
 -- Assumes nothing.
 use Rattle.std.specs.Prelude.{◌≡◌, ℕ, ◌+◌, ◌-◌, ◌≤◌, ◌<◌, length}
-use Rattle.std.proofs.Math.Path.{refl, sym, ap}
-use Rattle.std.proofs.Common.{◌∙◌, arith}
-use mathlib.Core.List.Memᴰ.{head as first}
-use mathlib.Core.List.Memᴰ.{tail as later}
-use mathlib.Core.List.{List, [], ◌∷◌, Memᴰ as In}
-use Rattle.std.proofs.Math.Option.{some}
-use Rattle.wire.specs.LittleEndian.{byte_at, le16_at}
-use Rattle.chain.specs.Layout.{NO_COMMAND, header_command, word_count, block_end, andx_command, andx_offset, data_offset}
-use Rattle.chain.specs.Grammar.{IsBlock, MayFollow, NamedAndx, Span, span_at, ReadingFrom, plain_end, andx-end, andx-next, Reading}
-use Rattle.chain.specs.Chain.{before, blocks_from, blocks}
+use Rattle.std.proofs.Math.Path.{refl}
+use Rattle.std.proofs.Common.{arith}
+use mathlib.Core.List.{List, Memᴰ as In}
+use Rattle.wire.specs.LittleEndian.{byte_at}
+use Rattle.chain.specs.Grammar.{IsBlock, Span, span_at}
 use Rattle.chain.specs.declared.block.Body.{Body}
 use Rattle.chain.specs.declared.block.Body.TheVariants.{Locking, Read, Write, Close, Logoff, TreeDisconnect, ProcessExit, CoreRead, CoreWrite, LockByteRange, UnlockByteRange, Open}
-use Rattle.chain.specs.declared.block.Next.{Next}
-use Rattle.chain.specs.declared.block.Next.TheVariants.{End, Follow}
-use Rattle.chain.specs.declared.block.Block.{Block}
-use Rattle.invariants.specs.BlockParse.{body_at, block_at, Linked, link-plain, link-end, link-next, parse-complete, follow-andx, follow-not-end, write-words, andx-words, block_size}
-use Rattle.readings.specs.SameNumbers.{same-16}
+use Rattle.invariants.specs.BlockParse.{block_size}
 use Rattle.readings.specs.Unread.{Unread}
-use Rattle.readings.specs.UnreadLaws.{in_words, unread-write, unread-front}
-use Rattle.chain.specs.ChainLaws.{chain-end}
-use Rattle.chain.proofs.ChainLaws.{chain_more}
-use Rattle.invariants.specs.ReaderSound.{reader-sound-from}
-use Rattle.readings.specs.ReaderComplete.{reader-complete-from}
-use Rattle.readings.specs.Moved.{moved_body, Moved}
+use Rattle.readings.specs.Moved.{moved_body}
 
 -- a block of s stands unchanged at the same place in t
 pub record Stands (s t : List ℕ) (x : Span) : Type 0 where

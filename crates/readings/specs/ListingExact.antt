@@ -1,22 +1,18 @@
 -- The chain lister's text and the grammar (document 01, "A listing, whole"): "prints for each block its place, command in hex, offset and length, then `end`; else
 -- only `not a chain`, for an unserved command too, or `dropped` by row 1", over the blocks of a reading. Assumes nothing.
-use Rattle.std.proofs.Math.Path.{◌≡◌, ap}
-use Rattle.std.specs.Prelude.{refl, ◌↔◌, ℕ, suc, true, false}
-use Rattle.std.proofs.Common.{sym, ◌∙◌, arith}
-use Rattle.std.proofs.Math.Logic.{inl, inr}
-use mathlib.Core.List.{List, [], ◌∷◌, ◌++◌, map}
-use Rattle.std.proofs.Math.Option.{Option, none, some}
+use Rattle.std.proofs.Math.Path.{◌≡◌}
+use Rattle.std.specs.Prelude.{refl, ℕ, suc, true, false}
+use Rattle.std.proofs.Common.{sym, arith}
+use mathlib.Core.List.{List, [], ◌∷◌, ◌++◌}
 use Rattle.std.proofs.Math.ListN.{get_or}
-use Rattle.lists.specs.Truth.{decided}
-use Rattle.chain.specs.Grammar.{Span, Reading, Sentence}
+use Rattle.chain.specs.Grammar.{Span}
 use Rattle.chain.specs.Header.{dropped}
 use Rattle.chain.specs.Chain.{blocks}
 use Rattle.chain.specs.declared.block.Block.{Block}
 use Rattle.text.specs.Digits.{decimal, hex_byte}
 use Rattle.text.specs.DigitLaws.{decimal-small}
-use Rattle.listing.specs.Text.{line, end_line, lines_from, not_chain, dropped_line, listed, listing}
+use Rattle.listing.specs.Text.{line, end_line, dropped_line, listed, listing}
 use Rattle.invariants.specs.ReaderSound.{span_of}
-use Rattle.readings.specs.ReaderComplete.{reader-complete, no-sentence}
 
 -- the line of a block of a reading that stands k-th: "its place, command in hex, offset and length", a space between them and a newline behind
 unfoldable pub span_line : ℕ → Span → List ℕ

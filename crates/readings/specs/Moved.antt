@@ -1,18 +1,17 @@
 -- A block that stands at another place, perhaps in another message, is read the same.
 -- Its AndX words may differ, and a WRITE block's DataOffset moves with it; the data of a core WRITE have no offset.
 -- Assumes nothing.
-use Rattle.std.specs.Prelude.{◌≡◌, refl, ℕ, ◌+◌, ◌-◌, ◌*◌, ◌≤◌, ◌<◌, Bool, true, false, List, length, eqb}
-use Rattle.std.proofs.Common.{ap, ◌∙◌, add-zero, arith, eqb-true}
-use Rattle.wire.specs.LittleEndian.{byte_at, le16_at, le32_at}
-use Rattle.chain.specs.Layout.{CLOSE, PROCESS_EXIT, LOCKING, READ, WRITE, CORE-READ, CORE-WRITE, LOCK_BYTE_RANGE, UNLOCK_BYTE_RANGE, OPEN, word_count, byte_area, byte_count, block_end, area_byte, fid_after_andx, lock_type, unlock_count, lock_count, offset_low, read_max, read_offset_high, data_length, data_offset, write_offset_high, first_fid, core_count, core_offset, data_mark, marked_length, range_length, range_offset, open_flags, access_mode, open_mode}
-use Rattle.chain.specs.Grammar.{Shape, Bare, Ranges, Data, MarkedData, Name, IsBlock, locking-10, locking-20, read-10, read-12, write-12, write-14, close, logoff, tree-disconnect, process-exit, core-read, core-write, lock-byte-range, unlock-byte-range, open-15, NamedAndx, locking-andx, read-andx, write-andx, Plain, close-plain, tree-disconnect-plain, process-exit-plain, core-read-plain, core-write-plain, lock-byte-range-plain, unlock-byte-range-plain}
-use Rattle.chain.specs.Parse.{wide_offset, range_fields}
+use Rattle.std.specs.Prelude.{◌≡◌, refl, ℕ, ◌+◌, ◌-◌, ◌*◌, ◌≤◌, ◌<◌, Bool, true, false, List, length}
+use Rattle.std.proofs.Common.{arith}
+use Rattle.wire.specs.LittleEndian.{byte_at}
+use Rattle.chain.specs.Layout.{WRITE, word_count, data_offset}
+use Rattle.chain.specs.Grammar.{IsBlock, locking-10, locking-20, read-10, read-12, write-12, write-14, close, logoff, tree-disconnect, process-exit, core-read, core-write, lock-byte-range, unlock-byte-range, open-15, Plain, close-plain, tree-disconnect-plain, process-exit-plain, core-read-plain, core-write-plain, lock-byte-range-plain, unlock-byte-range-plain}
+use Rattle.chain.specs.Parse.{wide_offset}
 use Rattle.chain.specs.declared.block.Body.{Body}
 use Rattle.chain.specs.declared.block.Body.TheVariants.{Locking, Read, Write, Close, Logoff, TreeDisconnect, ProcessExit, CoreRead, CoreWrite, LockByteRange, UnlockByteRange, Open}
-use Rattle.invariants.specs.BlockParse.{body_at, plain-not-andx, andx-words, block_size}
-use Rattle.readings.specs.SameNumbers.{SameBytes, same-16, same-32}
-use Rattle.readings.specs.Unread.{UnreadWord, Unread}
-use Rattle.readings.specs.UnreadLaws.{in_words, unread-locking, unread-read, unread-write, unread-core, range-read, unread-front, unread-fid, open-looked}
+use Rattle.invariants.specs.BlockParse.{block_size}
+use Rattle.readings.specs.SameNumbers.{SameBytes}
+use Rattle.readings.specs.Unread.{Unread}
 
 -- The bytes of a block that stay as they are, counted from its start: all of a request not named ANDX; of the others all but
 -- the four AndX words' bytes, 1 to 4, and of a WRITE block all but these and its DataOffset's bytes, 23 and 24.
@@ -80,5 +79,4 @@ module _ {s : List ℕ} {at : ℕ} {t : List ℕ} {to : ℕ} {command : ℕ} (m 
       let e : to + k + j ≡ to + (k + j) = omega arith in
       let f : at + k + j ≡ at + (k + j) = omega arith in
       rw (e, f) (m.kept (k + j) (omega arith) (p (k + j) (omega arith) (omega arith)))
-
   -- the numbers of a core command, in front of what it leaves unread

@@ -1,16 +1,10 @@
 -- The ranges of a block that stands at another place are the same, a WRITE block's data is the same part of a message, and so are a core WRITE's data block and an OPEN's name.
 -- Assumes nothing.
-use Rattle.std.specs.Prelude.{◌≡◌, refl, ℕ, ◌+◌, ◌-◌, ◌*◌, ◌≤◌, ◌<◌, Bool, true, false, List, length, take, drop}
-use Rattle.std.proofs.Common.{sym, ◌∙◌, ap, arith, length-drop, length-take-le, get_or-take, get_or-drop, ext_get_or}
+use Rattle.std.specs.Prelude.{◌≡◌, ℕ, ◌+◌, ◌*◌, ◌≤◌, ◌<◌, Bool, true, false, List, length, take, drop}
+use Rattle.std.proofs.Common.{sym, ◌∙◌, arith, length-drop, length-take-le, get_or-take, get_or-drop, ext_get_or}
 use Rattle.wire.specs.LittleEndian.{byte_at}
-use Rattle.locks.specs.Wire.{range_size, ranges_at}
-use Rattle.chain.specs.Layout.{LOCKING, WRITE, CORE-WRITE, OPEN, word_count, byte_area, byte_count, block_end, lock_type, unlock_count, lock_count, data_length, data_offset}
-use Rattle.chain.specs.Grammar.{IsBlock, Ranges, Data}
-use Rattle.chain.specs.Parse.{is_large}
-use Rattle.invariants.specs.BlockParse.{block_inside, write-words, block_size}
-use Rattle.readings.specs.Unread.{Unread}
-use Rattle.readings.specs.RangeBytes.{ranges-same}
-use Rattle.readings.specs.Moved.{Moved}
+use Rattle.locks.specs.Wire.{range_size}
+use Rattle.chain.specs.Layout.{byte_area, byte_count}
 
 -- a part of that many bytes from a place on
 abbrev pub part : List ℕ → ℕ → ℕ → List ℕ

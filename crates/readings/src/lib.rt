@@ -1,1 +1,3 @@
+#![tactic(auto)]
+
 // Theorems on the grammar and the reader; no code.

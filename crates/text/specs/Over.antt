@@ -1,6 +1,6 @@
 -- Text laid over a buffer from a place on, as far as the buffer has room.
 -- Assumes nothing.
-use Rattle.std.specs.Prelude.{◌≡◌, ℕ, min, ◌+◌, ◌-◌, List, ◌++◌, length, take}
+use Rattle.std.specs.Prelude.{◌≡◌, ℕ, min, ◌+◌, ◌-◌, List, length, take}
 use Rattle.lists.specs.Put.{put}
 
 -- the buffer d with the text x laid over it from place `at` on

@@ -1,5 +1,6 @@
 // Text written into a lent buffer from a place on, as far as the buffer has room: bytes, texts, numbers in decimal and in
 // hex. Each writer answers the next place.
+#![tactic(auto)]
 
 ghost use Rattle.std.specs.Prelude.{◌≡◌, ◌∷◌, [], ◌≤◌};
 ghost use Rattle.text.specs.Digits.{decimal, number_text, hex_digit, hex_byte, hex_bytes};

@@ -1,9 +1,9 @@
 -- `digest::digest_bytes` meets its contract: what is left is digested from here.
 -- Assumes nothing.
 use native.Mathlib.Omega.{arith}
-use mathlib.Core.Path.{◌≡◌, refl, sym, ◌∙◌, ap}
-use Prim.Native.Nat.{◌-◌, ◌<◌, ℕ, ◌+◌, ◌*◌, ◌%◌}
-use lib.ListN.{length, drop}
+use mathlib.Core.Path.{refl, sym, ◌∙◌, ap}
+use Prim.Native.Nat.{ℕ, ◌+◌, ◌*◌, ◌%◌}
+use lib.ListN.{drop}
 use Rattle.digest.specs.Digest.{added, digest, digest-more, digest-end}
 use Rattle.digest.proofs.digest_bytes.Goals as goal
 

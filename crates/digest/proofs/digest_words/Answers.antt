@@ -1,10 +1,8 @@
 -- `digest::digest_words` meets its contract: what is left is digested from here.
 -- Assumes nothing.
 use native.Mathlib.Omega.{arith}
-use mathlib.Core.Path.{◌≡◌, refl, sym, ◌∙◌}
-use Prim.Native.Nat.{◌-◌, ◌<◌}
-use lib.ListN.{length, drop}
-use Rattle.digest.specs.Digest.{added, digest, digest-more, digest-end}
+use mathlib.Core.Path.{refl, sym, ◌∙◌}
+use Rattle.digest.specs.Digest.{added, digest-more, digest-end}
 use Rattle.digest.proofs.digest_words.Goals as goal
 
 pub loop-i-init : goal.loop-i-init

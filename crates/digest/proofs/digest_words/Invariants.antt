@@ -1,8 +1,7 @@
-use native.Mathlib.Omega.{arith}
-use mathlib.Core.Path.{◌≡◌, refl, sym, ◌∙◌}
+use mathlib.Core.Path.{◌≡◌}
 use Prim.Native.Nat.{◌-◌, ◌<◌}
 use lib.ListN.{length, drop}
-use Rattle.digest.specs.Digest.{added, digest, digest-more, digest-end}
+use Rattle.digest.specs.Digest.{digest}
 use Rattle.digest.proofs.digest_words.Given as goal
 
 abbrev pub invariant-loop-i : goal.invariant-loop-i

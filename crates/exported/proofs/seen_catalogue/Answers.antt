@@ -1,5 +1,4 @@
 -- `exported::seen_catalogue` meets its contract: the contract of `gateway_set_catalogue` is the law's premises. Assumes nothing.
-use borrow.Author.Rules.{rules}
 use Rattle.demands.proofs.Exported.{catalogue-seen}
 use Rattle.exported.proofs.seen_catalogue.Goals as goal
 

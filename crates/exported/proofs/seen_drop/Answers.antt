@@ -1,5 +1,4 @@
 -- `exported::seen_drop` meets its contract: the contract of `gateway_drop_connection` is the law's premises. Assumes nothing.
-use borrow.Author.Rules.{rules}
 use Rattle.demands.proofs.ExportedStated.{drop-seen}
 use Rattle.exported.proofs.seen_drop.Goals as goal
 

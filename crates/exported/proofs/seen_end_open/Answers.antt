@@ -1,5 +1,4 @@
 -- `exported::seen_end_open` meets its contract: the contract of `gateway_end_open` is the law's premises. Assumes nothing.
-use borrow.Author.Rules.{rules}
 use Rattle.host.specs.declared.ending.One.TheVariants.{Open as OneOpen}
 use Rattle.demands.proofs.ExportedStated.{end_seen}
 use Rattle.exported.proofs.seen_end_open.Goals as goal

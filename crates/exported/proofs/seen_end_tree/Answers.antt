@@ -1,5 +1,4 @@
 -- `exported::seen_end_tree` meets its contract: the contract of `gateway_end_tree` is the law's premises. Assumes nothing.
-use borrow.Author.Rules.{rules}
 use Rattle.host.specs.declared.ending.One.TheVariants.{Tree as OneTree}
 use Rattle.demands.proofs.ExportedStated.{end_seen}
 use Rattle.exported.proofs.seen_end_tree.Goals as goal

@@ -1,5 +1,4 @@
 -- `exported::seen_load` meets its contract: the contract of `gateway_load_file` is the law's premises. Assumes nothing.
-use borrow.Author.Rules.{rules}
 use Rattle.demands.proofs.Exported.{load-seen}
 use Rattle.exported.proofs.seen_load.Goals as goal
 

@@ -1,5 +1,4 @@
 -- `exported::seen_message` meets its contract: the contract of `gateway_take_message` is the law's premises. Assumes nothing.
-use borrow.Author.Rules.{rules}
 use Rattle.demands.proofs.Exported.{message-seen}
 use Rattle.exported.proofs.seen_message.Goals as goal
 

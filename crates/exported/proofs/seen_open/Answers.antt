@@ -1,5 +1,4 @@
 -- `exported::seen_open` meets its contract: the contract of `gateway_add_open` is the law's premises. Assumes nothing.
-use borrow.Author.Rules.{rules}
 use Rattle.demands.proofs.ExportedStated.{open-seen}
 use Rattle.exported.proofs.seen_open.Goals as goal
 

@@ -1,5 +1,4 @@
 -- `exported::seen_session` meets its contract: the contract of `gateway_add_session` is the law's premises. Assumes nothing.
-use borrow.Author.Rules.{rules}
 use Rattle.demands.proofs.ExportedStated.{session-seen}
 use Rattle.exported.proofs.seen_session.Goals as goal
 

@@ -1,5 +1,4 @@
 -- `exported::seen_stream_read` meets its contract: the contract of `gateway_stream_read` is the law's premises. Assumes nothing.
-use borrow.Author.Rules.{rules}
 use Rattle.demands.proofs.StreamSeen.{piece-seen}
 use Rattle.exported.proofs.seen_stream_read.Goals as goal
 

@@ -1,5 +1,4 @@
 -- `exported::seen_stream_reset` meets its contract: the words of a reader that has read nothing are all 0. Assumes nothing.
-use borrow.Author.Rules.{rules}
 use mathlib.Core.Path.{ap}
 use Rattle.stream.specs.State.{none_begun}
 use Rattle.boundary.specs.StreamWords.{words_of}

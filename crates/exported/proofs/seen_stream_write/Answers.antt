@@ -1,5 +1,4 @@
 -- `exported::seen_stream_write` meets its contract: the contract of `gateway_stream_write` is the law's premises. Assumes nothing.
-use borrow.Author.Rules.{rules}
 use Rattle.demands.proofs.StreamSeen.{written-seen}
 use Rattle.exported.proofs.seen_stream_write.Goals as goal
 

@@ -1,5 +1,4 @@
 -- `exported::seen_tree` meets its contract: the contract of `gateway_add_tree` is the law's premises. Assumes nothing.
-use borrow.Author.Rules.{rules}
 use Rattle.demands.proofs.ExportedStated.{tree-seen}
 use Rattle.exported.proofs.seen_tree.Goals as goal
 

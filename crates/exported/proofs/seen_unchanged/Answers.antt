@@ -1,5 +1,4 @@
 -- `exported::seen_unchanged` meets its contract: the contract of `gateway_unchanged` is the law's premises. Assumes nothing.
-use borrow.Author.Rules.{rules}
 use Rattle.demands.proofs.Exported.{unchanged-seen}
 use Rattle.exported.proofs.seen_unchanged.Goals as goal
 

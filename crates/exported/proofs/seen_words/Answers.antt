@@ -1,5 +1,4 @@
 -- `exported::seen_words` meets its contract: the sum that `gateway_words` gives is the length of what `gateway_empty` leaves. Assumes nothing.
-use borrow.Author.Rules.{rules}
 use mathlib.Core.Path.{sym, ap, ◌∙◌}
 use Prim.Native.Nat.{ℕ}
 use lib.ListN.{length, length-replicate}

@@ -1,7 +1,7 @@
 -- A chain that has a reading has a block where it begins. A follower stands behind the block, so what is left of the message falls.
 -- The block's line stands before those of the rest, and `end` stands last.
-use Rattle.std.proofs.Common.{◌≡◌, ℕ, ◌+◌, ◌≤◌, length, sym, arith}
-use Rattle.text.specs.Overlaid.{written_then, written-length}
+use Rattle.std.proofs.Common.{ℕ, ◌+◌, ◌≤◌, length, sym, arith}
+use Rattle.text.specs.Overlaid.{written_then}
 use Rattle.listing.proofs.Lines.{sentence-stands, lines_end, lines_more, sentence-more, left-falls, count-more, count-inside, Followed}
 use Rattle.listing.specs.Text.{end_line}
 use Rattle.listing.proofs.+put_blocks.Goals as goal

@@ -4,8 +4,6 @@ use Rattle.listing.proofs.Lines.{listing-dropped, listing_none, sentence-read, l
 use Rattle.listing.specs.Text.{dropped_line, not_chain}
 use mathlib.Core.Path.{sym, ◌∙◌}
 use native.Mathlib.Omega.{arith}
-use borrow.Author.Tests.{not-true, not-false}
-use borrow.Author.Rules.{rules}
 use Rattle.listing.proofs.list_message.Goals as goal
 
 pub returns-then-is_dropped : goal.returns-then-is_dropped

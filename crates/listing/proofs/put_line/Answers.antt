@@ -2,7 +2,6 @@
 -- Assumes nothing.
 use Rattle.text.specs.Overlaid.{written_then}
 use Rattle.listing.specs.Text.{line}
-use borrow.Author.Rules.{rules}
 use Rattle.listing.proofs.put_line.Goals as goal
 
 pub returns : goal.returns

@@ -1,9 +1,7 @@
-use Rattle.text.specs.Overlaid.{written-nothing, written-hex-more, written-length, written-hex-whole}
 use Prim.Native.Nat.{◌-◌}
 use lib.ListN.{length, take}
 use Rattle.text.specs.Over.{Written}
 use Rattle.text.specs.Digits.{hex_bytes}
-use native.Mathlib.Omega.{arith}
 use Rattle.text.proofs.put_hex_bytes.Given as goal
 
 abbrev pub invariant-loop-i : goal.invariant-loop-i

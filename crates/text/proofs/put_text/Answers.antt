@@ -1,9 +1,6 @@
 -- `text::put_text` meets its contract. The loop's invariant: the bytes passed are written.
 -- Assumes nothing.
 use Rattle.text.specs.Overlaid.{written-nothing, written-more, written-length, written-whole}
-use Prim.Native.Nat.{◌-◌}
-use lib.ListN.{length, take}
-use Rattle.text.specs.Over.{Written}
 use native.Mathlib.Omega.{arith}
 use Rattle.text.proofs.put_text.Goals as goal
 

@@ -1,8 +1,6 @@
-use Rattle.text.specs.Overlaid.{written-nothing, written-more, written-length, written-whole}
 use Prim.Native.Nat.{◌-◌}
 use lib.ListN.{length, take}
 use Rattle.text.specs.Over.{Written}
-use native.Mathlib.Omega.{arith}
 use Rattle.text.proofs.put_text.Given as goal
 
 abbrev pub invariant-loop-i : goal.invariant-loop-i

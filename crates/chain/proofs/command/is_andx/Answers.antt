@@ -1,6 +1,5 @@
 -- `chain::command::is_andx` meets its contract: each arm is the definition's.
 -- Assumes nothing.
-use borrow.Author.Rules.{rules}
 use Rattle.chain.specs.Request.{is_andx}
 use Rattle.chain.proofs.command.is_andx.Goals as goal
 

@@ -3,14 +3,9 @@
 -- what the arm `_` knows: the request is not the enum's variant 12
 use mathlib.Core.Path.{◌≡◌, refl}
 use mathlib.Core.Bool.{true}
-use mathlib.Core.List.{[], ◌∷◌}
-use types.Run.{OneOf, miss}
-use denote.Enum.Declared.{tag_of}
-use borrow.Author.Rules.{rules}
 use Rattle.chain.specs.Request.{is_served}
 use Rattle.chain.specs.declared.command.ServedRequest.{ServedRequest}
 use Rattle.chain.specs.declared.command.ServedRequest.TheVariants.{Locking, Read, Write, Close, Logoff, TreeDisconnect, ProcessExit, CoreRead, CoreWrite, LockByteRange, UnlockByteRange, Open, None}
-use Rattle.chain.specs.contracts.command.ServedRequest.{the_type}
 use Rattle.chain.proofs.command.is_served.Goals as goal
 
 not_none : (request : ServedRequest) → (request ≡ None → ⊥) → true ≡ is_served request

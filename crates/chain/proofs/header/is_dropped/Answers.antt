@@ -1,9 +1,8 @@
 -- `chain::header::is_dropped` meets its contract: the tests are those of the definition, in its order.
 -- Assumes nothing.
 use mathlib.Core.Path.{sym, ◌∙◌}
-use borrow.Author.Tests.{lt-ltb, le-ltb, not-true, not-false}
+use borrow.Author.Tests.{lt-ltb, le-ltb}
 use Rattle.chain.specs.Header.{dropped, is_reply}
-use borrow.Author.Rules.{rules}
 use Rattle.chain.proofs.header.is_dropped.Goals as goal
 
 pub returns-then-s-lt-SHORTEST : goal.returns-then-s-lt-SHORTEST

@@ -3,7 +3,6 @@
 use mathlib.Core.Path.{sym, ◌∙◌}
 use borrow.Author.Tests.{eq-eqb, ne_eqb}
 use Rattle.chain.specs.Header.{starts_smb}
-use borrow.Author.Rules.{rules}
 use Rattle.chain.proofs.header.starts_smb.Goals as goal
 
 pub returns-then-byte_at-ne255 : goal.returns-then-byte_at-ne255

@@ -7,12 +7,11 @@ use native.Mathlib.Omega.{arith}
 use mathlib.Core.Bool.{true, ◌&&◌}
 use lib.ListN.{length}
 use lib.Dec.{eqb}
-use borrow.Author.Tests.{not-true, not-false, eq-eqb, ne_eqb}
+use borrow.Author.Tests.{eq-eqb, ne_eqb}
 use Rattle.wire.specs.LittleEndian.{byte_at, le16_at}
 use Rattle.chain.specs.Layout.{block_end, core_count}
 use Rattle.chain.specs.Parse.{shaped, core_write_fits}
 use Rattle.chain.specs.ParseLaws.{shaped-inside, core-write-tests}
-use borrow.Author.Rules.{rules}
 use Rattle.chain.proofs.judge.core_write_fits.Goals as goal
 use Rattle.chain.proofs.judge.core_write_fits.Goals.{Else-not-has_shape}
 

@@ -6,7 +6,6 @@ use native.Mathlib.Omega.{arith}
 use borrow.Author.Tests.{lt-leb, le-leb}
 use Rattle.chain.specs.Layout.{word_count, byte_area, data_offset}
 use Rattle.chain.specs.Parse.{data_inside}
-use borrow.Author.Rules.{rules}
 use Rattle.chain.proofs.judge.data_inside.Goals as goal
 
 pub returns-then-from-at : goal.returns-then-from-at

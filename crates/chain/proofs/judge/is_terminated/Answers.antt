@@ -1,12 +1,8 @@
 -- `chain::judge::is_terminated` meets its contract: the bytes ahead give the same answer as all of them.
 -- Assumes nothing.
-use mathlib.Core.Path.{◌≡◌, refl, ◌∙◌}
-use Prim.Native.Nat.{◌-◌, ◌≤◌}
+use mathlib.Core.Path.{refl, ◌∙◌}
 use native.Mathlib.Omega.{arith}
-use lib.ListN.{length, drop}
 use borrow.Author.Tests.{ne_eqb}
-use borrow.Author.Rules.{rules}
-use Rattle.chain.specs.Parse.{terminated}
 use Rattle.chain.proofs.Terminated.{terminated-zero, terminated-more, terminated-end}
 use Rattle.chain.proofs.judge.is_terminated.Goals as goal
 

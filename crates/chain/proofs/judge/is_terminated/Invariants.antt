@@ -1,11 +1,7 @@
-use mathlib.Core.Path.{◌≡◌, refl, ◌∙◌}
-use Prim.Native.Nat.{◌-◌, ◌≤◌}
-use native.Mathlib.Omega.{arith}
+use mathlib.Core.Path.{◌≡◌}
+use Prim.Native.Nat.{◌-◌}
 use lib.ListN.{length, drop}
-use borrow.Author.Tests.{ne_eqb}
-use borrow.Author.Rules.{rules}
 use Rattle.chain.specs.Parse.{terminated}
-use Rattle.chain.proofs.Terminated.{terminated-zero, terminated-more, terminated-end}
 use Rattle.chain.proofs.judge.is_terminated.Given as goal
 
 abbrev pub invariant-loop-i : goal.invariant-loop-i

@@ -3,11 +3,9 @@
 -- the block fits its row
 use mathlib.Core.Path.{◌≡◌, sym, ◌∙◌}
 use mathlib.Core.Bool.{true}
-use borrow.Author.Tests.{not-true, not-false}
 use Rattle.chain.specs.Request.{request_named, is_andx}
 use Rattle.chain.specs.Rows.{row_fits, row_inside, andx-inside}
 use Rattle.chain.proofs.Rows.{judged-misfit, judged-plain, judged-link}
-use borrow.Author.Rules.{rules}
 use Rattle.chain.proofs.judge.judge_block.Goals as goal
 use Rattle.chain.proofs.judge.judge_block.Goals.{Else-not-is_andx, Else-not-row_fits}
 

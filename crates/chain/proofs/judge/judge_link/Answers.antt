@@ -3,11 +3,10 @@
 use mathlib.Core.Path.{◌≡◌}
 use Prim.Native.Nat.{◌≤◌, ◌<◌}
 use native.Mathlib.Omega.{arith}
-use borrow.Author.Tests.{ne_eqb, not-true, not-false, lt-leb, le-leb}
+use borrow.Author.Tests.{ne_eqb, lt-leb, le-leb}
 use Rattle.chain.specs.Layout.{block_end, andx_command, andx_offset}
 use Rattle.chain.specs.Parse.{link_fits, link_at}
 use Rattle.chain.specs.Rows.{link_judged}
-use borrow.Author.Rules.{rules}
 use Rattle.chain.proofs.judge.judge_link.Goals as goal
 
 pub returns-then-next : goal.returns-then-next

@@ -6,12 +6,10 @@ use Prim.Native.Nat.{◌+◌, ◌*◌, ◌^◌, ◌≤◌, ◌<◌}
 use native.Mathlib.Omega.{arith}
 use lib.ListN.{length}
 use mathlib.Core.Bool.{true}
-use borrow.Author.Tests.{not-true, not-false}
 use Rattle.locks.specs.Wire.{place-small}
 use Rattle.chain.specs.Layout.{word_count, block_end}
 use Rattle.chain.specs.Parse.{shaped, is_large, locking_fits}
 use Rattle.chain.specs.ParseLaws.{shaped-words, shaped-inside}
-use borrow.Author.Rules.{rules}
 use Rattle.chain.proofs.judge.locking_fits.Goals as goal
 use Rattle.chain.proofs.judge.locking_fits.Goals.{Else-not-has_shape}
 

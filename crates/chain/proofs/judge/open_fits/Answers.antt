@@ -6,11 +6,9 @@ use Prim.Native.Nat.{◌+◌, ◌-◌, ◌≤◌}
 use native.Mathlib.Omega.{arith}
 use mathlib.Core.Bool.{true}
 use lib.ListN.{length}
-use borrow.Author.Tests.{not-true, not-false}
 use Rattle.chain.specs.Layout.{word_count, byte_area, byte_count, block_end}
 use Rattle.chain.specs.Parse.{shaped, open_fits}
 use Rattle.chain.specs.ParseLaws.{shaped-words, shaped-inside}
-use borrow.Author.Rules.{rules}
 use Rattle.chain.proofs.judge.open_fits.Goals as goal
 use Rattle.chain.proofs.judge.open_fits.Goals.{Else-not-has_shape}
 

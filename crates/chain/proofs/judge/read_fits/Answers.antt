@@ -1,7 +1,6 @@
 -- `chain::judge::read_fits` meets its contract: the tests are those of the definition, in its order.
 -- Assumes nothing.
 use Rattle.chain.specs.Parse.{read_fits}
-use borrow.Author.Rules.{rules}
 use Rattle.chain.proofs.judge.read_fits.Goals as goal
 
 pub returns-then-is_bare : goal.returns-then-is_bare

@@ -1,7 +1,6 @@
 -- `chain::judge::row_fits` meets its contract: each request's arm is the definition's.
 -- Assumes nothing.
 use Rattle.chain.specs.Rows.{row_fits}
-use borrow.Author.Rules.{rules}
 use Rattle.chain.proofs.judge.row_fits.Goals as goal
 
 pub returns-in-Locking : goal.returns-in-Locking

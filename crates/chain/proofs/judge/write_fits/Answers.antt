@@ -5,7 +5,6 @@ use mathlib.Core.Bool.{true}
 use native.Mathlib.Omega.{arith}
 use Rattle.chain.specs.Parse.{shaped, write_fits}
 use Rattle.chain.specs.ParseLaws.{shaped-inside}
-use borrow.Author.Rules.{rules}
 use Rattle.chain.proofs.judge.write_fits.Goals as goal
 
 pub data_inside-requires : goal.data_inside-requires

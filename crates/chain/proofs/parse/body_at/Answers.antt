@@ -5,7 +5,6 @@ use Rattle.chain.specs.Parse.{parse, parse_logoff, parse_bare}
 use Rattle.chain.specs.Request.{request_named, is_andx}
 use Rattle.chain.specs.RequestLaws.{Names, names}
 use Rattle.chain.specs.Rows.{fits, row_fits, next_at, row-process-exit, row-none}
-use borrow.Author.Rules.{rules}
 use Rattle.chain.proofs.parse.body_at.Goals as goal
 
 pub returns-in-Locking : goal.returns-in-Locking

@@ -1,6 +1,5 @@
 -- `chain::parse::core_read_body` meets its contract: the numbers read are those of the definition.
 -- Assumes nothing.
-use borrow.Author.Rules.{rules}
 use Rattle.chain.proofs.parse.core_read_body.Goals as goal
 
 pub returns : goal.returns

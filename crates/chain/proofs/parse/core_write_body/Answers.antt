@@ -4,14 +4,12 @@
 use mathlib.Core.Path.{◌≡◌}
 use Prim.Native.Nat.{◌+◌, ◌*◌}
 use native.Mathlib.Omega.{arith}
-use mathlib.Core.Bool.{true, false}
 use Rattle.lists.specs.Truth.{test-cases}
 use Rattle.chain.specs.Layout.{word_count}
 use Rattle.chain.specs.Parse.{core_write_fits, answer, parse, parse_core_write}
 use Rattle.chain.specs.ParseLaws.{shaped-words, core-write-shaped}
 use Rattle.chain.specs.Request.{request_named, is_andx}
 use Rattle.chain.specs.Rows.{fits, row_fits, next_at}
-use borrow.Author.Rules.{rules}
 use Rattle.chain.proofs.parse.core_write_body.Goals as goal
 
 pub returns : goal.returns

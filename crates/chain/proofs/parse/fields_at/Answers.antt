@@ -10,7 +10,6 @@ use Rattle.chain.proofs.ParseLaws.{placed}
 use Rattle.chain.specs.Judged.{whole-block}
 use Rattle.chain.specs.Rows.{taken-apart}
 use Rattle.chain.proofs.Rows.{whole-andx}
-use borrow.Author.Rules.{rules}
 use Rattle.chain.proofs.parse.fields_at.Goals as goal
 use Rattle.chain.proofs.parse.fields_at.Goals.{Start}
 

@@ -2,7 +2,6 @@
 -- Assumes nothing.
 use mathlib.Core.Path.{sym, ◌∙◌}
 use Rattle.chain.specs.Rows.{next_at}
-use borrow.Author.Rules.{rules}
 use Rattle.chain.proofs.parse.next_at.Goals as goal
 
 pub link_at-requires : goal.link_at-requires

@@ -1,7 +1,6 @@
 -- `chain::parse::offset_at` meets its contract: one case for each width.
 -- Assumes nothing.
 use Rattle.chain.specs.Parse.{wide_offset}
-use borrow.Author.Rules.{rules}
 use Rattle.chain.proofs.parse.offset_at.Goals as goal
 
 pub returns-then-wide : goal.returns-then-wide

@@ -1,6 +1,5 @@
 -- `chain::parse::range_fields` meets its contract: the numbers read are those of the definition.
 -- Assumes nothing.
-use borrow.Author.Rules.{rules}
 use Rattle.chain.proofs.parse.range_fields.Goals as goal
 
 pub returns : goal.returns

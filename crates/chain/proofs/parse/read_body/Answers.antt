@@ -3,7 +3,6 @@
 use Rattle.chain.specs.Parse.{parse, parse_read}
 use Rattle.chain.specs.Request.{request_named, is_andx}
 use Rattle.chain.specs.Rows.{fits, row_fits, next_at}
-use borrow.Author.Rules.{rules}
 use Rattle.chain.proofs.parse.read_body.Goals as goal
 
 pub returns : goal.returns

@@ -1,6 +1,5 @@
 -- `chain::shape::block_end` meets its contract: the two numbers read are those of the definition.
 -- Assumes nothing.
-use borrow.Author.Rules.{rules}
 use Rattle.chain.proofs.shape.block_end.Goals as goal
 
 pub returns : goal.returns

@@ -1,6 +1,5 @@
 -- `chain::shape::end_inside` meets its contract: the two numbers read are those of the definition, and stand inside.
 -- Assumes nothing.
-use borrow.Author.Rules.{rules}
 use Rattle.chain.proofs.shape.end_inside.Goals as goal
 
 pub returns : goal.returns

@@ -5,7 +5,6 @@ use borrow.Author.Tests.{eq-eqb, ne_eqb}
 use Rattle.wire.specs.LittleEndian.{byte_at}
 use Rattle.chain.specs.Parse.{shaped}
 use Rattle.chain.specs.ParseLaws.{shaped-past}
-use borrow.Author.Rules.{rules}
 use Rattle.chain.proofs.shape.has_shape.Goals as goal
 
 pub returns-then-s-at : goal.returns-then-s-at

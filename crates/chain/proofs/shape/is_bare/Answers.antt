@@ -6,11 +6,9 @@ use Prim.Native.Nat.{◌≤◌}
 use native.Mathlib.Omega.{arith}
 use lib.ListN.{length}
 use mathlib.Core.Bool.{true}
-use borrow.Author.Tests.{not-true, not-false}
 use Rattle.chain.specs.Layout.{block_end}
 use Rattle.chain.specs.Parse.{shaped, bare}
 use Rattle.chain.specs.ParseLaws.{shaped-words, shaped-inside}
-use borrow.Author.Rules.{rules}
 use Rattle.chain.proofs.shape.is_bare.Goals as goal
 use Rattle.chain.proofs.shape.is_bare.Goals.{Else-not-has_shape}
 

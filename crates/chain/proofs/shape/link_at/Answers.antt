@@ -2,7 +2,6 @@
 -- Assumes nothing.
 use borrow.Author.Tests.{ne_eqb}
 use Rattle.chain.specs.Parse.{link_at}
-use borrow.Author.Rules.{rules}
 use Rattle.chain.proofs.shape.link_at.Goals as goal
 
 pub returns-then-next : goal.returns-then-next

@@ -1,7 +1,6 @@
 -- `chain::shape::number_inside` meets its contract: both bytes stand inside, and are those of the definition.
 -- Assumes nothing.
 use Rattle.wire.specs.LittleEndian.{le16_at}
-use borrow.Author.Rules.{rules}
 use Rattle.chain.proofs.shape.number_inside.Goals as goal
 
 pub returns : goal.returns

@@ -1,6 +1,5 @@
 -- `host::connection::drop_sound` meets its contract: sound tables lose what the connection names.
 -- Assumes nothing.
-use borrow.Author.Rules.{rules}
 use Rattle.tables.specs.Words.{tables_of}
 use Rattle.removal.specs.Removal.{remove}
 use Rattle.removal.specs.declared.Gone.TheVariants.{Connection}

@@ -1,8 +1,6 @@
 -- `host::ending::end_sound` meets its contract: 6 for a number that no record has; otherwise sound tables lose what it names.
 -- Assumes nothing.
-use borrow.Author.Rules.{rules}
 use mathlib.Core.Path.{sym, ap, ◌∙◌}
-use borrow.Author.Tests.{not-true, not-false}
 use Rattle.tables.specs.Words.{tables_of}
 use Rattle.removal.specs.Removal.{remove}
 use Rattle.removal.specs.declared.Gone.{Gone}

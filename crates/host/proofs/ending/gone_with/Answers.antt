@@ -1,5 +1,4 @@
 -- `host::ending::gone_with` meets its contract: each case computes. Assumes nothing.
-use borrow.Author.Rules.{rules}
 use mathlib.Core.Path.{sym, ap}
 use Rattle.host.specs.HostCall.{gone_with}
 use Rattle.host.proofs.ending.gone_with.Goals as goal

@@ -1,5 +1,4 @@
 -- `host::ending::is_there` meets its contract: each case looks into its own table. Assumes nothing.
-use borrow.Author.Rules.{rules}
 use mathlib.Core.Path.{sym, ap, ◌∙◌}
 use Rattle.tables.specs.Words.{tables_of}
 use Rattle.host.specs.declared.ending.One.{One}

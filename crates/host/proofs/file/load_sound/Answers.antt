@@ -1,7 +1,6 @@
 -- `host::file::load_sound` meets its contract: a load that is not refused fits its room, the file's part of the memory is what was
 -- filled, and the change of one file is written.
 -- Assumes nothing.
-use borrow.Author.Rules.{rules}
 use mathlib.Core.Path.{◌≡◌, refl, sym, ap, ◌∙◌}
 use Prim.Native.Nat.{◌+◌, ◌*◌}
 use native.Mathlib.Omega.{arith}

@@ -1,14 +1,12 @@
 -- `host::file::some_open_of` meets its contract: what the walk has left says the same as the whole.
 -- Assumes nothing.
-use mathlib.Core.Path.{◌≡◌, refl, sym, ap, ◌∙◌}
-use Prim.Native.Nat.{◌≤◌, ◌<◌, ◌-◌}
+use mathlib.Core.Path.{refl, sym, ap, ◌∙◌}
+use Prim.Native.Nat.{◌<◌}
 use lib.ListN.{length}
 use borrow.Author.Tests.{eq-eqb, ne_eqb}
-use Rattle.lists.specs.Walk.{any, rest}
 use Rattle.lists.specs.WalkLaws.{any-end, any-yes, any-no}
 use Rattle.records.specs.Empty.{no_open}
 use Rattle.tables.specs.Words.{word, open_array}
-use Rattle.tables.specs.Written.{opens_in}
 use Rattle.tables.specs.ChangeLaws.{length-open_array}
 use Rattle.host.specs.HostCall.{is_of}
 use native.Mathlib.Omega.{arith}

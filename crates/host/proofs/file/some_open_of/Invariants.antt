@@ -1,15 +1,9 @@
-use mathlib.Core.Path.{◌≡◌, refl, sym, ap, ◌∙◌}
-use Prim.Native.Nat.{◌≤◌, ◌<◌, ◌-◌}
-use lib.ListN.{length}
-use borrow.Author.Tests.{eq-eqb, ne_eqb}
+use mathlib.Core.Path.{◌≡◌}
+use Prim.Native.Nat.{◌≤◌, ◌-◌}
 use Rattle.lists.specs.Walk.{any, rest}
-use Rattle.lists.specs.WalkLaws.{any-end, any-yes, any-no}
-use Rattle.records.specs.Empty.{no_open}
-use Rattle.tables.specs.Words.{word, open_array}
+use Rattle.tables.specs.Words.{open_array}
 use Rattle.tables.specs.Written.{opens_in}
-use Rattle.tables.specs.ChangeLaws.{length-open_array}
 use Rattle.host.specs.HostCall.{is_of}
-use native.Mathlib.Omega.{arith}
 use Rattle.host.proofs.file.some_open_of.Given as goal
 
 abbrev pub invariant-loop-i : goal.invariant-loop-i

@@ -4,7 +4,6 @@ use borrow.Author.Rules.{rules}
 use mathlib.Core.Path.{◌≡◌, sym, ◌∙◌}
 use Prim.Native.Nat.{ℕ}
 use native.Mathlib.Omega.{arith}
-use borrow.Author.Tests.{not-true, not-false}
 use Rattle.lists.specs.Truth.{both_hold}
 use Rattle.tables.specs.Words.{tables_of, in_use_fit}
 use Rattle.soundness.specs.Sound.{sound}

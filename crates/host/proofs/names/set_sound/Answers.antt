@@ -1,10 +1,8 @@
 -- `host::names::set_sound` meets its contract: a catalogue that does not keep its rules is refused, and another is copied whole. Assumes nothing.
-use borrow.Author.Rules.{rules}
 use mathlib.Core.Path.{◌≡◌, sym, ap, ◌∙◌}
 use Prim.Native.Nat.{ℕ}
 use native.Mathlib.Omega.{arith}
 use mathlib.Core.List.{List}
-use borrow.Author.Tests.{not-true, not-false}
 use Rattle.lists.specs.Truth.{both_hold}
 use Rattle.records.specs.Held.{with_catalogue}
 use Rattle.tables.specs.Words.{word, name_array, name_limits, table_fits, tables_of, in_use_fit}
@@ -31,6 +29,9 @@ returns c =
     let long = c.requires.1.1 in
     let same = c.copy_words.ensures in
     let right = sym c.catalogue_ok.ensures ∙ c.if-not-catalogue_ok.false in
-    let fits = (both_hold (table_fits name_limits 16 given) (catalogue_ok (name_array given) (word given 0)) right).0 in record { left = left-done w (lent w 1380 225 c.copy_words.new.to) 0 (set_on_sound w given) (with_catalogue (tables_of w) (name_array given) (word given 0)) (catalogue-set w given c.requires.1.0 right)
+    let fits = (both_hold (table_fits name_limits 16 given) (catalogue_ok (name_array given) (word given 0)) right).0 in record {
+      left = left-done w (lent w 1380 225 c.copy_words.new.to) 0 (set_on_sound w given) (with_catalogue (tables_of w) (name_array given) (word given 0)) (catalogue-set w given c.requires.1.0 right)
           (ap (λ (l : List ℕ). tables_of (lent w 1380 225 l)) same ∙ tables-names w given full long)
-          (λ f. ap (λ (l : List ℕ). in_use_fit (lent w 1380 225 l)) same ∙ fit-names w given full long f fits); words_after = λ _. ap (lent w 1380 225) same }
+          (λ f. ap (λ (l : List ℕ). in_use_fit (lent w 1380 225 l)) same ∙ fit-names w given full long f fits);
+      words_after = λ _. ap (lent w 1380 225) same;
+    }

@@ -1,13 +1,11 @@
 -- `host::open::add_sound` meets its contract: the refusals are tested in the definition's order, and one record is put behind those in use.
 -- Assumes nothing.
-use borrow.Author.Rules.{rules}
 use mathlib.Core.Path.{◌≡◌, sym, ap, ◌∙◌}
 use Prim.Native.Nat.{◌≤◌, ◌<◌}
 use native.Mathlib.Omega.{arith}
 use mathlib.Core.List.{List, [], ◌∷◌, ◌++◌, map}
 use lib.ListN.{length}
 use mathlib.Core.Bool.{true, false}
-use borrow.Author.Tests.{not-true, not-false}
 use Rattle.lists.specs.Walk.{any}
 use Rattle.records.specs.declared.Open.{Open}
 use Rattle.records.specs.Held.{trees_of, opens_of, with_opens}

@@ -1,6 +1,5 @@
 -- `host::open::append_open` meets its contract: the record is written behind those in use, and then the count.
 -- Assumes nothing.
-use borrow.Author.Rules.{rules}
 use mathlib.Core.Path.{◌≡◌}
 use Prim.Native.Nat.{◌<◌, ◌+◌}
 use native.Mathlib.Omega.{arith}

@@ -1,6 +1,5 @@
 -- `host::session::add_sound` meets its contract: the refusal is tested as in the definition, and one record is put behind those in use.
 -- Assumes nothing.
-use borrow.Author.Rules.{rules}
 use mathlib.Core.Path.{◌≡◌, sym, ap, ◌∙◌}
 use Prim.Native.Nat.{◌≤◌, ◌<◌}
 use native.Mathlib.Omega.{arith}

@@ -2,7 +2,6 @@
 use mathlib.Core.Path.{◌≡◌, refl}
 use mathlib.Core.Bool.{Bool, true, false, cond}
 use mir.Val.{bool_byte}
-use borrow.Author.Rules.{rules}
 use Rattle.host.proofs.unchanged.answer_of.Goals as goal
 
 as_number : (t : Bool) → bool_byte t ≡ cond t 1 0

@@ -2,7 +2,6 @@
 -- tables does the rest. Assumes nothing.
 use borrow.Author.Rules.{rules}
 use mathlib.Core.Path.{sym, ap, ◌∙◌}
-use borrow.Author.Tests.{not-true, not-false}
 use Rattle.lists.specs.Truth.{both_hold}
 use Rattle.tables.specs.Words.{tables_of, in_use_fit}
 use Rattle.soundness.specs.Sound.{sound}

@@ -1,16 +1,11 @@
 -- `host::unchanged::find_fid` meets its contract: the opens that the walk has passed have another FID. Assumes nothing.
 use mathlib.Core.Path.{◌≡◌, sym, ap, ◌∙◌}
-use mathlib.Core.Bool.{Bool}
-use Prim.Native.Nat.{ℕ, ◌-◌, ◌≤◌}
 use native.Mathlib.Omega.{arith}
 use lib.ListN.{length}
-use lib.Dec.{eqb}
 use borrow.Author.Tests.{eq-eqb, ne_eqb}
-use borrow.Author.Rules.{rules}
-use Rattle.lists.specs.FoundLaws.{Passed, passed_start, passed_here, passed-more, passed_none}
+use Rattle.lists.specs.FoundLaws.{passed_start, passed_here, passed-more, passed_none}
 use Rattle.records.specs.Empty.{no_open}
-use Rattle.records.specs.declared.Open.{Open}
-use Rattle.tables.specs.Words.{word, open_array}
+use Rattle.tables.specs.Words.{open_array}
 use Rattle.tables.specs.ChangeLaws.{length-open_array}
 use Rattle.host.proofs.unchanged.find_fid.Invariants.{has}
 use Rattle.host.proofs.unchanged.find_fid.Goals as goal

@@ -1,9 +1,8 @@
 -- `host::unchanged::is_unchanged` meets its contract: the tests are those of the definition, in its order. Assumes nothing.
-use mathlib.Core.Path.{◌≡◌, sym, ◌∙◌}
+use mathlib.Core.Path.{◌≡◌}
 use native.Mathlib.Omega.{arith}
 use lib.ListN.{length}
 use borrow.Author.Tests.{not-true, not-false, eq-eqb, ne_eqb}
-use borrow.Author.Rules.{rules}
 use Rattle.records.specs.Change.{changes_of}
 use Rattle.tables.specs.Words.{tables_of}
 use Rattle.tables.specs.PartLaws.{length_part}

@@ -1,10 +1,9 @@
 -- `stream::reader::pass` meets its contract: the rest at the place begins as the whole does from the start on.
 -- Assumes nothing.
-use mathlib.Core.Path.{◌≡◌, refl, sym, ◌∙◌}
+use mathlib.Core.Path.{refl, sym, ◌∙◌}
 use Prim.Native.Nat.{◌+◌, ◌-◌, ◌≤◌, ◌<◌}
-use lib.ListN.{length, drop}
+use lib.ListN.{length}
 use native.Mathlib.Omega.{arith}
-use Rattle.stream.specs.Stream.{begins}
 use Rattle.stream.proofs.Passing.{pass-bad, pass-body, pass-alive, pass-short}
 use Rattle.stream.proofs.reader.pass.Goals as goal
 
@@ -46,8 +45,6 @@ loop-at-preserved c =
 
 pub slice_bounds-header_begun-count : goal.slice_bounds-header_begun-count
 slice_bounds-header_begun-count c = omega arith
-
-
 
 pub returns : goal.returns
 returns c =

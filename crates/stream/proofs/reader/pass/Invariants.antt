@@ -1,9 +1,7 @@
-use mathlib.Core.Path.{◌≡◌, refl, sym, ◌∙◌}
-use Prim.Native.Nat.{◌+◌, ◌-◌, ◌≤◌, ◌<◌}
+use mathlib.Core.Path.{◌≡◌}
+use Prim.Native.Nat.{◌-◌, ◌≤◌}
 use lib.ListN.{length, drop}
-use native.Mathlib.Omega.{arith}
 use Rattle.stream.specs.Stream.{begins}
-use Rattle.stream.proofs.Passing.{pass-bad, pass-body, pass-alive, pass-short}
 use Rattle.stream.proofs.reader.pass.Given as goal
 
 abbrev pub invariant-loop-at : goal.invariant-loop-at
