@@ -1,5 +1,6 @@
 // The gateway as a C program calls it (include/gateway.h): the tables are 1605 words of the host's. A number that names a record, a
 // right, a file or an access is 32 bits wide, and one that its field cannot hold is answered as document 01 says for that number.
+#![tactic(auto)]
 
 mod argument;
 pub mod byte_stream;

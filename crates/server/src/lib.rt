@@ -1,4 +1,5 @@
 // The call that takes a message: `call::take_message`.
+#![tactic(auto)]
 
 pub mod call;
 mod run;

@@ -1,5 +1,4 @@
 -- `gateway::gateway_add_open` meets its contract: the host call on the words, a wide argument answered as the cut one, its number handed on where it is done. Assumes nothing.
-use borrow.Author.Rules.{rules}
 use mathlib.Core.Path.{ap}
 use Rattle.invariants.specs.HostSound.{add_open-sound}
 use Rattle.tables.specs.Words.{tables_of}

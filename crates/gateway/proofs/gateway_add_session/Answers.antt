@@ -1,5 +1,4 @@
 -- `gateway::gateway_add_session` meets its contract: the host call on the words, its number handed on where it is done. Assumes nothing.
-use borrow.Author.Rules.{rules}
 use Rattle.invariants.specs.HostSound.{add_session-sound}
 use Rattle.tables.specs.Words.{tables_of}
 use Rattle.boundary.specs.Boundary.{session_added}

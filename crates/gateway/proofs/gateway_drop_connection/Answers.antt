@@ -1,5 +1,4 @@
 -- `gateway::gateway_drop_connection` meets its contract: the host call on the words. Assumes nothing.
-use borrow.Author.Rules.{rules}
 use Rattle.invariants.specs.HostSound.{drop_connection-sound}
 use Rattle.tables.specs.Words.{tables_of}
 use Rattle.boundary.specs.Boundary.{connection_dropped}

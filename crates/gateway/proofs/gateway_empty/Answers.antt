@@ -1,5 +1,4 @@
 -- `gateway::gateway_empty` meets its contract: words that are all 0 hold empty tables. Assumes nothing.
-use borrow.Author.Rules.{rules}
 use Rattle.boundary.specs.BoundaryLaws.{empty-tables}
 use Rattle.boundary.proofs.BoundaryLaws.{empty-ready}
 use Rattle.gateway.proofs.gateway_empty.Goals as goal

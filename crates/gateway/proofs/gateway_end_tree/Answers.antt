@@ -1,5 +1,4 @@
 -- `gateway::gateway_end_tree` meets its contract: the host call on the words, a wide number answered as the cut one. Assumes nothing.
-use borrow.Author.Rules.{rules}
 use mathlib.Core.Path.{ap}
 use Rattle.invariants.specs.HostSound.{end_one-sound}
 use Rattle.tables.specs.Words.{tables_of}

@@ -1,5 +1,4 @@
 -- `gateway::gateway_load_file` meets its contract: the host call on the words, a wide file answered as the cut one. Assumes nothing.
-use borrow.Author.Rules.{rules}
 use mathlib.Core.Path.{sym, ◌∙◌}
 use Rattle.invariants.specs.HostSound.{load_file-sound}
 use Rattle.tables.specs.Words.{tables_of}

@@ -1,5 +1,4 @@
 -- `gateway::gateway_set_catalogue` meets its contract: the host call on the words. Assumes nothing.
-use borrow.Author.Rules.{rules}
 use Rattle.boundary.specs.Boundary.{catalogue_set}
 use Rattle.boundary.specs.BoundaryLaws.{set-on-words}
 use Rattle.boundary.proofs.BoundaryLaws.{set-sound}

@@ -1,5 +1,4 @@
 -- `gateway::gateway_take_message` meets its contract: the core's call is the definition; its length and the holder are handed on where it is done. Assumes nothing.
-use borrow.Author.Rules.{rules}
 use mathlib.Core.Path.{refl, sym, ap, ◌∙◌}
 use Rattle.message.specs.Message.{Taken}
 use Rattle.server.specs.TakenOf.{taken_of}

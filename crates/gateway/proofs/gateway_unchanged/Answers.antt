@@ -1,5 +1,4 @@
 -- `gateway::gateway_unchanged` meets its contract: the question on the words, a wide FID answered as the cut one, its answer handed on where it is done. Assumes nothing.
-use borrow.Author.Rules.{rules}
 use mathlib.Core.Path.{ap, ◌∙◌}
 use Rattle.tables.specs.Words.{tables_of}
 use Rattle.host.specs.declared.answer.Returned.{Returned}

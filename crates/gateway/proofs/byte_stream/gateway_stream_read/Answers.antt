@@ -1,5 +1,4 @@
 -- `gateway::byte_stream::gateway_stream_read` meets its contract: the reader's step on the state that the words hold, its words written where it is done. Assumes nothing.
-use borrow.Author.Rules.{rules}
 use mathlib.Core.Path.{sym, ap, ◌∙◌}
 use Rattle.stream.specs.declared.reader.Step.{Step}
 use Rattle.stream.specs.declared.state.State.{State}

@@ -1,5 +1,4 @@
 -- `gateway::byte_stream::gateway_stream_write` meets its contract: the writer's answer, its length handed on where it is done. Assumes nothing.
-use borrow.Author.Rules.{rules}
 use mathlib.Core.Path.{sym, ap, ◌∙◌}
 use Rattle.stream.specs.declared.writer.Written.{Written}
 use Rattle.stream.specs.Writer.{write}

@@ -1,6 +1,4 @@
 -- `gateway::byte_stream::put_step` meets its contract: the words of each kind of event. Assumes nothing.
-use borrow.Author.Rules.{rules}
-use mathlib.Core.Path.{refl}
 use Rattle.boundary.specs.StreamWords.{step_words}
 use Rattle.gateway.proofs.byte_stream.put_step.Goals as goal
 

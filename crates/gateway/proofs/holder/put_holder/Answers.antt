@@ -1,5 +1,4 @@
 -- `gateway::holder::put_holder` meets its contract: the words of a holder, and of none. Assumes nothing.
-use borrow.Author.Rules.{rules}
 use Rattle.boundary.specs.Boundary.{holder_words}
 use Rattle.gateway.proofs.holder.put_holder.Goals as goal
 

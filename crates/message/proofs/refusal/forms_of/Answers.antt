@@ -1,6 +1,5 @@
 -- `message::refusal::forms_of` meets its contract: each arm is the definition's row.
 -- Assumes nothing.
-use borrow.Author.Rules.{rules}
 use Rattle.message.specs.Refusal.{forms_of}
 use Rattle.message.proofs.refusal.forms_of.Goals as goal
 

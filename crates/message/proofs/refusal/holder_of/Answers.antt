@@ -2,16 +2,11 @@
 -- Assumes nothing.
 
 use mathlib.Core.Path.{◌≡◌, refl}
-use mathlib.Core.List.{[], ◌∷◌}
-use types.Run.{OneOf, miss}
-use denote.Enum.Declared.{tag_of}
-use borrow.Author.Rules.{rules}
 use Rattle.message.specs.Refusal.{holder_of}
 use Rattle.message.specs.declared.refusal.Refusal.{Refusal}
 use Rattle.message.specs.declared.refusal.Refusal.TheVariants.{NotServed, NotSentence, NoSession, NoTree, NoOpen, NoAccess, LockType, NoSuchLock, PassesEnd, LockNotGranted, FileLockConflict, NoRecord, NoSpace, OpenMode, BadAccess, NoSuchFile, BadShare, NoFids}
 use Rattle.locks.specs.declared.types.Holder.{Holder}
 use Rattle.message.specs.declared.refusal.HeldBy.TheVariants.{Nobody}
-use Rattle.message.specs.contracts.refusal.Refusal.{the_type}
 use Rattle.message.proofs.refusal.holder_of.Goals as goal
 
 nobody-else : (why : Refusal) → ((x : Holder) → why ≡ LockNotGranted x → ⊥) → ((x : Holder) → why ≡ FileLockConflict x → ⊥) → Nobody ≡ holder_of why

@@ -1,6 +1,5 @@
 -- `reply::block::block_size` meets its contract: by the answers; a READ's count is inside the file memory, so the sum fits.
 -- Assumes nothing.
-use borrow.Author.Rules.{rules}
 use Rattle.message.specs.Given.{answer_size}
 use native.Mathlib.Omega.{arith}
 use Prim.Native.Nat.{◌+◌, ◌≤◌}

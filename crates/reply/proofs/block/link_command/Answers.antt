@@ -1,6 +1,5 @@
 -- `reply::block::link_command` meets its contract: by the two links.
 -- Assumes nothing.
-use borrow.Author.Rules.{rules}
 use Rattle.reply.specs.Links.{link_command}
 use Rattle.reply.proofs.block.link_command.Goals as goal
 

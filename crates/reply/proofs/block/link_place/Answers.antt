@@ -1,6 +1,5 @@
 -- `reply::block::link_place` meets its contract: by the two links.
 -- Assumes nothing.
-use borrow.Author.Rules.{rules}
 use Rattle.reply.specs.Links.{link_place}
 use Rattle.reply.proofs.block.link_place.Goals as goal
 

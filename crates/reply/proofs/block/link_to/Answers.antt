@@ -1,6 +1,5 @@
 -- `reply::block::link_to` meets its contract: by the two cases of what follows.
 -- Assumes nothing.
-use borrow.Author.Rules.{rules}
 use Rattle.reply.specs.Links.{link_for}
 use Rattle.reply.proofs.block.link_to.Goals as goal
 

@@ -1,6 +1,5 @@
 -- `reply::block::write_bare` meets its contract: the three bytes are laid over the front.
 -- Assumes nothing.
-use borrow.Author.Rules.{rules}
 use Rattle.message.specs.Reply.{refused_block}
 use Rattle.reply.proofs.block.write_bare.Goals as goal
 

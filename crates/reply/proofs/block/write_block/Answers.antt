@@ -1,6 +1,5 @@
 -- `reply::block::write_block` meets its contract: by the answers, each by its writer's contract.
 -- Assumes nothing.
-use borrow.Author.Rules.{rules}
 use Rattle.message.specs.Given.{block_of, answer_size}
 use Rattle.message.specs.Reply.{reply_block, refused_block}
 use Rattle.reply.specs.BlockLaws.{length-yielded, read-inside, core-inside}

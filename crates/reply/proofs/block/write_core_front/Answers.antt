@@ -1,6 +1,5 @@
 -- `reply::block::write_core_front` meets its contract: the sixteen bytes are laid over the front.
 -- Assumes nothing.
-use borrow.Author.Rules.{rules}
 use Rattle.reply.specs.Fronts.{core_front}
 use Prim.Native.Nat.{◌+◌}
 use mathlib.Core.List.{◌∷◌, ◌++◌}

@@ -1,6 +1,5 @@
 -- `reply::block::write_core_read` meets its contract: the front, and the data behind it, are one write.
 -- Assumes nothing.
-use borrow.Author.Rules.{rules}
 use Rattle.reply.proofs.Laid.{laid-behind}
 use Rattle.reply.specs.Fronts.{core_front, length-core_front}
 use Rattle.reply.specs.BlockLaws.{length-yielded}

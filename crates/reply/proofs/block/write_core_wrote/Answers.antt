@@ -1,6 +1,5 @@
 -- `reply::block::write_core_wrote` meets its contract: the five bytes are laid over the front.
 -- Assumes nothing.
-use borrow.Author.Rules.{rules}
 use mathlib.Core.List.{[], ◌∷◌, ◌++◌}
 use Rattle.reply.proofs.Bytes.{laid_as, two_bytes}
 use Rattle.reply.proofs.block.write_core_wrote.Goals as goal

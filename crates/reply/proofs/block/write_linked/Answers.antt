@@ -1,6 +1,5 @@
 -- `reply::block::write_linked` meets its contract: the seven bytes are laid over the front; the AndX words by the link's parts.
 -- Assumes nothing.
-use borrow.Author.Rules.{rules}
 use mathlib.Core.List.{[], ◌∷◌, ◌++◌}
 use Rattle.reply.proofs.Bytes.{laid_as, link-bytes}
 use Rattle.reply.proofs.block.write_linked.Goals as goal

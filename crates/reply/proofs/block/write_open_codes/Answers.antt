@@ -1,6 +1,5 @@
 -- `reply::block::write_open_codes` meets its contract: the twelve bytes are laid over the front.
 -- Assumes nothing.
-use borrow.Author.Rules.{rules}
 use mathlib.Core.Path.{refl}
 use mathlib.Core.List.{◌++◌}
 use lib.ListN.{replicate}

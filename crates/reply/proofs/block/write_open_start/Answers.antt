@@ -1,6 +1,5 @@
 -- `reply::block::write_open_start` meets its contract: the thirteen bytes are laid over the front; the AndX words by the link's parts.
 -- Assumes nothing.
-use borrow.Author.Rules.{rules}
 use mathlib.Core.List.{◌∷◌, ◌++◌}
 use lib.ListN.{replicate}
 use Rattle.reply.specs.Fronts.{open_start}

@@ -1,10 +1,8 @@
 -- `reply::block::write_opened` meets its contract: its two parts, and the zero bytes behind them, are one write.
 -- Assumes nothing.
-use borrow.Author.Rules.{rules}
-use mathlib.Core.Path.{◌≡◌, refl}
-use Prim.Native.Nat.{◌+◌, ◌≤◌}
+use mathlib.Core.Path.{refl}
 use native.Mathlib.Omega.{arith}
-use lib.ListN.{length, replicate}
+use lib.ListN.{replicate}
 use Rattle.reply.specs.Fronts.{open_start, open_codes, length-open_start, length-open_front}
 use Rattle.reply.proofs.Laid.{laid-three}
 use Rattle.reply.proofs.block.write_opened.Goals as goal

@@ -1,6 +1,5 @@
 -- `reply::block::write_read` meets its contract: its two parts, and the data behind them, are one write.
 -- Assumes nothing.
-use borrow.Author.Rules.{rules}
 use Rattle.reply.proofs.Laid.{laid-three}
 use Rattle.reply.specs.Fronts.{read_start, read_extent, length-read_start, length-read_front, read_whole}
 use Rattle.reply.specs.BlockLaws.{length-yielded}

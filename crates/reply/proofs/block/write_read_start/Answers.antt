@@ -1,6 +1,5 @@
 -- `reply::block::write_read_start` meets its contract: the eleven bytes are laid over the front; the AndX words by the link's parts.
 -- Assumes nothing.
-use borrow.Author.Rules.{rules}
 use Rattle.reply.specs.Fronts.{read_start}
 use mathlib.Core.List.{[], ◌∷◌, ◌++◌}
 use Rattle.reply.proofs.Bytes.{laid_as, link-bytes}

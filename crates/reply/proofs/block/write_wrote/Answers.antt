@@ -1,6 +1,5 @@
 -- `reply::block::write_wrote` meets its contract: the fifteen bytes are laid over the front; the AndX words by the link's parts.
 -- Assumes nothing.
-use borrow.Author.Rules.{rules}
 use Rattle.message.specs.Reply.{two}
 use mathlib.Core.List.{[], ◌∷◌, ◌++◌}
 use lib.ListN.{replicate}

@@ -1,6 +1,5 @@
 -- `reply::header::nt_asked` meets its contract: the bit of that byte.
 -- Assumes nothing.
-use borrow.Author.Rules.{rules}
 use Prim.Native.Nat.{◌/◌, ◌%◌}
 use lib.Dec.{eqb}
 use Rattle.message.specs.Reply.{nt_bit}

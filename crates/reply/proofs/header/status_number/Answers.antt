@@ -1,6 +1,5 @@
 -- `reply::header::status_number` meets its contract: the form that is asked for.
 -- Assumes nothing.
-use borrow.Author.Rules.{rules}
 use Rattle.message.specs.Reply.{smb_number, status_number}
 use mathlib.Core.Path.{◌∙◌, sym}
 use Rattle.reply.proofs.header.status_number.Goals as goal

@@ -1,6 +1,5 @@
 -- `reply::header::write_flags` meets its contract: the fifteen bytes are laid over the front.
 -- Assumes nothing.
-use borrow.Author.Rules.{rules}
 use Rattle.reply.specs.Fronts.{header_flags}
 use mathlib.Core.Path.{◌∙◌}
 use Prim.Native.Nat.{◌+◌, ◌*◌, ◌/◌, ◌%◌}

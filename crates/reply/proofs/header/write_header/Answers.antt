@@ -1,6 +1,5 @@
 -- `reply::header::write_header` meets its contract: its two parts, and the eight bytes copied behind them, are one write.
 -- Assumes nothing.
-use borrow.Author.Rules.{rules}
 use Rattle.reply.proofs.Laid.{laid-three}
 use Rattle.reply.specs.Fronts.{header_start, header_flags, length-header_start, length-header_front, header-whole}
 use mathlib.Core.Path.{◌≡◌, refl}

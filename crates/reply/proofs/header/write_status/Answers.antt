@@ -1,6 +1,5 @@
 -- `reply::header::write_status` meets its contract: the nine bytes are laid over the front.
 -- Assumes nothing.
-use borrow.Author.Rules.{rules}
 use Rattle.reply.specs.Fronts.{header_start}
 use mathlib.Core.Path.{refl, ◌∙◌, ap}
 use mathlib.Core.List.{◌∷◌}

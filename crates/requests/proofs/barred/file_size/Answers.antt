@@ -1,6 +1,5 @@
 -- `requests::barred::file_size` meets its contract: by the definition.
 -- Assumes nothing.
-use borrow.Author.Rules.{rules}
 use Rattle.tables.specs.Words.{tables_of}
 use Rattle.message.specs.Contents.{size_of}
 use Rattle.requests.proofs.barred.file_size.Goals as goal

@@ -2,7 +2,6 @@
 -- opens say.
 -- Assumes nothing.
 use native.Mathlib.Omega.{arith}
-use borrow.Author.Rules.{rules}
 use Rattle.lists.specs.Walk.{found_from, found}
 use Rattle.records.specs.Held.{opens_of}
 use Rattle.tables.specs.Words.{tables_of}

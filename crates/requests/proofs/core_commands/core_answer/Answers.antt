@@ -1,6 +1,5 @@
 -- `requests::core::core_answer` meets its contract: each answer is the definition's.
 -- Assumes nothing.
-use borrow.Author.Rules.{rules}
 use Rattle.requests.specs.CorePart.{core_answer}
 use Rattle.requests.proofs.Unformed.{unformed}
 use Rattle.requests.proofs.core_commands.core_answer.Goals as goal

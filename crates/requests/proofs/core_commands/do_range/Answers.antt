@@ -1,6 +1,5 @@
 -- `requests::core::do_range` meets its contract: the open is reached first, then the request is made.
 -- Assumes nothing.
-use borrow.Author.Rules.{rules}
 use mathlib.Core.Path.{refl, sym, ◌∙◌}
 use Rattle.tables.specs.Words.{tables_of}
 use Rattle.requests.specs.Leaves.{refusal}

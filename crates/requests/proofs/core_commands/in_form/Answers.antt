@@ -1,6 +1,5 @@
 -- `requests::core::in_form` meets its contract: by the form asked for.
 -- Assumes nothing.
-use borrow.Author.Rules.{rules}
 use Rattle.requests.specs.CorePart.{formed}
 use Rattle.requests.proofs.core_commands.in_form.Goals as goal
 

@@ -1,6 +1,5 @@
 -- `requests::core::range_open` meets its contract: the request is the LOCKING of one range, and its answer is made the core command's.
 -- Assumes nothing.
-use borrow.Author.Rules.{rules}
 use Rattle.message.specs.Command.{served_type, one_range}
 use Rattle.requests.specs.CorePart.{leaves-core}
 use Rattle.requests.specs.Steps.{lock_open}

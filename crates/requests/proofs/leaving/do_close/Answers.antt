@@ -1,6 +1,5 @@
 -- `requests::leaving::do_close` meets its contract: the open is reached first, and goes.
 -- Assumes nothing.
-use borrow.Author.Rules.{rules}
 use mathlib.Core.Path.{refl, sym, ap, ◌∙◌}
 use Rattle.tables.specs.Words.{tables_of}
 use Rattle.message.specs.declared.answer.Answer.TheVariants.{Plain}

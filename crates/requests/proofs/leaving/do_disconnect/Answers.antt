@@ -1,6 +1,5 @@
 -- `requests::leaving::do_disconnect` meets its contract: the session and the tree are asked for first, and the tree goes.
 -- Assumes nothing.
-use borrow.Author.Rules.{rules}
 use mathlib.Core.Path.{refl, ap, sym, ◌∙◌}
 use Rattle.tables.specs.Words.{tables_of}
 use Rattle.message.specs.declared.answer.Answer.TheVariants.{Plain}
@@ -8,7 +7,6 @@ use Rattle.message.specs.Command.{plain, with_session, with_tree, perform}
 use Rattle.message.specs.Given.{given_of, inside}
 use Rattle.requests.specs.Leaves.{performed, gives-refused, gives-done}
 use Rattle.requests.specs.Numbers.{good-numbered}
-use Rattle.requests.specs.Told.{told-yes, told-no}
 use Rattle.requests.proofs.leaving.do_disconnect.Goals as goal
 
 pub returns-then-not-session_named : goal.returns-then-not-session_named

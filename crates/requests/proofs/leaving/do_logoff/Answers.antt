@@ -1,6 +1,5 @@
 -- `requests::leaving::do_logoff` meets its contract: the session is asked for first, and goes.
 -- Assumes nothing.
-use borrow.Author.Rules.{rules}
 use mathlib.Core.Path.{refl, ap, sym, ◌∙◌}
 use Rattle.tables.specs.Words.{tables_of}
 use Rattle.message.specs.declared.answer.Answer.TheVariants.{LoggedOff}
@@ -8,7 +7,6 @@ use Rattle.message.specs.Command.{logged_off, with_session, perform}
 use Rattle.message.specs.Given.{given_of, inside}
 use Rattle.requests.specs.Leaves.{performed, gives-refused, gives-done}
 use Rattle.requests.specs.Numbers.{good-numbered}
-use Rattle.requests.specs.Told.{told-yes, told-no}
 use Rattle.requests.proofs.leaving.do_logoff.Goals as goal
 
 pub returns-then-not-session_named : goal.returns-then-not-session_named

@@ -1,6 +1,5 @@
 -- `requests::locking::lock_answer` meets its contract: each outcome is the definition's answer.
 -- Assumes nothing.
-use borrow.Author.Rules.{rules}
 use Rattle.requests.specs.LockPart.{lock_answer}
 use Rattle.requests.proofs.locking.lock_answer.Goals as goal
 

@@ -1,10 +1,8 @@
 -- `requests::locking::lock_open` meets its contract: the type is tested first, then the request is made.
 -- Assumes nothing.
-use borrow.Author.Rules.{rules}
 use mathlib.Core.Path.{refl, sym, ◌∙◌}
 use Rattle.requests.specs.Leaves.{gives-refused}
 use Rattle.requests.specs.Steps.{lock_open}
-use Rattle.requests.specs.Told.{told-yes, told-no}
 use Rattle.requests.proofs.locking.lock_open.Goals as goal
 
 pub returns-then-not-served_type : goal.returns-then-not-served_type

@@ -1,6 +1,5 @@
 -- `requests::locking::request_of` meets its contract: by the definition.
 -- Assumes nothing.
-use borrow.Author.Rules.{rules}
 use mathlib.Core.Path.{refl}
 use Rattle.message.specs.Command.{request_of}
 use Rattle.requests.proofs.locking.request_of.Goals as goal

@@ -1,6 +1,5 @@
 -- `requests::locking::settle` meets its contract: over numbered FIDs the table of files says what the opens say.
 -- Assumes nothing.
-use borrow.Author.Rules.{rules}
 use Rattle.std.specs.Prelude.{◌≡◌, length}
 use mathlib.Core.Path.{◌∙◌}
 use native.Mathlib.Omega.{arith}
@@ -23,6 +22,9 @@ returns c =
     let full : length w ≡ 1605 = c.requires.words_len in
     let done = c.lock_request in
     let e = done.new.words in
-    let long : length e ≡ 641 = done.auto.words ∙ length_part w 707 641 (omega arith) in record { leaves = (λ m.
+    let long : length e ≡ 641 = done.auto.words ∙ length_part w 707 641 (omega arith) in record {
+      leaves = (λ m.
           rw (← (table-serves (opens_of t) (sound-says t c.requires.good.sound).records.fids), ← c.file_table-files.ensures, ← c.request_of-q.ensures)
-          (settles-gives w e m _ full long _ done.ensures.settles)); words_after = λ h. fit-locks w e full long h (done.ensures.words_after (told_fit w h).locks-fit) }
+          (settles-gives w e m _ full long _ done.ensures.settles));
+      words_after = λ h. fit-locks w e full long h (done.ensures.words_after (told_fit w h).locks-fit);
+    }

@@ -1,6 +1,5 @@
 -- `requests::opening::add_open` meets its contract: the open is put behind those in use, where there is room.
 -- Assumes nothing.
-use borrow.Author.Rules.{rules}
 use Rattle.std.specs.Prelude.{◌≡◌, ◌<◌, ◌≤◌, [], ◌∷◌, ◌++◌, length}
 use mathlib.Core.Path.{refl, ap, ◌∙◌}
 use native.Mathlib.Omega.{arith}
@@ -40,5 +39,8 @@ returns c =
     let room : t.nopens < 64 = rw (opens-count w) c.if-words-ge64.false in
     let long = c.append_open.auto.words ∙ length_part w 130 577 (omega arith) in
     let more = opens-more w c.append_open.new.words full o long c.append_open.ensures in
-    let told = c.open_told.ensures ∙ ap (open_told f o.fid) c.file_size-size.ensures in record { leaves = (λ m. gives-done (open_told f o.fid (size_of t o.file)) (with_opens t (opens_of t ++ (o ∷ []))) (opened_said f.full o.fid (size_of t o.file) f.access)
-          (rw (lt-leb 64 t.nopens room)) (λ i. performed (told i) (more.0 i)) (told-given f o.fid (size_of t o.file) (with_opens t (opens_of t ++ (o ∷ []))) m) (told-inside f o.fid (size_of t o.file))); words_after = more.1 }
+    let told = c.open_told.ensures ∙ ap (open_told f o.fid) c.file_size-size.ensures in record {
+      leaves = (λ m. gives-done (open_told f o.fid (size_of t o.file)) (with_opens t (opens_of t ++ (o ∷ []))) (opened_said f.full o.fid (size_of t o.file) f.access)
+          (rw (lt-leb 64 t.nopens room)) (λ i. performed (told i) (more.0 i)) (told-given f o.fid (size_of t o.file) (with_opens t (opens_of t ++ (o ∷ []))) m) (told-inside f o.fid (size_of t o.file)));
+      words_after = more.1;
+    }

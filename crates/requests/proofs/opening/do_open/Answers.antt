@@ -1,12 +1,10 @@
 -- `requests::opening::do_open` meets its contract: the tests are those of the definition, in its order.
 -- Assumes nothing.
-use borrow.Author.Rules.{rules}
 use mathlib.Core.Path.{refl, sym, ◌∙◌}
 use borrow.Author.Tests.{eq-eqb, ne_eqb}
 use Rattle.tables.specs.Words.{tables_of}
 use Rattle.message.specs.Command.{with_session, with_tree, do_open}
 use Rattle.requests.specs.Leaves.{gives-refused}
-use Rattle.requests.specs.Told.{told-yes, told-no}
 use Rattle.requests.proofs.opening.do_open.Goals as goal
 
 pub returns-then-not-session_named : goal.returns-then-not-session_named

@@ -1,6 +1,5 @@
 -- `requests::opening::open_by` meets its contract: the FID is the smallest free one.
 -- Assumes nothing.
-use borrow.Author.Rules.{rules}
 use Rattle.tables.specs.Words.{tables_of}
 use Rattle.message.specs.Command.{open_by}
 use Rattle.requests.proofs.opening.open_by.Goals as goal

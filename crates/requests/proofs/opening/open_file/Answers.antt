@@ -1,6 +1,5 @@
 -- `requests::opening::open_file` meets its contract: the tests are those of the definition, in its order.
 -- Assumes nothing.
-use borrow.Author.Rules.{rules}
 use Rattle.std.specs.Prelude.{◌≡◌, true, false}
 use mathlib.Core.Path.{refl, sym, ap, ◌∙◌}
 use Rattle.lists.specs.Walk.{any}
@@ -14,7 +13,6 @@ use Rattle.message.specs.Sharing.{kept_out}
 use Rattle.message.specs.Command.{open_by, open_file}
 use Rattle.requests.specs.Leaves.{gives-refused}
 use Rattle.requests.specs.OpenPart.{open_added}
-use Rattle.requests.specs.Told.{told-yes, told-no}
 use Rattle.requests.proofs.opening.open_file.Goals as goal
 
 pub returns-then-not-some_tree_holds : goal.returns-then-not-some_tree_holds

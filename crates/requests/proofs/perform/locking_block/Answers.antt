@@ -1,6 +1,5 @@
 -- `requests::perform::locking_block` meets its contract: the part of the message handed on is the block's byte area.
 -- Assumes nothing.
-use borrow.Author.Rules.{rules}
 use Rattle.requests.specs.BlockPart.{area-part}
 use Rattle.requests.proofs.perform.locking_block.Goals as goal
 

@@ -1,6 +1,5 @@
 -- `requests::perform::opening_block` meets its contract: the part of the message handed on is the block's name.
 -- Assumes nothing.
-use borrow.Author.Rules.{rules}
 use Rattle.requests.specs.BlockPart.{name-part}
 use Rattle.requests.proofs.perform.opening_block.Goals as goal
 

@@ -1,6 +1,5 @@
 -- `requests::perform::perform_block` meets its contract: what is asked for is what the definition does, and a block that was read has its bytes in the message.
 -- Assumes nothing.
-use borrow.Author.Rules.{rules}
 use mathlib.Core.Path.{sym, ◌∙◌}
 use Rattle.tables.specs.Words.{tables_of}
 use Rattle.message.specs.Command.{perform}

@@ -1,6 +1,5 @@
 -- `requests::perform::writing_block` meets its contract: the part of the message handed on is the write's data, and the answer has its form.
 -- Assumes nothing.
-use borrow.Author.Rules.{rules}
 use Rattle.std.specs.Prelude.{◌≡◌, ◌+◌, ◌-◌, ◌≤◌, length}
 use mathlib.Core.Path.{◌∙◌}
 use Rattle.tables.specs.PartLaws.{length_part}

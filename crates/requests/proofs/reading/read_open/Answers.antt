@@ -1,6 +1,5 @@
 -- `requests::reading::read_open` meets its contract: the tests are those of the definition, in its order, the part read is what it yields, and the open remembers.
 -- Assumes nothing.
-use borrow.Author.Rules.{rules}
 use Rattle.std.specs.Prelude.{ℕ}
 use mathlib.Core.Path.{refl, sym, ap, ◌∙◌}
 use borrow.Author.Tests.{eq-eqb, ne_eqb}
@@ -34,8 +33,11 @@ remember-requires c = record { words_len = c.requires.words_len; good = c.requir
 
 pub returns-in-At : goal.returns-in-At
 unfolding read_open unless_barred
-returns-in-At c = record { leaves = (λ m. gives-refused _ (rw (ne_eqb _ _ c.if-o-eq1.false, ← c.ask_of-q.ensures, ← c.first_bar-bar.ensures, c.in-At.is))
-      (ap (λ (a : Answer). performed a (tables_of c.args.words.now)) c.refuse_for.ensures)); words_after = λ h. h }
+returns-in-At c = record {
+  leaves = (λ m. gives-refused _ (rw (ne_eqb _ _ c.if-o-eq1.false, ← c.ask_of-q.ensures, ← c.first_bar-bar.ensures, c.in-At.is))
+      (ap (λ (a : Answer). performed a (tables_of c.args.words.now)) c.refuse_for.ensures));
+  words_after = λ h. h;
+}
 
 pub returns-in-Nothing : goal.returns-in-Nothing
 unfolding read_open unless_barred
@@ -45,8 +47,11 @@ returns-in-Nothing c =
     let t = tables_of args.words.now in
     let after = c.remember.ensures.words_after ∙ ap (λ (fid : ℕ). with_read t fid (changes_of t args.o.file)) pre.stands.named in
     let left = with_read t args.f.fid (changes_of t args.o.file) in
-    let part = read_part t args.o.file args.f.offset args.f.max in record { leaves = (λ m.
+    let part = read_part t args.o.file args.f.offset args.f.max in record {
+      leaves = (λ m.
           gives-done part left _ (rw (ne_eqb _ _ c.if-o-eq1.false, ← c.ask_of-q.ensures, ← c.first_bar-bar.ensures, c.in-Nothing.is))
           (λ i. performed (c.read_part-answer.ensures i) (after i))
           (part-given t args.o.file args.f.offset args.f.max left m)
-          (part-within t args.o.file args.f.offset args.f.max pre.good pre.stands.file)); words_after = c.remember.ensures.words_after_2 }
+          (part-within t args.o.file args.f.offset args.f.max pre.good pre.stands.file));
+      words_after = c.remember.ensures.words_after_2;
+    }

@@ -1,6 +1,5 @@
 -- `requests::reading::read_part` meets its contract: the size decides, and is at most 4,096.
 -- Assumes nothing.
-use borrow.Author.Rules.{rules}
 use Rattle.std.specs.Prelude.{◌<◌, ◌≤◌}
 use native.Mathlib.Omega.{arith}
 use borrow.Author.Tests.{le-leb, lt-leb}

@@ -1,5 +1,4 @@
 -- `requests::reading::remember` meets its contract: one record of the opens is written anew, that of the open's place. Assumes nothing.
-use borrow.Author.Rules.{rules}
 use Rattle.std.specs.Prelude.{◌≡◌, ℕ, ◌<◌, List, length, get_or}
 use mathlib.Core.Path.{◌∙◌}
 use native.Mathlib.Omega.{arith}

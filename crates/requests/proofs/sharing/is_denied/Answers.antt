@@ -1,6 +1,5 @@
 -- `requests::sharing::is_denied` meets its contract: reading, or writing.
 -- Assumes nothing.
-use borrow.Author.Rules.{rules}
 use mathlib.Core.Path.{sym, ◌∙◌}
 use Rattle.message.specs.Sharing.{denied}
 use Rattle.requests.proofs.sharing.is_denied.Goals as goal

@@ -1,6 +1,5 @@
 -- `requests::sharing::keeps_out` meets its contract: the file first, then what is asked, then what is denied.
 -- Assumes nothing.
-use borrow.Author.Rules.{rules}
 use mathlib.Core.Path.{sym, ◌∙◌}
 use borrow.Author.Tests.{eq-eqb, ne_eqb}
 use Rattle.message.specs.Sharing.{kept_out}

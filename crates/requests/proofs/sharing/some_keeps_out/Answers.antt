@@ -1,15 +1,12 @@
 -- `requests::sharing::some_keeps_out` meets its contract: what the walk has left says the same as the whole.
 -- Assumes nothing.
-use borrow.Author.Rules.{rules}
 use native.Mathlib.Omega.{arith}
-use Rattle.std.specs.Prelude.{◌≡◌, ℕ, ◌-◌, ◌≤◌, List, length}
+use Rattle.std.specs.Prelude.{◌≡◌, ℕ, ◌≤◌, List, length}
 use mathlib.Core.Path.{sym, ap, ◌∙◌}
-use Rattle.lists.specs.Walk.{any, rest}
 use Rattle.lists.specs.WalkLaws.{any-end, any-yes, any-no}
 use Rattle.lists.specs.Stored.{take-most}
 use Rattle.records.specs.Empty.{no_open}
 use Rattle.tables.specs.Words.{word, open_of, open_array}
-use Rattle.tables.specs.Written.{opens_in}
 use Rattle.tables.specs.ArrayLaws.{length-array}
 use Rattle.message.specs.Sharing.{kept_out}
 use Rattle.requests.proofs.sharing.some_keeps_out.Goals as goal

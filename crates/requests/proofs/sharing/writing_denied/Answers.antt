@@ -1,9 +1,7 @@
 -- `requests::sharing::writing_denied` meets its contract: the access is asked first, then the sharing code.
 -- Assumes nothing.
 use mathlib.Core.Path.{sym, ◌∙◌}
-use borrow.Author.Rules.{rules}
 use Rattle.message.specs.Sharing.{writes, denies_writing}
-use Rattle.requests.specs.Told.{told-yes, told-no}
 use Rattle.requests.proofs.sharing.writing_denied.Goals as goal
 
 pub returns-then-not-is_either : goal.returns-then-not-is_either

@@ -1,6 +1,5 @@
 -- `requests::sizing::between_sizes` meets its contract: the smaller of the sizes is the start, and the difference the length.
 -- Assumes nothing.
-use borrow.Author.Rules.{rules}
 use Rattle.std.specs.Prelude.{◌≡◌, min, max}
 use native.Mathlib.Omega.{arith}
 use Rattle.message.specs.Command.{between_sizes}

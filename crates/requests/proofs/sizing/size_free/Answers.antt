@@ -1,6 +1,5 @@
 -- `requests::sizing::size_free` meets its contract: the end is tested first; then the file grows and its size is set.
 -- Assumes nothing.
-use borrow.Author.Rules.{rules}
 use mathlib.Core.Path.{refl, ap}
 use native.Mathlib.Omega.{arith}
 use borrow.Author.Tests.{lt-ltb, le-ltb}

@@ -1,6 +1,5 @@
 -- `requests::sizing::size_open` meets its contract: the tests are those of the definition, in its order.
 -- Assumes nothing.
-use borrow.Author.Rules.{rules}
 use mathlib.Core.Path.{refl, sym, ap, ◌∙◌}
 use borrow.Author.Tests.{eq-eqb, ne_eqb}
 use Rattle.tables.specs.Words.{tables_of}
@@ -20,8 +19,11 @@ refuse_for-requires c = record { words_len = c.requires.words_len; place_in_boun
 
 pub returns-in-At : goal.returns-in-At
 unfolding size_open unless_barred
-returns-in-At c = record { gives = gives-refused _ (rw (ne_eqb _ _ c.if-o-eq0.false, ← c.file_size-old.ensures, ← c.between_sizes-q.ensures, ← c.first_bar-bar.ensures, c.in-At.is))
-      (ap (λ (a : Answer). performed a (tables_of c.args.words.now)) c.refuse_for.ensures); words_after = λ h. h }
+returns-in-At c = record {
+  gives = gives-refused _ (rw (ne_eqb _ _ c.if-o-eq0.false, ← c.file_size-old.ensures, ← c.between_sizes-q.ensures, ← c.first_bar-bar.ensures, c.in-At.is))
+      (ap (λ (a : Answer). performed a (tables_of c.args.words.now)) c.refuse_for.ensures);
+  words_after = λ h. h;
+}
 
 pub returns-in-Nothing : goal.returns-in-Nothing
 unfolding size_open unless_barred

@@ -1,5 +1,4 @@
 -- `requests::sizing::size_to` meets its contract: the size that the file has decides. Assumes nothing.
-use borrow.Author.Rules.{rules}
 use borrow.Author.Tests.{eq-eqb, ne_eqb}
 use Rattle.message.specs.Contents.{sized_to}
 use Rattle.requests.proofs.sizing.size_to.Goals as goal

@@ -1,13 +1,12 @@
 -- `requests::who::find_open` meets its contract: the opens ahead give the same answer as the whole list.
 -- Assumes nothing.
-use Rattle.std.specs.Prelude.{◌≡◌, ℕ, ◌-◌, ◌<◌, ◌≤◌, min, List, length, take}
+use Rattle.std.specs.Prelude.{◌≡◌, ℕ, ◌<◌, ◌≤◌, min, List, length, take}
 use mathlib.Core.Path.{sym, ap, ◌∙◌}
 use native.Mathlib.Omega.{arith}
 use lib.Seq.{get_or-take}
-use borrow.Author.Rules.{rules}
 use Rattle.lists.specs.Walk.{found}
 use Rattle.lists.specs.declared.Found.{Found}
-use Rattle.lists.specs.FoundLaws.{Passed, passed_start, passed_here, passed-more, passed_none}
+use Rattle.lists.specs.FoundLaws.{passed_start, passed_here, passed-more, passed_none}
 use Rattle.lists.specs.Stored.{take-most}
 use Rattle.records.specs.Empty.{no_open}
 use Rattle.records.specs.declared.Open.{Open}

@@ -1,10 +1,8 @@
 -- `requests::who::reach_open` meets its contract: the tests are those of the definition, in its order, each on its own table's words.
 -- Assumes nothing.
 use mathlib.Core.Path.{sym, ◌∙◌}
-use borrow.Author.Rules.{rules}
 use Rattle.tables.specs.Words.{tables_of}
 use Rattle.requests.specs.Reach.{reached}
-use Rattle.requests.specs.Told.{told-yes, told-no}
 use Rattle.requests.proofs.who.reach_open.Goals as goal
 
 pub returns-then-not-session_named : goal.returns-then-not-session_named

@@ -1,15 +1,12 @@
 -- `requests::who::session_named` meets its contract: what the walk has left says the same as the whole.
 -- Assumes nothing.
-use borrow.Author.Rules.{rules}
 use native.Mathlib.Omega.{arith}
-use Rattle.std.specs.Prelude.{◌≡◌, ℕ, ◌-◌, ◌≤◌, List, length}
+use Rattle.std.specs.Prelude.{◌≡◌, ℕ, ◌≤◌, List, length}
 use mathlib.Core.Path.{sym, ap, ◌∙◌}
-use Rattle.lists.specs.Walk.{any, rest}
 use Rattle.lists.specs.WalkLaws.{any-end, any-yes, any-no}
 use Rattle.lists.specs.Stored.{take-most}
 use Rattle.records.specs.Empty.{no_session}
 use Rattle.tables.specs.Words.{word, session_of, session_array}
-use Rattle.tables.specs.Written.{sessions_in}
 use Rattle.tables.specs.ArrayLaws.{length-array}
 use Rattle.message.specs.Command.{is_session}
 use Rattle.requests.proofs.who.session_named.Goals as goal

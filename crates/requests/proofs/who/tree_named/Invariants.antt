@@ -1,14 +1,7 @@
-use borrow.Author.Rules.{rules}
-use native.Mathlib.Omega.{arith}
-use Rattle.std.specs.Prelude.{◌≡◌, ℕ, ◌-◌, ◌≤◌, List, length}
-use mathlib.Core.Path.{sym, ap, ◌∙◌}
+use Rattle.std.specs.Prelude.{◌≡◌, ◌-◌, ◌≤◌}
 use Rattle.lists.specs.Walk.{any, rest}
-use Rattle.lists.specs.WalkLaws.{any-end, any-yes, any-no}
-use Rattle.lists.specs.Stored.{take-most}
-use Rattle.records.specs.Empty.{no_tree}
-use Rattle.tables.specs.Words.{word, tree_of, tree_array}
+use Rattle.tables.specs.Words.{tree_array}
 use Rattle.tables.specs.Written.{trees_in}
-use Rattle.tables.specs.ArrayLaws.{length-array}
 use Rattle.soundness.specs.Lookup.{is_tree}
 use Rattle.requests.proofs.who.tree_named.Given as goal
 

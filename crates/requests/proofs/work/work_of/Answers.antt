@@ -1,6 +1,5 @@
 -- `requests::work::work_of` meets its contract: each body asks for the definition's.
 -- Assumes nothing.
-use borrow.Author.Rules.{rules}
 use mathlib.Core.Path.{ap}
 use Rattle.std.specs.Prelude.{false}
 use Rattle.chain.specs.declared.block.ReadFields.{ReadFields}

@@ -1,6 +1,5 @@
 -- `requests::writing::change_file` meets its contract: the change is written, and no other table changes.
 -- Assumes nothing.
-use borrow.Author.Rules.{rules}
 use Rattle.std.specs.Prelude.{◌≡◌, length}
 use mathlib.Core.Path.{ap, ◌∙◌}
 use native.Mathlib.Omega.{arith}

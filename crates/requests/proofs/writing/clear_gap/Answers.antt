@@ -1,6 +1,5 @@
 -- `requests::writing::clear_gap` meets its contract: the part cleared is set to zeros.
 -- Assumes nothing.
-use borrow.Author.Rules.{rules}
 use native.Mathlib.Omega.{arith}
 use Rattle.requests.specs.WritePart.{put-none, put-zeros}
 use Rattle.requests.proofs.writing.clear_gap.Goals as goal

@@ -1,6 +1,5 @@
 -- `requests::writing::do_write` meets its contract: the open is reached first, then the file is written.
 -- Assumes nothing.
-use borrow.Author.Rules.{rules}
 use mathlib.Core.Path.{refl, sym, ◌∙◌}
 use Rattle.tables.specs.Words.{tables_of}
 use Rattle.requests.specs.Leaves.{refusal}
@@ -17,11 +16,17 @@ write_open-requires c =
 pub returns-in-Open : goal.returns-in-Open
 returns-in-Open c =
     let args = c.args in
-    let t = tables_of args.words.now in record { gives = rw (write-steps args.c t args.memory.now args.f args.source.now)
-          (is-reached args.c t args.f.fid args.memory.now _ _ _ _ _ (sym c.reach_open-at.ensures ∙ c.in-Open.is) c.write_open.ensures.gives); words_after = c.write_open.ensures.words_after }
+    let t = tables_of args.words.now in record {
+      gives = rw (write-steps args.c t args.memory.now args.f args.source.now)
+          (is-reached args.c t args.f.fid args.memory.now _ _ _ _ _ (sym c.reach_open-at.ensures ∙ c.in-Open.is) c.write_open.ensures.gives);
+      words_after = c.write_open.ensures.words_after;
+    }
 
 pub returns-in-Refused : goal.returns-in-Refused
 returns-in-Refused c =
     let args = c.args in
-    let t = tables_of args.words.now in record { gives = rw (write-steps args.c t args.memory.now args.f args.source.now)
-          (not-reached args.c t args.f.fid args.memory.now (refusal _ t) _ _ (sym c.reach_open-at.ensures ∙ c.in-Refused.is) refl); words_after = λ h. h }
+    let t = tables_of args.words.now in record {
+      gives = rw (write-steps args.c t args.memory.now args.f args.source.now)
+          (not-reached args.c t args.f.fid args.memory.now (refusal _ t) _ _ (sym c.reach_open-at.ensures ∙ c.in-Refused.is) refl);
+      words_after = λ h. h;
+    }

@@ -1,6 +1,5 @@
 -- `requests::writing::grow` meets its contract: the gap behind the file's size is cleared.
 -- Assumes nothing.
-use borrow.Author.Rules.{rules}
 use Rattle.std.specs.Prelude.{◌≤◌}
 use native.Mathlib.Omega.{arith}
 use Rattle.tables.specs.Words.{tables_of}

@@ -1,6 +1,5 @@
 -- `requests::writing::raise_size` meets its contract: the larger of the size and the end is set.
 -- Assumes nothing.
-use borrow.Author.Rules.{rules}
 use mathlib.Core.Path.{ap, ◌∙◌}
 use Rattle.std.specs.Prelude.{ℕ, max}
 use Rattle.records.specs.Change.{with_change}

@@ -1,6 +1,5 @@
 -- `requests::writing::write_bytes` meets its contract: the gap is cleared and the bytes are laid behind it.
 -- Assumes nothing.
-use borrow.Author.Rules.{rules}
 use mathlib.Core.Path.{◌∙◌}
 use Rattle.std.specs.Prelude.{◌+◌, ◌*◌, length}
 use native.Mathlib.Omega.{arith}

@@ -1,6 +1,5 @@
 -- `requests::writing::write_free` meets its contract: the end is tested first; a write of nothing changes nothing.
 -- Assumes nothing.
-use borrow.Author.Rules.{rules}
 use mathlib.Core.Path.{refl, sym, ap, ◌∙◌}
 use Rattle.std.specs.Prelude.{◌+◌, ◌≤◌}
 use native.Mathlib.Omega.{arith}
@@ -23,9 +22,12 @@ returns-then-ends_past c =
 pub returns-then-f-eq0 : goal.returns-then-f-eq0
 unfolding given_of inside
 returns-then-f-eq0 c =
-    let args = c.args in record { gives = gives-done (Wrote 0) (tables_of args.words.now) (wrote 0)
+    let args = c.args in record {
+      gives = gives-done (Wrote 0) (tables_of args.words.now) (wrote 0)
           (nothing_written (tables_of args.words.now) args.memory.now args.f args.file args.source.now (sym c.ends_past.ensures ∙ c.if-ends_past.false) c.if-f-eq0.true c.requires.source_len)
-          refl refl refl; words_after = λ h. h }
+          refl refl refl;
+      words_after = λ h. h;
+    }
 
 pub write_bytes-requires : goal.write_bytes-requires
 write_bytes-requires c =
@@ -47,6 +49,9 @@ raise_size-requires c = record { words_len = c.requires.words_len; file_bound = 
 pub returns : goal.returns
 unfolding write_free given_of inside resized
 returns c =
-    let args = c.args in record { gives = gives-done (Wrote args.f.count) _ (wrote args.f.count)
+    let args = c.args in record {
+      gives = gives-done (Wrote args.f.count) _ (wrote args.f.count)
           (rw (sym c.ends_past.ensures ∙ c.if-ends_past.false, ne_eqb args.f.count 0 c.if-f-eq0.false, c.write_bytes.ensures))
-          (ap (performed (Wrote args.f.count)) c.raise_size.ensures.words_after) refl refl; words_after = c.raise_size.ensures.words_after_2 }
+          (ap (performed (Wrote args.f.count)) c.raise_size.ensures.words_after) refl refl;
+      words_after = c.raise_size.ensures.words_after_2;
+    }

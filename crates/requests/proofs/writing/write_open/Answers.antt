@@ -1,6 +1,5 @@
 -- `requests::writing::write_open` meets its contract: the tests are those of the definition, in its order.
 -- Assumes nothing.
-use borrow.Author.Rules.{rules}
 use mathlib.Core.Path.{refl, sym, ap, ◌∙◌}
 use borrow.Author.Tests.{eq-eqb, ne_eqb}
 use Rattle.tables.specs.Words.{tables_of}
@@ -27,8 +26,11 @@ write_free-requires c = c.requires
 
 pub returns-in-At : goal.returns-in-At
 unfolding write_open unless_barred
-returns-in-At c = record { gives = gives-refused _ (rw (ne_eqb _ _ c.if-o-eq0.false, ← c.ask_of-q.ensures, ← c.first_bar-bar.ensures, c.in-At.is))
-      (ap (λ (a : Answer). performed a (tables_of c.args.words.now)) c.refuse_for.ensures); words_after = λ h. h }
+returns-in-At c = record {
+  gives = gives-refused _ (rw (ne_eqb _ _ c.if-o-eq0.false, ← c.ask_of-q.ensures, ← c.first_bar-bar.ensures, c.in-At.is))
+      (ap (λ (a : Answer). performed a (tables_of c.args.words.now)) c.refuse_for.ensures);
+  words_after = λ h. h;
+}
 
 pub returns-in-Nothing : goal.returns-in-Nothing
 unfolding write_open unless_barred

@@ -1,11 +1,9 @@
 -- `server::call::answer_message` meets its contract: the three ways a message fit to be answered is answered, each as the definition says it.
 -- Assumes nothing.
-use borrow.Author.Rules.{rules}
 use Prim.Native.Nat.{ℕ, ◌≤◌}
 use mathlib.Core.Path.{sym, ap, ◌∙◌}
 use native.Mathlib.Omega.{arith}
 use lib.ListN.{length}
-use borrow.Author.Tests.{not-true, not-false}
 use Rattle.chain.specs.Chain.{blocks_from, blocks}
 use Rattle.chain.specs.Judged.{readable}
 use Rattle.message.specs.Caller.{caller_of}
@@ -60,6 +58,9 @@ returns c =
     let f = rw caller-of.ensures at run-chain.ensures.finished in
     let g = run_fits (caller_of args.connection args.s.now) args.s.now (tables_of args.words.now) args.memory.now pre.good pre.s_len_bound in
     let long : 35 ≤ length args.s.now = pre.in_bounds in
-    let enough : 12292 ≤ length args.room.now = pre.in_bounds_2 in record { room_after = finish args.s.now args.room.now (run_chain (caller_of args.connection args.s.now) args.s.now (blocks args.s.now) (tables_of args.words.now) args.memory.now) run-chain.result.forms run-chain.result.holder run-chain.result.length (tables_of run-chain.new.words) run-chain.new.memory run-chain.new.room write-header.new.room f
+    let enough : 12292 ≤ length args.room.now = pre.in_bounds_2 in record {
+      room_after = finish args.s.now args.room.now (run_chain (caller_of args.connection args.s.now) args.s.now (blocks args.s.now) (tables_of args.words.now) args.memory.now) run-chain.result.forms run-chain.result.holder run-chain.result.length (tables_of run-chain.new.words) run-chain.new.memory run-chain.new.room write-header.new.room f
           write-header.ensures (omega arith) (omega arith)
-          ∙ ap (replied args.s.now args.room.now) (sym (answered-run args.connection args.s.now (tables_of args.words.now) args.memory.now (sym (is-served.ensures ∙ served-named byte-at.result ∙ ap served byte-at.ensures) ∙ if1.false))); words_after = run-chain.ensures.words_after }
+          ∙ ap (replied args.s.now args.room.now) (sym (answered-run args.connection args.s.now (tables_of args.words.now) args.memory.now (sym (is-served.ensures ∙ served-named byte-at.result ∙ ap served byte-at.ensures) ∙ if1.false)));
+      words_after = run-chain.ensures.words_after;
+    }

@@ -1,6 +1,5 @@
 -- `server::call::caller_of` meets its contract: each field is read from its place, and the two halves of the process make 32 bits.
 -- Assumes nothing.
-use borrow.Author.Rules.{rules}
 use Rattle.message.specs.Caller.{caller_of}
 use Rattle.server.proofs.call.caller_of.Goals as goal
 

@@ -1,6 +1,5 @@
 -- `server::call::refuse_message` meets its contract: the refused block and then the header before it are laid over the room.
 -- Assumes nothing.
-use borrow.Author.Rules.{rules}
 use Prim.Native.Nat.{◌≤◌, ℕ}
 use mathlib.Core.Path.{refl, ap, ◌∙◌}
 use mathlib.Core.List.{List}

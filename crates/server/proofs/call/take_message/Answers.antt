@@ -3,7 +3,6 @@
 use borrow.Author.Rules.{rules}
 use mathlib.Core.Path.{refl, sym, ◌∙◌}
 use native.Mathlib.Omega.{arith}
-use borrow.Author.Tests.{not-true, not-false}
 use Rattle.message.specs.Message.{answered}
 use Rattle.soundness.specs.Sound.{sound}
 use Rattle.tables.specs.Words.{tables_of, in_use_fit}

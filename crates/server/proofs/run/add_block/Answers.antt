@@ -6,7 +6,6 @@ use native.Mathlib.Omega.{arith}
 use lib.ListN.{length, length-take, length-drop}
 use Rattle.message.specs.Given.{answer_size}
 use Rattle.server.specs.Taking.{block-laid}
-use borrow.Author.Rules.{rules}
 use Rattle.server.proofs.run.add_block.Goals as goal
 
 pub overflow_add-end : goal.overflow_add-end

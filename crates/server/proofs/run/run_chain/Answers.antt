@@ -1,12 +1,9 @@
 -- `server::run::run_chain` meets its contract: the loop's invariant is `Turn`: what is left to carry out completes the whole run, and the blocks written stand from 32 on; words in use that fit still do.
 -- Assumes nothing.
-use Prim.Native.Nat.{◌-◌}
 use mathlib.Core.Path.{sym, ◌∙◌}
-use lib.ListN.{length}
 use Rattle.requests.specs.Leaves.{performed}
 use Rattle.tables.specs.Words.{tables_of}
-use Rattle.server.specs.Taking.{Turn, Kept, turn-start, turn-block, turn-length, turn-parse, block-fits, turn-ends, turn-goes, turn-falls}
-use borrow.Author.Rules.{rules}
+use Rattle.server.specs.Taking.{turn-start, turn-block, turn-length, turn-parse, block-fits, turn-ends, turn-goes, turn-falls}
 use native.Mathlib.Omega.{arith}
 use Rattle.server.proofs.run.run_chain.Goals as goal
 

@@ -1,15 +1,11 @@
 use Prim.Native.Nat.{◌-◌}
-use mathlib.Core.Path.{sym, ◌∙◌}
 use lib.ListN.{length}
-use Rattle.requests.specs.Leaves.{performed}
 use Rattle.tables.specs.Words.{tables_of}
-use Rattle.server.specs.Taking.{Turn, Kept, turn-start, turn-block, turn-length, turn-parse, block-fits, turn-ends, turn-goes, turn-falls}
-use borrow.Author.Rules.{rules}
-use native.Mathlib.Omega.{arith}
+use Rattle.server.specs.Taking.{Turn, Kept}
 use Rattle.server.proofs.run.run_chain.Given as goal
 
 abbrev pub invariant-loop-then : goal.invariant-loop-then
-invariant-loop-then l =     Turn l.c l.s l.initial.room (tables_of l.initial.words) l.initial.memory l.command l.at l.place l.just (tables_of l.words) l.memory l.room × Kept l.initial.words l.words
+invariant-loop-then l = Turn l.c l.s l.initial.room (tables_of l.initial.words) l.initial.memory l.command l.at l.place l.just (tables_of l.words) l.memory l.room × Kept l.initial.words l.words
 
 abbrev pub decreases-loop-then : goal.decreases-loop-then
 decreases-loop-then l = length l.s - l.at

@@ -1,6 +1,5 @@
 -- `server::step::forms_after` meets its contract: a refusal has its status in both forms, and every other answer success.
 -- Assumes nothing.
-use borrow.Author.Rules.{rules}
 use mathlib.Core.Path.{◌≡◌, refl, ◌∙◌}
 use Rattle.message.specs.Refusal.{success}
 use Rattle.server.specs.Step.{forms_after}

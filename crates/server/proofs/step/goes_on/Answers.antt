@@ -1,6 +1,5 @@
 -- `server::step::goes_on` meets its contract: the chain ends at a refusal, and at no other answer.
 -- Assumes nothing.
-use borrow.Author.Rules.{rules}
 use mathlib.Core.Path.{◌≡◌, refl}
 use Rattle.server.specs.Step.{goes_on}
 use Rattle.server.proofs.Unrefused.{unrefused}

@@ -1,6 +1,5 @@
 -- `server::step::holder_left` meets its contract: a refusal has its holder, and every other answer nobody.
 -- Assumes nothing.
-use borrow.Author.Rules.{rules}
 use mathlib.Core.Path.{◌≡◌, refl}
 use Rattle.message.specs.declared.refusal.HeldBy.TheVariants.{Nobody}
 use Rattle.server.specs.Step.{holder_left}

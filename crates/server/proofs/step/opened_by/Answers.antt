@@ -1,6 +1,5 @@
 -- `server::step::opened_by` meets its contract: the FID of an OPEN_ANDX, and nobody's of any other answer.
 -- Assumes nothing.
-use borrow.Author.Rules.{rules}
 use Rattle.server.specs.Step.{just_opened}
 use Rattle.server.proofs.Unopened.{unopened}
 use Rattle.server.proofs.step.opened_by.Goals as goal
