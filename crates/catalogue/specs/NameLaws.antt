@@ -1,6 +1,6 @@
 -- Laws of names: two compared byte by byte, a name in the words of the catalogue, and the file of the name found.
 -- Assumes nothing.
-use Rattle.std.specs.Prelude.{◌≡◌, refl, Bool, true, false, not, ◌&&◌, ◌||◌, List, [], ◌∷◌, map, drop, leb, eqb}
+use Rattle.std.specs.Prelude.{◌≡◌, refl, Bool, true, false, not, ◌&&◌, ◌||◌, List, [], ◌∷◌, map, drop, leb, eqb, Some}
 use Rattle.std.proofs.Math.Path.{sym, ap}
 use Rattle.std.proofs.Common.{◌∙◌, mod-eq_of_lt, add-one, drop_of_length-le}
 use Prim.Native.Nat.{ℕ, zero, suc, min, ◌+◌, ◌*◌, ◌%◌, ◌≤◌, ◌<◌}
@@ -15,7 +15,6 @@ use Rattle.lists.specs.Walk.{all, found}
 use Rattle.lists.specs.Members.{all-each, each_all}
 use Rattle.lists.specs.PairLaws.{place_in, in_place}
 use Rattle.lists.specs.FoundLaws.{found_below}
-use Rattle.lists.specs.declared.Found.TheVariants.{At}
 use Rattle.records.specs.declared.Name.{Name}
 use Rattle.records.specs.Empty.{no_name}
 use Rattle.tables.specs.Words.{word, part, up_to, record_at, within, name_of, name_array, name_limits, table_fits, records_fit}
@@ -286,7 +285,7 @@ catalogue-tested w = in_order (table_fits name_limits 16 w) (leb (word w 0) 16) 
 
 module _ (p : Name → Bool) (k : ℕ) where
   -- its place is one of the catalogue's
-  pub found-place : (w : List ℕ) → found p (names_in w) ≡ At k → (k < 16) × (get_or (names_in w) k no_name ≡ get_or (name_array w) k no_name)
+  pub found-place : (w : List ℕ) → found p (names_in w) ≡ Some k → (k < 16) × (get_or (names_in w) k no_name ≡ get_or (name_array w) k no_name)
   found-place w e =
       let b : k < length (names_in w) = found_below p (names_in w) k e in
       let l : length (names_in w) ≡ min (word w 0) (length (name_array w)) = length-take (word w 0) (name_array w) in
@@ -294,7 +293,7 @@ module _ (p : Name → Bool) (k : ℕ) where
       (omega arith, get_or-take (word w 0) (name_array w) k no_name (omega arith))
 
   -- its file is one of the files
-  pub found-file : (names : List Name) (count : ℕ) → catalogue_ok names count ≡ true → found p (take count names) ≡ At k → (get_or (take count names) k no_name).file ≤ 15
+  pub found-file : (names : List Name) (count : ℕ) → catalogue_ok names count ≡ true → found p (take count names) ≡ Some k → (get_or (take count names) k no_name).file ≤ 15
   unfolding catalogue_ok name_ok
   found-file names count ok e =
       let n = get_or (take count names) k no_name in

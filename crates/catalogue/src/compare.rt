@@ -11,13 +11,7 @@ use tables::cut::low8;
 fn fold(b: u8) -> u8
     ensures { result ≡ folded b }
 {
-    if b < 65 {
-        return b;
-    }
-    if 90 < b {
-        return b;
-    }
-    b + 32
+    b.to_ascii_lowercase()
 }
 
 // How many bytes the name at a place has.
@@ -25,11 +19,7 @@ fn name_length(words: &[u64], i: usize) -> usize
     requires { (length words.now ≡ 225) × (i < 16) }
     ensures { result ≡ length (name_bytes (get_or (name_array words.now) i no_name)) }
 {
-    let n = low8(words[1 + 14 * i]) as usize;
-    if n < 12 {
-        return n;
-    }
-    12
+    (low8(words[1 + 14 * i]) as usize).min(12)
 }
 
 // Whether the name at a place is the one given.
@@ -38,28 +28,14 @@ pub(crate) fn is_named(words: &[u64], i: usize, name: &[u8]) -> bool
     ensures { result ≡ is_named name.now (get_or (name_array words.now) i no_name) }
 {
     let n = name_length(words, i);
-    if n != name.len() {
-        return false;
-    }
-    let from = 2 + 14 * i;
-    let mut k: usize = 0;
-    while k < n {
-        if fold(low8(words[from + k])) != fold(name[k]) {
-            return false;
-        }
-        k += 1;
-    }
-    true
+    n == name.len() && (0..n).all(|k| fold(low8(words[2 + 14 * i + k])) == fold(name[k]))
 }
 
 // Whether two words of text have the same letter. Words of names that begin alike are equal as they stand, which is tested first.
 fn same_letter(x: u64, y: u64) -> bool
     ensures { result ≡ eqb (folded (x % 256)) (folded (y % 256)) }
 {
-    if x == y {
-        return true;
-    }
-    fold(low8(x)) == fold(low8(y))
+    x == y || fold(low8(x)) == fold(low8(y))
 }
 
 // Whether the name at place j is the one at place i.
@@ -68,17 +44,6 @@ pub(crate) fn same_names(words: &[u64], i: usize, j: usize) -> bool
     ensures { result ≡ is_named (name_bytes (get_or (name_array words.now) i no_name)) (get_or (name_array words.now) j no_name) }
 {
     let n = name_length(words, j);
-    if n != name_length(words, i) {
-        return false;
-    }
-    let mine = 2 + 14 * i;
-    let other = 2 + 14 * j;
-    let mut k: usize = 0;
-    while k < n {
-        if !same_letter(words[other + k], words[mine + k]) {
-            return false;
-        }
-        k += 1;
-    }
-    true
+    n == name_length(words, i)
+        && (0..n).all(|k| same_letter(words[2 + 14 * j + k], words[2 + 14 * i + k]))
 }

@@ -8,24 +8,15 @@ ghost use Rattle.tables.specs.Written.{names_in};
 ghost use Rattle.catalogue.specs.Name.{is_named};
 
 use crate::compare::is_named;
-use lists::Found;
 use tables::cut::low8;
 use tables::fit::in_use;
 
 // The place of the first name in use that is the one given.
-pub fn find_name(words: &[u64], name: &[u8]) -> Found
+pub fn find_name(words: &[u64], name: &[u8]) -> Option<usize>
     requires { length words.now ≡ 225 }
     ensures { result ≡ found (is_named name.now) (names_in words.now) }
 {
-    let count = in_use(words, 16);
-    let mut i: usize = 0;
-    while i < count {
-        if is_named(words, i, name) {
-            return Found::At(i);
-        }
-        i += 1;
-    }
-    Found::Nothing
+    (0..in_use(words, 16)).position(|i| is_named(words, i, name))
 }
 
 // The file of the name at a place.

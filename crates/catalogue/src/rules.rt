@@ -14,13 +14,7 @@ use crate::compare::same_names;
 fn byte_stands(x: u64, n: usize, k: usize) -> bool
     ensures { result ≡ byte_stands n x k }
 {
-    if 255 < x {
-        return false;
-    }
-    if n <= k {
-        return true;
-    }
-    x != 0
+    x <= 255 && (n <= k || x != 0)
 }
 
 // The same of all twelve.
@@ -28,14 +22,7 @@ fn text_stands(words: &[u64], from: usize, n: usize) -> bool
     requires { from + 12 ≤ length words.now }
     ensures { result ≡ text_stands words.now from n }
 {
-    let mut k: usize = 0;
-    while k < 12 {
-        if !byte_stands(words[from + k], n, k) {
-            return false;
-        }
-        k += 1;
-    }
-    true
+    (0..12).all(|k| byte_stands(words[from + k], n, k))
 }
 
 // Whether the words of a name fit and it keeps the rules for one.
@@ -44,13 +31,7 @@ fn name_stands(words: &[u64], i: usize) -> bool
     ensures { result ≡ within name_limits (record_at 14 words.now i) && name_ok (get_or (name_array words.now) i no_name) }
 {
     let n = words[1 + 14 * i];
-    if n < 1 {
-        return false;
-    }
-    if 12 < n {
-        return false;
-    }
-    if 15 < words[14 + 14 * i] {
+    if n < 1 || 12 < n || 15 < words[14 + 14 * i] {
         return false;
     }
     text_stands(words, 2 + 14 * i, n as usize)
@@ -61,15 +42,7 @@ fn names_stand(words: &[u64]) -> bool
     requires { (length words.now ≡ 225) × (word words.now 0 ≤ 16) }
     ensures { result ≡ table_fits name_limits 16 words.now && all name_ok (names_in words.now) }
 {
-    let count = words[0] as usize;
-    let mut i: usize = 0;
-    while i < count {
-        if !name_stands(words, i) {
-            return false;
-        }
-        i += 1;
-    }
-    true
+    (0..words[0] as usize).all(|i| name_stands(words, i))
 }
 
 // Whether the name at a place is none of those behind it.
@@ -77,15 +50,7 @@ fn differs_later(words: &[u64], i: usize) -> bool
     requires { (length words.now ≡ 225) × ((word words.now 0 ≤ 16) × (i < word words.now 0)) }
     ensures { result ≡ all (differ (get_or (name_array words.now) i no_name)) (rest (name_array words.now) (word words.now 0) (i + 1)) }
 {
-    let count = words[0] as usize;
-    let mut j = i + 1;
-    while j < count {
-        if same_names(words, i, j) {
-            return false;
-        }
-        j += 1;
-    }
-    true
+    (i + 1..words[0] as usize).all(|j| !same_names(words, i, j))
 }
 
 // Whether no name in use is doubled.
@@ -93,15 +58,7 @@ fn none_doubled(words: &[u64]) -> bool
     requires { (length words.now ≡ 225) × (word words.now 0 ≤ 16) }
     ensures { result ≡ none_doubled (names_in words.now) }
 {
-    let count = words[0] as usize;
-    let mut i: usize = 0;
-    while i < count {
-        if !differs_later(words, i) {
-            return false;
-        }
-        i += 1;
-    }
-    true
+    (0..words[0] as usize).all(|i| differs_later(words, i))
 }
 
 // Whether the words in use fit their fields and the catalogue keeps its rules.
@@ -112,8 +69,5 @@ pub fn catalogue_ok(words: &[u64]) -> bool
     if 16 < words[0] {
         return false;
     }
-    if !names_stand(words) {
-        return false;
-    }
-    none_doubled(words)
+    names_stand(words) && none_doubled(words)
 }

@@ -4,38 +4,36 @@ use Rattle.std.proofs.Math.Path.{◌≡◌, refl, ap}
 use Rattle.std.proofs.Common.{sym, ◌∙◌, add-one}
 use Prim.Native.Nat.{ℕ, suc, ◌+◌, ◌≤◌, ◌<◌}
 use Rattle.std.proofs.Math.Nat.{zero-add}
-use Rattle.std.specs.Prelude.{Bool, true, false, cond, take, get_or}
+use Rattle.std.specs.Prelude.{Bool, true, false, cond, take, get_or, Option, Some, None}
 use mathlib.Core.List.{List, [], ◌∷◌, ◌++◌}
 use Rattle.std.proofs.Math.ListN.{length}
 use native.Mathlib.Omega.{arith}
 use Rattle.lists.specs.Walk.{any, found_from, found, rest, rest-cons, rest-none, rest-past}
-use Rattle.lists.specs.declared.Found.{Found}
-use Rattle.lists.specs.declared.Found.TheVariants.{At, Nothing}
 
 -- a place in the first part, or else one behind it
-unfoldable pub first_of : Found → Found → Found
-first_of (At k) f = At k
-first_of Nothing f = f
+unfoldable pub first_of : Option ℕ → Option ℕ → Option ℕ
+first_of (Some k) f = Some k
+first_of None f = f
 
 -- the same place counted from n places further in front
-unfoldable pub shifted : ℕ → Found → Found
-shifted n (At k) = At (n + k)
-shifted n Nothing = Nothing
+unfoldable pub shifted : ℕ → Option ℕ → Option ℕ
+shifted n (Some k) = Some (n + k)
+shifted n None = None
 
 -- an element in front of a list of two parts
-cond-first : (b : Bool) (k : ℕ) (f g h : Found) → h ≡ first_of f g → cond b (At k) h ≡ first_of (cond b (At k) f) g
+cond-first : (b : Bool) (k : ℕ) (f g h : Option ℕ) → h ≡ first_of f g → cond b (Some k) h ≡ first_of (cond b (Some k) f) g
 unfolding first_of
 cond-first true k f g h e = refl
 cond-first false k f g h e = e
 
 -- an element in front of a list whose places are shifted
-cond-shifted : (b : Bool) (n k : ℕ) (f g : Found) → g ≡ shifted n f → cond b (At (n + k)) g ≡ shifted n (cond b (At k) f)
+cond-shifted : (b : Bool) (n k : ℕ) (f g : Option ℕ) → g ≡ shifted n f → cond b (Some (n + k)) g ≡ shifted n (cond b (Some k) f)
 unfolding shifted
 cond-shifted true n k f g e = refl
 cond-shifted false n k f g e = e
 
 -- a bound on the place of the first element and on that of the others is one on the place found
-at-below : (b : Bool) (k j m : ℕ) (f : Found) → k < m → (f ≡ At j → j < m) → cond b (At k) f ≡ At j → j < m
+at-below : (b : Bool) (k j m : ℕ) (f : Option ℕ) → k < m → (f ≡ Some j → j < m) → cond b (Some k) f ≡ Some j → j < m
 at-below true k j m f h g e = let same : k ≡ j = cc in omega arith
 at-below false k j m f h g e = g e
 
@@ -64,7 +62,7 @@ module _ {A : Type 0} where
   found-append p xs ys = found_from-append p xs ys 0 ∙ ap (first_of (found_from 0 p xs)) (found_from-shifted p ys (length xs) 0)
 
   -- the place that a walk finds is one that it counts
-  found_from-below : (p : A → Bool) (xs : List A) (k j : ℕ) → found_from k p xs ≡ At j → j < k + length xs
+  found_from-below : (p : A → Bool) (xs : List A) (k j : ℕ) → found_from k p xs ≡ Some j → j < k + length xs
   unfolding found_from
   found_from-below p [] k j e = let no : ◌≡◌ {A = ℕ} 0 1 = cc in omega arith
   found_from-below p (x ∷ xs) k j e =
@@ -73,12 +71,12 @@ module _ {A : Type 0} where
       e
 
   -- the place found is a place of the list
-  pub found_below : (p : A → Bool) (xs : List A) (j : ℕ) → found p xs ≡ At j → j < length xs
+  pub found_below : (p : A → Bool) (xs : List A) (j : ℕ) → found p xs ≡ Some j → j < length xs
   unfolding found
   found_below p xs j e = let below : j < 0 + length xs = found_from-below p xs 0 j e in omega arith
 
   -- an element that passes is the one found
-  pub found_from-yes : (p : A → Bool) (x : A) (xs : List A) (k : ℕ) → p x ≡ true → found_from k p (x ∷ xs) ≡ At k
+  pub found_from-yes : (p : A → Bool) (x : A) (xs : List A) (k : ℕ) → p x ≡ true → found_from k p (x ∷ xs) ≡ Some k
   unfolding found_from
   found_from-yes p x xs k e = rw e
 
@@ -88,7 +86,7 @@ module _ {A : Type 0} where
   found_from-no p x xs k e = rw (e, add-one)
 
   -- where nothing is left nothing is found
-  pub found_from-none : (p : A → Bool) (xs : List A) (k : ℕ) → xs ≡ [] → Nothing ≡ found_from k p xs
+  pub found_from-none : (p : A → Bool) (xs : List A) (k : ℕ) → xs ≡ [] → None ≡ found_from k p xs
   unfolding found_from
   found_from-none p xs k e = rw e
 
@@ -103,7 +101,7 @@ module _ {A : Type 0} where
 
   -- the next element passes the test: it is the one found
   pub passed_here : {p : A → Bool} {xs : List A} {n i : ℕ} → Passed p xs n i → (d : A) → i < n → i < length xs → p (get_or xs i d) ≡ true
-      → At i ≡ found p (take n xs)
+      → Some i ≡ found p (take n xs)
   passed_here {p} {xs} {n} {i} before d h k e =
       sym (before.same ∙ ap (found_from i p) (rest-cons xs n i d h k) ∙ found_from-yes p (get_or xs i d) (rest xs n (i + 1)) i e)
 
@@ -114,11 +112,11 @@ module _ {A : Type 0} where
       record { same = before.same ∙ ap (found_from i p) (rest-cons xs n i d h k) ∙ found_from-no p (get_or xs i d) (rest xs n (i + 1)) i e }
 
   -- all n are passed: nothing is found
-  pub passed_none : {p : A → Bool} {xs : List A} {n i : ℕ} → Passed p xs n i → n ≤ i → Nothing ≡ found p (take n xs)
+  pub passed_none : {p : A → Bool} {xs : List A} {n i : ℕ} → Passed p xs n i → n ≤ i → None ≡ found p (take n xs)
   passed_none {p} {xs} {n} {i} before h = found_from-none p (rest xs n i) i (rest-none xs n i h) ∙ sym before.same
 
   -- the whole list is passed: nothing is found
-  pub passed-all : {p : A → Bool} {xs : List A} {n i : ℕ} → Passed p xs n i → length xs ≤ i → Nothing ≡ found p (take n xs)
+  pub passed-all : {p : A → Bool} {xs : List A} {n i : ℕ} → Passed p xs n i → length xs ≤ i → None ≡ found p (take n xs)
   passed-all {p} {xs} {n} {i} before h = found_from-none p (rest xs n i) i (rest-past xs n i h) ∙ sym before.same
 
   -- an element that passes a test makes some element pass it

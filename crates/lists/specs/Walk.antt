@@ -1,9 +1,7 @@
 -- What a walk over a list computes, and the two laws by which a loop from front to back follows it.
 -- Assumes nothing.
-use Rattle.std.specs.Prelude.{◌≡◌, ℕ, suc, min, ◌+◌, ◌≤◌, ◌<◌, Bool, true, false, cond, ◌&&◌, ◌||◌, List, [], ◌∷◌, length, take, drop, get_or}
+use Rattle.std.specs.Prelude.{◌≡◌, ℕ, suc, min, ◌+◌, ◌≤◌, ◌<◌, Bool, true, false, cond, ◌&&◌, ◌||◌, List, [], ◌∷◌, length, take, drop, get_or, Option, Some, None}
 use Rattle.std.proofs.Common.{drop_of_length-le, length-take, drop-cons, get_or-take, add-one, arith}
-use Rattle.lists.specs.declared.Found.{Found}
-use Rattle.lists.specs.declared.Found.TheVariants.{At, Nothing}
 
 module _ {A : Type 0} where
   -- some element passes p
@@ -27,11 +25,11 @@ module _ {A : Type 0} where
   keep p (x ∷ xs) = cond (p x) (x ∷ keep p xs) (keep p xs)
 
   -- the place of the first element that passes p, the first element standing at k
-  unfoldable pub found_from : ℕ → (A → Bool) → List A → Found
-  found_from k p [] = Nothing
-  found_from k p (x ∷ xs) = cond (p x) (At k) (found_from (suc k) p xs)
+  unfoldable pub found_from : ℕ → (A → Bool) → List A → Option ℕ
+  found_from k p [] = None
+  found_from k p (x ∷ xs) = cond (p x) (Some k) (found_from (suc k) p xs)
 
-  unfoldable pub found : (A → Bool) → List A → Found
+  unfoldable pub found : (A → Bool) → List A → Option ℕ
   unfolding found_from
   found p xs = found_from 0 p xs
 

@@ -1,10 +1,3 @@
 // Lists and their laws. The specs define what every layer above says of a table: a rule for all
 // records, a record that exists, the first record that answers a question, the records kept.
 #![tactic(auto)]
-
-// What a walk from the front finds: the place of the first record that answers, or nothing.
-#[derive(Clone, Copy)]
-pub enum Found {
-    At(usize),
-    Nothing,
-}

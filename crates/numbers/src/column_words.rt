@@ -6,8 +6,8 @@ ghost use Rattle.numbers.specs.Number.{contains, smallest_free};
 ghost use Rattle.numbers.specs.Column.{uid_of, tid_of, fid_of};
 ghost use Rattle.numbers.specs.ColumnWords.{numbers_in, marks_of};
 
-use crate::number::at_most;
 use tables::cut::low16;
+use tables::fit::in_use;
 
 // Which numbers from 0 to 65 the first count records have, 1 for each; a record has `step` words.
 fn marks(words: &[u64], step: usize, count: usize) -> [u8; 66]
@@ -15,9 +15,7 @@ fn marks(words: &[u64], step: usize, count: usize) -> [u8; 66]
     ensures { result ≡ marks_of (numbers_in step count words.now) }
 {
     let mut marks = [0u8; 66];
-    let mut i = count;
-    while 0 < i {
-        i -= 1;
+    for i in (0..count).rev() {
         let number = low16(words[1 + step * i]) as usize;
         if number < 66 {
             marks[number] = 1;
@@ -32,14 +30,12 @@ fn smallest_free(words: &[u64], step: usize, count: usize) -> u16
     ensures { result ≡ smallest_free (numbers_in step count words.now) }
 {
     let table = marks(words, step, count);
-    let mut i: usize = 0;
-    while i < count {
+    for i in 0..count {
         if table[i + 1] != 1 {
             return (i + 1) as u16;
         }
-        i += 1;
     }
-    (i + 1) as u16
+    (count + 1) as u16
 }
 
 // The smallest UID not in use; likewise for trees and opens.
@@ -47,21 +43,21 @@ pub fn free_uid(words: &[u64]) -> u16
     requires { length words.now ≡ 33 }
     ensures { result ≡ smallest_free (map uid_of (sessions_in words.now)) }
 {
-    smallest_free(words, 2, at_most(words[0] as usize, 16))
+    smallest_free(words, 2, in_use(words, 16))
 }
 
 pub fn free_tid(words: &[u64]) -> u16
     requires { length words.now ≡ 97 }
     ensures { result ≡ smallest_free (map tid_of (trees_in words.now)) }
 {
-    smallest_free(words, 3, at_most(words[0] as usize, 32))
+    smallest_free(words, 3, in_use(words, 32))
 }
 
 pub fn free_fid(words: &[u64]) -> u16
     requires { length words.now ≡ 577 }
     ensures { result ≡ smallest_free (map fid_of (opens_in words.now)) }
 {
-    smallest_free(words, 9, at_most(words[0] as usize, 64))
+    smallest_free(words, 9, in_use(words, 64))
 }
 
 // Whether one of the first count records has that number.
@@ -69,14 +65,7 @@ fn has_number(words: &[u64], step: usize, count: usize, number: u16) -> bool
     requires { (0 < step) × ((count ≤ 64) × (step * count < length words.now)) }
     ensures { result ≡ contains number (numbers_in step count words.now) }
 {
-    let mut i: usize = 0;
-    while i < count {
-        if low16(words[1 + step * i]) == number {
-            return true;
-        }
-        i += 1;
-    }
-    false
+    (0..count).any(|i| low16(words[1 + step * i]) == number)
 }
 
 // Whether a session in use has that UID.
@@ -84,15 +73,7 @@ pub fn has_session(words: &[u64], uid: u16) -> bool
     requires { length words.now ≡ 33 }
     ensures { result ≡ contains uid (map uid_of (sessions_in words.now)) }
 {
-    let count = at_most(words[0] as usize, 16);
-    let mut i: usize = 0;
-    while i < count {
-        if low16(words[1 + 2 * i]) == uid {
-            return true;
-        }
-        i += 1;
-    }
-    false
+    has_number(words, 2, in_use(words, 16), uid)
 }
 
 // The same for trees and opens.
@@ -100,12 +81,12 @@ pub fn has_tree(words: &[u64], tid: u16) -> bool
     requires { length words.now ≡ 97 }
     ensures { result ≡ contains tid (map tid_of (trees_in words.now)) }
 {
-    has_number(words, 3, at_most(words[0] as usize, 32), tid)
+    has_number(words, 3, in_use(words, 32), tid)
 }
 
 pub fn has_open(words: &[u64], fid: u16) -> bool
     requires { length words.now ≡ 577 }
     ensures { result ≡ contains fid (map fid_of (opens_in words.now)) }
 {
-    has_number(words, 9, at_most(words[0] as usize, 64), fid)
+    has_number(words, 9, in_use(words, 64), fid)
 }

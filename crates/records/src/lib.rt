@@ -1,5 +1,7 @@
 // The tables of the gateway (document 01, "Tables and room"): plain records in arrays of fixed room,
-// each array with a count of the records that are in use, which stand first.
+// each array with a count of the records that are in use, which stand first: the core has no heap, and the theorems' `Tables` is this
+// record. What is one of a few kinds, as a right or an access, is a number here: the host's words may hold any, and `tables_of` reads
+// each as it stands.
 #![tactic(auto)]
 
 // A session: the user number given at login, and the connection it belongs to.

@@ -24,6 +24,10 @@ pub record Numbered (t : Tables) : Type 0 where
   pub tids : numbered 32 (map tid_of (trees_of t)) ≡ true
   pub fids : numbered 64 (map fid_of (opens_of t)) ≡ true
 
+-- what a closure answers of each record is what f says
+abbrev pub Tells : {A B : Type 0} → (A → B → Type 0) → (A → B) → Type 0
+Tells {A} {B} answers f = (x : A) (y : B) → answers x y → y ≡ f x
+
 -- what stays, told by marks: as `tree_stays`, `open_stays` and `lock_stays`
 unfoldable pub tree_marked : Gone → List Bool → Tree → Bool
 tree_marked gone uids t = not (tree_named gone t) && get_or uids t.uid false

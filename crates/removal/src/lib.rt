@@ -2,6 +2,7 @@
 // PROCESS_EXIT and a dropped connection are each one value of `Gone`.
 #![tactic(auto)]
 
+mod filter;
 pub mod locks;
 pub mod marks;
 pub mod opens;
@@ -57,11 +58,6 @@ fn open_named(gone: Gone, o: Open) -> bool
         Gone::Session(_) => false,
         Gone::Tree(_) => false,
         Gone::Open(fid) => o.fid == fid,
-        Gone::Process(uid, process) => {
-            if o.uid != uid {
-                return false;
-            }
-            o.process == process
-        }
+        Gone::Process(uid, process) => { o.uid == uid && o.process == process }
     }
 }

@@ -7,10 +7,7 @@ pub fn marked(marks: &[bool], number: u16) -> bool
     ensures { result ≡ get_or marks.now number false }
 {
     let at = number as usize;
-    if at < marks.len() {
-        return marks[at];
-    }
-    false
+    at < marks.len() && marks[at]
 }
 
 // The number marked; one past the marks changes nothing.

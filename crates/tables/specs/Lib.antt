@@ -6,3 +6,4 @@ pub mod ArrayLaws
 pub mod WholeLaws
 pub mod FitLaws
 pub mod ChangeLaws
+pub mod RangeLaws

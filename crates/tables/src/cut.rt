@@ -2,7 +2,7 @@
 
 ghost use Rattle.std.specs.Prelude.{◌≡◌, cond, ◌%◌};
 
-// A word cut to 8, 16 and 32 bits.
+// A word cut to 8, 16 and 32 bits, each by its own modulus: a cast must fit, so the cut stands before it.
 pub fn low8(x: u64) -> u8
     ensures { result ≡ x % 256 }
 {
@@ -25,5 +25,5 @@ pub fn low32(x: u64) -> u32
 pub fn flag(x: bool) -> u64
     ensures { result ≡ cond x 1 0 }
 {
-    x as u64
+    u64::from(x)
 }

@@ -28,10 +28,7 @@ pub const LARGEST: u64 = 4294967295;
 fn raise(number: u64) -> u64
     ensures { result ≡ raised number }
 {
-    if number < LARGEST {
-        return number + 1;
-    }
-    LARGEST
+    number.saturating_add(1).min(LARGEST)
 }
 
 // A file that was changed: its size, written, and its change number raised.

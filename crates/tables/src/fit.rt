@@ -8,9 +8,5 @@ pub fn in_use(words: &[u64], room: usize) -> usize
     requires { 0 < length words.now }
     ensures { result ≡ in_use words.now room }
 {
-    let count = words[0] as usize;
-    if count < room {
-        return count;
-    }
-    room
+    (words[0] as usize).min(room)
 }

@@ -2,10 +2,11 @@
 
 ghost use Rattle.std.specs.Prelude.{◌≡◌, ◌<◌, length, get_or};
 ghost use Rattle.records.specs.Empty.{no_lock};
-ghost use Rattle.tables.specs.Words.{lock_array, lock_limits};
+ghost use Rattle.tables.specs.Words.{lock_of, lock_array, lock_limits};
 ghost use Rattle.tables.specs.Written.{Wrote};
 
 use crate::cut::{flag, low16, low32};
+use crate::record::Record;
 use records::Lock;
 
 // The record at a place.
@@ -34,9 +35,39 @@ pub fn put_lock(words: &mut [u64], i: usize, l: Lock)
     ensures { Wrote lock_array lock_limits words.old words.new i l }
 {
     let at = 1 + 5 * i;
-    words[at] = l.fid as u64;
-    words[at + 1] = l.process as u64;
+    words[at] = u64::from(l.fid);
+    words[at + 1] = u64::from(l.process);
     words[at + 2] = l.offset;
     words[at + 3] = l.length;
     words[at + 4] = flag(l.shared);
+}
+
+impl Record for Lock {
+    ghost of_words = { lock_of };
+
+    ghost limits = { lock_limits };
+
+    ghost ROOM = { 128 };
+
+    ghost EMPTY = { no_lock };
+
+    const ROOM: usize = 128;
+
+    const EMPTY: Lock = Lock {
+        fid: 0,
+        process: 0,
+        offset: 0,
+        length: 0,
+        shared: false,
+    };
+
+    #[tactic(auto, unfolding(crate::specs::Words::lock_array))]
+    fn read(words: &[u64], i: usize) -> Lock {
+        lock_at(words, i)
+    }
+
+    #[tactic(auto, unfolding(crate::specs::Words::lock_array))]
+    fn write(self, words: &mut [u64], i: usize) {
+        put_lock(words, i, self);
+    }
 }

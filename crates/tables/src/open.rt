@@ -3,10 +3,11 @@
 ghost use Rattle.std.specs.Prelude.{◌≡◌, ◌<◌, length, get_or};
 ghost use Rattle.records.specs.Change.{open_after};
 ghost use Rattle.records.specs.Empty.{no_open};
-ghost use Rattle.tables.specs.Words.{open_array, open_limits};
+ghost use Rattle.tables.specs.Words.{open_of, open_array, open_limits};
 ghost use Rattle.tables.specs.Written.{Wrote, Renewed};
 
 use crate::cut::{flag, low8, low16, low32};
+use crate::record::Record;
 use records::Open;
 
 // The record at a place.
@@ -43,13 +44,13 @@ pub fn put_open(words: &mut [u64], i: usize, o: Open)
     ensures { Wrote open_array open_limits words.old words.new i o }
 {
     let at = 1 + 9 * i;
-    words[at] = o.fid as u64;
-    words[at + 1] = o.uid as u64;
-    words[at + 2] = o.tid as u64;
-    words[at + 3] = o.process as u64;
-    words[at + 4] = o.file as u64;
-    words[at + 5] = o.access as u64;
-    words[at + 6] = o.sharing as u64;
+    words[at] = u64::from(o.fid);
+    words[at + 1] = u64::from(o.uid);
+    words[at + 2] = u64::from(o.tid);
+    words[at + 3] = u64::from(o.process);
+    words[at + 4] = u64::from(o.file);
+    words[at + 5] = u64::from(o.access);
+    words[at + 6] = u64::from(o.sharing);
     words[at + 7] = flag(o.read);
     words[at + 8] = o.seen;
 }
@@ -62,4 +63,38 @@ pub fn put_read(words: &mut [u64], i: usize, number: u64)
     let at = 1 + 9 * i;
     words[at + 7] = 1;
     words[at + 8] = number;
+}
+
+impl Record for Open {
+    ghost of_words = { open_of };
+
+    ghost limits = { open_limits };
+
+    ghost ROOM = { 64 };
+
+    ghost EMPTY = { no_open };
+
+    const ROOM: usize = 64;
+
+    const EMPTY: Open = Open {
+        fid: 0,
+        uid: 0,
+        tid: 0,
+        process: 0,
+        file: 0,
+        access: 0,
+        sharing: 0,
+        read: false,
+        seen: 0,
+    };
+
+    #[tactic(auto, unfolding(crate::specs::Words::open_array))]
+    fn read(words: &[u64], i: usize) -> Open {
+        open_at(words, i)
+    }
+
+    #[tactic(auto, unfolding(crate::specs::Words::open_array))]
+    fn write(self, words: &mut [u64], i: usize) {
+        put_open(words, i, self);
+    }
 }

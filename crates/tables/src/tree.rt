@@ -2,10 +2,11 @@
 
 ghost use Rattle.std.specs.Prelude.{◌≡◌, ◌<◌, length, get_or};
 ghost use Rattle.records.specs.Empty.{no_tree};
-ghost use Rattle.tables.specs.Words.{tree_array, tree_limits};
+ghost use Rattle.tables.specs.Words.{tree_of, tree_array, tree_limits};
 ghost use Rattle.tables.specs.Written.{Wrote};
 
 use crate::cut::{low8, low16};
+use crate::record::Record;
 use records::Tree;
 
 // The record at a place.
@@ -26,7 +27,35 @@ pub fn put_tree(words: &mut [u64], i: usize, t: Tree)
     ensures { Wrote tree_array tree_limits words.old words.new i t }
 {
     let at = 1 + 3 * i;
-    words[at] = t.tid as u64;
-    words[at + 1] = t.uid as u64;
-    words[at + 2] = t.right as u64;
+    words[at] = u64::from(t.tid);
+    words[at + 1] = u64::from(t.uid);
+    words[at + 2] = u64::from(t.right);
+}
+
+impl Record for Tree {
+    ghost of_words = { tree_of };
+
+    ghost limits = { tree_limits };
+
+    ghost ROOM = { 32 };
+
+    ghost EMPTY = { no_tree };
+
+    const ROOM: usize = 32;
+
+    const EMPTY: Tree = Tree {
+        tid: 0,
+        uid: 0,
+        right: 0,
+    };
+
+    #[tactic(auto, unfolding(crate::specs::Words::tree_array))]
+    fn read(words: &[u64], i: usize) -> Tree {
+        tree_at(words, i)
+    }
+
+    #[tactic(auto, unfolding(crate::specs::Words::tree_array))]
+    fn write(self, words: &mut [u64], i: usize) {
+        put_tree(words, i, self);
+    }
 }

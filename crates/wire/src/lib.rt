@@ -14,33 +14,18 @@ pub fn byte_at(s: &[u8], at: usize) -> u8
     if at < s.len() { s[at] } else { 0 }
 }
 
-fn wide16(b: u8) -> u16
-    ensures { result ≡ b }
-{
-    b as u16
-}
-
-fn wide32(b: u16) -> u32
-    ensures { result ≡ b }
-{
-    b as u32
-}
-
 // Whether that many bytes stand from a place on: one test for all of them.
 fn holds(s: &[u8], at: usize, count: usize) -> bool
     ensures { result ≡ leb (at + count) (length s.now) }
 {
-    if s.len() < count {
-        return false;
-    }
-    at <= s.len() - count
+    count <= s.len() && at <= s.len() - count
 }
 
-// Two bytes as a number, the lower first.
+// Two bytes as a number, the lower first. By a sum, as the definition says it: the faults of the weights are tried on it.
 fn pair(low: u8, high: u8) -> u16
     ensures { result ≡ low + 256 * high }
 {
-    wide16(low) + 256 * wide16(high)
+    u16::from(low) + 256 * u16::from(high)
 }
 
 // Two bytes, the lower first.
@@ -50,7 +35,7 @@ pub fn le16_at(s: &[u8], at: usize) -> u16
     if holds(s, at, 2) {
         return pair(s[at], s[at + 1]);
     }
-    wide16(byte_at(s, at))
+    u16::from(byte_at(s, at))
 }
 
 // Four bytes, the lowest first.
@@ -59,10 +44,10 @@ pub fn le32_at(s: &[u8], at: usize) -> u32
 {
     if holds(s, at, 4) {
         let low = pair(s[at], s[at + 1]);
-        return wide32(low) + 65536 * wide32(pair(s[at + 2], s[at + 3]));
+        return u32::from(low) + 65536 * u32::from(pair(s[at + 2], s[at + 3]));
     }
     if at < s.len() {
-        wide32(le16_at(s, at)) + 65536 * wide32(le16_at(s, at + 2))
+        u32::from(le16_at(s, at)) + 65536 * u32::from(le16_at(s, at + 2))
     } else {
         0
     }

@@ -7,7 +7,7 @@ use Rattle.removal.proofs.open_named.Goals as goal
 
 pub returns-then-o-uid : goal.returns-then-o-uid
 unfolding open_named
-returns-then-o-uid c = sym (ap (λ g. open_named g c.args.o) c.in-Process.is ∙ rw (ne_eqb _ _ c.if-o-uid.true))
+returns-then-o-uid c = sym (ap (λ g. open_named g c.args.o) c.in-Process.is ∙ rw (eq-eqb _ _ c.if-o-uid.true))
 
 pub returns-in-Connection : goal.returns-in-Connection
 unfolding open_named
@@ -27,4 +27,4 @@ returns-in-Open c = sym (ap (λ g. open_named g c.args.o) c.in-Open.is)
 
 pub returns-else-o-uid : goal.returns-else-o-uid
 unfolding open_named
-returns-else-o-uid c = sym (ap (λ g. open_named g c.args.o) c.in-Process.is ∙ rw (eq-eqb _ _ c.if-o-uid.false))
+returns-else-o-uid c = sym (ap (λ g. open_named g c.args.o) c.in-Process.is ∙ rw (ne_eqb _ _ c.if-o-uid.false))

@@ -32,4 +32,4 @@ pub returns : goal.returns
 returns c =
     let args = c.args in
     let short : length args.s.now < args.at + 2 = leb-false (args.at + 2) (length args.s.now) (sym c.holds.ensures ∙ c.if-holds.false) in
-    c.wide16.ensures ∙ c.byte_at.ensures ∙ sym (le16-last args.s.now args.at (omega arith))
+    c.from.ensures ∙ c.byte_at.ensures ∙ sym (le16-last args.s.now args.at (omega arith))

@@ -39,14 +39,14 @@ bounds-s-at-then-holds-3 c = omega (arith, inside (goal.at.bounds-s-at-then-hold
 pub returns-then-holds : goal.returns-then-holds
 returns-then-holds c =
     let args = c.args in
-    le32-bytes args.s.now args.at _ _ (c.wide32.ensures ∙ c.pair-low.ensures) (c.wide32-then-holds.ensures ∙ c.pair.ensures)
+    le32-bytes args.s.now args.at _ _ (c.from.ensures ∙ c.pair-low.ensures) (c.from-then-holds.ensures ∙ c.pair.ensures)
 
 pub returns-then-at-s : goal.returns-then-at-s
 unfolding le32_at
 returns-then-at-s c =
     λ i.
-    (c.wide32-then-at-s.ensures ∙ c.le16_at.ensures) i
-    + 65536 * (c.wide32-then-at-s-2.ensures ∙ c.le16_at-then-at-s.ensures) i
+    (c.from-then-at-s.ensures ∙ c.le16_at.ensures) i
+    + 65536 * (c.from-then-at-s-2.ensures ∙ c.le16_at-then-at-s.ensures) i
 
 pub returns-else-at-s : goal.returns-else-at-s
 returns-else-at-s c =

@@ -1,16 +1,22 @@
--- `catalogue::compare::fold` meets its contract: the tests are those of the definition. Assumes nothing.
-use borrow.Author.Tests.{le-leb, lt-leb}
+-- `catalogue::compare::fold` meets its contract: the library's letters are those of the definition. Assumes nothing.
+use Rattle.std.proofs.Common.{ltb, cond, ◌+◌, ℕ, ◌≡◌, ◌∙◌, arith}
+use Rattle.std.proofs.Math.Decide.{dec_lt}
+use borrow.Author.Tests.{le-leb, lt-leb, lt-ltb, le-ltb}
 use Rattle.catalogue.specs.Name.{folded}
 use Rattle.catalogue.proofs.compare.fold.Goals as goal
 
-pub returns-then-b-lt65 : goal.returns-then-b-lt65
+-- one test of a range is the other
+told : (b : ℕ) → cond (ltb b 65) b (cond (ltb b 91) (b + 32) b) ≡ folded b
 unfolding folded
-returns-then-b-lt65 c = rw (lt-leb 65 c.args.b c.if-b-lt65.true)
-
-pub returns-then-b-gt90 : goal.returns-then-b-gt90
-unfolding folded
-returns-then-b-gt90 c = rw (le-leb 65 c.args.b c.if-b-lt65.false, lt-leb c.args.b 90 c.if-b-gt90.true)
+told b =
+    elim (dec_lt b 65) [
+      | yes h ↦ rw (lt-ltb b 65 h, lt-leb 65 b h)
+      | no h ↦
+          elim (dec_lt b 91) [
+            | yes k ↦ rw (le-ltb b 65 (omega arith), lt-ltb b 91 k, le-leb 65 b (omega arith), le-leb b 90 (omega arith))
+            | no k ↦ rw (le-ltb b 65 (omega arith), le-ltb b 91 (omega arith), le-leb 65 b (omega arith), lt-leb b 90 (omega arith))
+          ]
+    ]
 
 pub returns : goal.returns
-unfolding folded
-returns c = rw (le-leb 65 c.args.b c.if-b-lt65.false, le-leb c.args.b 90 c.if-b-gt90.false)
+returns c = c.to_ascii_lowercase.ensures.value ∙ told c.args.b

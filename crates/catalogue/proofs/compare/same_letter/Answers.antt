@@ -10,10 +10,10 @@ pub returns-then-x-y : goal.returns-then-x-y
 returns-then-x-y c =
     let x = c.args.x in
     let y = c.args.y in
-    sym (eq-eqb (folded (x % 256)) (folded (y % 256)) (rw c.if-x-y.true refl))
+    eq-eqb x y c.if-x-y.true ∙ sym (eq-eqb (folded (x % 256)) (folded (y % 256)) (rw c.if-x-y.true refl))
 
-pub returns : goal.returns
-returns c =
+pub returns-else-x-y : goal.returns-else-x-y
+returns-else-x-y c =
     let first = c.fold.ensures ∙ ap folded c.low8.ensures in
-    let second = c.fold-2.ensures ∙ ap folded c.low8-2.ensures in
-    ap (λ a. eqb a c.fold-2.result) first ∙ ap (λ b. eqb (folded (c.args.x % 256)) b) second
+    let second = c.fold-else-x-y.ensures ∙ ap folded c.low8-else-x-y.ensures in
+    ap (λ a. eqb a c.fold-else-x-y.result) first ∙ ap (λ b. eqb (folded (c.args.x % 256)) b) second

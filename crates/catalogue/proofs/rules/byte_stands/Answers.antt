@@ -3,14 +3,14 @@ use borrow.Author.Tests.{le-leb, lt-leb}
 use Rattle.catalogue.specs.InWords.{byte_stands}
 use Rattle.catalogue.proofs.rules.byte_stands.Goals as goal
 
-pub returns-then-x-gt255 : goal.returns-then-x-gt255
-unfolding byte_stands
-returns-then-x-gt255 c = rw (lt-leb c.args.x 255 c.if-x-gt255.true)
-
 pub returns-then-n-k : goal.returns-then-n-k
 unfolding byte_stands
-returns-then-n-k c = rw (le-leb c.args.x 255 c.if-x-gt255.false, le-leb c.args.n c.args.k c.if-n-k.true)
+returns-then-n-k c = rw (le-leb c.args.x 255 c.if-x-le255.true, le-leb c.args.n c.args.k c.if-n-k.true)
 
-pub returns : goal.returns
+pub returns-else-n-k : goal.returns-else-n-k
 unfolding byte_stands
-returns c = rw (le-leb c.args.x 255 c.if-x-gt255.false, lt-leb c.args.n c.args.k c.if-n-k.false)
+returns-else-n-k c = rw (le-leb c.args.x 255 c.if-x-le255.true, lt-leb c.args.n c.args.k c.if-n-k.false)
+
+pub returns-else-x-le255 : goal.returns-else-x-le255
+unfolding byte_stands
+returns-else-x-le255 c = rw (lt-leb c.args.x 255 c.if-x-le255.false)

@@ -10,12 +10,12 @@ returns-then-words-gt16 c =
     let w = c.args.words.now in
     rw (catalogue-tested w, lt-leb (word w 0) 16 c.if-words-gt16.true)
 
-pub returns-then-not-names_stand : goal.returns-then-not-names_stand
-returns-then-not-names_stand c =
+pub returns-then-names_stand : goal.returns-then-names_stand
+returns-then-names_stand c =
     let w = c.args.words.now in
-    rw (catalogue-tested w, le-leb (word w 0) 16 c.if-words-gt16.false, sym c.names_stand.ensures ∙ c.if-not-names_stand.true)
+    rw (catalogue-tested w, le-leb (word w 0) 16 c.if-words-gt16.false, sym c.names_stand.ensures ∙ c.if-names_stand.true) c.none_doubled.ensures
 
-pub returns : goal.returns
-returns c =
+pub returns-else-names_stand : goal.returns-else-names_stand
+returns-else-names_stand c =
     let w = c.args.words.now in
-    rw (catalogue-tested w, le-leb (word w 0) 16 c.if-words-gt16.false, sym c.names_stand.ensures ∙ c.if-not-names_stand.false) c.none_doubled.ensures
+    rw (catalogue-tested w, le-leb (word w 0) 16 c.if-words-gt16.false, sym c.names_stand.ensures ∙ c.if-names_stand.false) c.if-names_stand.false

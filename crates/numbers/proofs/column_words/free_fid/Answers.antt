@@ -8,9 +8,9 @@ use Rattle.numbers.specs.ColumnWords.{numbers_in, fids-in}
 use Rattle.numbers.proofs.column_words.free_fid.Goals as goal
 
 pub smallest_free-requires : goal.smallest_free-requires
-smallest_free-requires c = let few = c.at_most.ensures in (omega arith, (omega arith, omega arith))
+smallest_free-requires c = let few = c.in_use.ensures in (omega arith, (omega arith, omega arith))
 
 pub returns : goal.returns
 returns c =
     let w = c.args.words.now in
-    c.smallest_free.ensures ∙ ap smallest_free (ap (λ (n : ℕ). numbers_in 9 n w) c.at_most.ensures ∙ fids-in w)
+    c.smallest_free.ensures ∙ ap smallest_free (ap (λ (n : ℕ). numbers_in 9 n w) c.in_use.ensures ∙ fids-in w)

@@ -8,9 +8,9 @@ use Rattle.numbers.specs.ColumnWords.{numbers_in, tids-in}
 use Rattle.numbers.proofs.column_words.has_tree.Goals as goal
 
 pub has_number-requires : goal.has_number-requires
-has_number-requires c = let few = c.at_most.ensures in (omega arith, (omega arith, omega arith))
+has_number-requires c = let few = c.in_use.ensures in (omega arith, (omega arith, omega arith))
 
 pub returns : goal.returns
 returns c =
     let w = c.args.words.now in
-    c.has_number.ensures ∙ ap (contains c.args.tid) (ap (λ (n : ℕ). numbers_in 3 n w) c.at_most.ensures ∙ tids-in w)
+    c.has_number.ensures ∙ ap (contains c.args.tid) (ap (λ (n : ℕ). numbers_in 3 n w) c.in_use.ensures ∙ tids-in w)

@@ -15,9 +15,6 @@ pub loop-i-init : goal.loop-i-init
 unfolding marks_of by_number up_to entry
 loop-i-init c = (omega arith, rw (rest-none (numbers_in c.args.step c.args.count c.args.words.now) c.args.count c.args.count (omega arith)))
 
-pub overflow_sub-i : goal.overflow_sub-i
-overflow_sub-i c = omega arith
-
 pub overflow_mul-step : goal.overflow_mul-step
 overflow_mul-step c =
     let args = c.args in
@@ -54,15 +51,6 @@ bounds-words-step c =
     let at = number-inside args.step args.count (loop.i - 1) (length w) pre.0 (omega arith) pre.1.1 in
     omega arith
 
-pub overflow_cast-number : goal.overflow_cast-number
-overflow_cast-number c = omega arith
-
-pub bounds-marks-number : goal.bounds-marks-number
-bounds-marks-number c = omega arith
-
-pub loop-i-smaller-then-number-lt66 : goal.loop-i-smaller-then-number-lt66
-loop-i-smaller-then-number-lt66 c = omega arith
-
 pub loop-i-preserved-then-number-lt66 : goal.loop-i-preserved-then-number-lt66
 loop-i-preserved-then-number-lt66 c =
     let args = c.args in
@@ -73,9 +61,6 @@ loop-i-preserved-then-number-lt66 c =
     let long : length xs ≡ args.count = length-numbers_in args.step args.count w in
     let same = number_at args.step args.count w (loop.i - 1) 0 (omega arith) ∙ sym c.low16-number.ensures in
     (omega arith, rw loop.invariant.1 (marks-turn xs args.count loop.i _ c.loop-i-test.true loop.invariant.0 (omega arith) same c.if-number-lt66.true))
-
-pub loop-i-smaller : goal.loop-i-smaller
-loop-i-smaller c = omega arith
 
 pub loop-i-preserved : goal.loop-i-preserved
 loop-i-preserved c =

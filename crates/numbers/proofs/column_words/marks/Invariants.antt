@@ -6,6 +6,3 @@ use Rattle.numbers.proofs.column_words.marks.Given as goal
 
 abbrev pub invariant-loop-i : goal.invariant-loop-i
 invariant-loop-i l = (l.i ≤ l.count) × (l.marks ≡ marks_of (rest (numbers_in l.step l.count l.words) l.count l.i))
-
-abbrev pub decreases-loop-i : goal.decreases-loop-i
-decreases-loop-i l = l.i

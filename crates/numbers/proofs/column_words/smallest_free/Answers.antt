@@ -12,19 +12,7 @@ use native.Mathlib.Omega.{arith}
 use Rattle.numbers.proofs.column_words.smallest_free.Goals as goal
 
 pub loop-i-init : goal.loop-i-init
-loop-i-init c = (omega arith, ap (λ (k : ℕ). free_from k 1 (numbers_in c.args.step c.args.count c.args.words.now)) (omega arith))
-
-pub overflow_add-i : goal.overflow_add-i
-overflow_add-i c = omega arith
-
-pub bounds-table-i : goal.bounds-table-i
-bounds-table-i c = omega arith
-
-pub overflow_add-result : goal.overflow_add-result
-overflow_add-result c = omega arith
-
-pub overflow_cast-result : goal.overflow_cast-result
-overflow_cast-result c = omega arith
+loop-i-init c = (ap (λ (k : ℕ). free_from k 1 (numbers_in c.args.step c.args.count c.args.words.now)) (omega arith))
 
 pub returns-then-table-i-ne1 : goal.returns-then-table-i-ne1
 unfolding smallest_free
@@ -36,13 +24,7 @@ returns-then-table-i-ne1 c =
     let xs = numbers_in args.step args.count w in
     let long : length xs ≡ args.count = length-numbers_in args.step args.count w in
     let mark = ap (λ (t : List ℕ). eqb (get_or t (loop.i + 1) 0) 1) c.marks-table.ensures ∙ marks-read xs (loop.i + 1) (omega arith) in
-    rw long (sym (loop.invariant.1 ∙ free-here args.count loop.i (loop.i + 1) xs c.loop-i-test.true (sym mark ∙ ne_eqb _ _ c.if-table-i-ne1.true)))
-
-pub overflow_add-i-in-loop-i : goal.overflow_add-i-in-loop-i
-overflow_add-i-in-loop-i c = omega arith
-
-pub loop-i-smaller : goal.loop-i-smaller
-loop-i-smaller c = omega arith
+    rw long (sym (loop.invariant ∙ free-here args.count loop.i (loop.i + 1) xs c.loop-i-test.true (sym mark ∙ ne_eqb _ _ c.if-table-i-ne1.true)))
 
 pub loop-i-preserved : goal.loop-i-preserved
 loop-i-preserved c =
@@ -53,13 +35,7 @@ loop-i-preserved c =
     let xs = numbers_in args.step args.count w in
     let long : length xs ≡ args.count = length-numbers_in args.step args.count w in
     let mark = ap (λ (t : List ℕ). eqb (get_or t (loop.i + 1) 0) 1) c.marks-table.ensures ∙ marks-read xs (loop.i + 1) (omega arith) in
-    (omega arith, loop.invariant.1 ∙ free-next args.count loop.i (loop.i + 1) xs c.loop-i-test.true (sym mark ∙ eq-eqb _ _ c.if-table-i-ne1.false))
-
-pub overflow_add-result-2 : goal.overflow_add-result-2
-overflow_add-result-2 c = omega arith
-
-pub overflow_cast-result-2 : goal.overflow_cast-result-2
-overflow_cast-result-2 c = omega arith
+    (loop.invariant ∙ free-next args.count loop.i (loop.i + 1) xs c.loop-i-test.true (sym mark ∙ eq-eqb _ _ c.if-table-i-ne1.false))
 
 pub returns : goal.returns
 unfolding smallest_free
@@ -70,4 +46,5 @@ returns c =
     let loop = c.loop-i in
     let xs = numbers_in args.step args.count w in
     let long : length xs ≡ args.count = length-numbers_in args.step args.count w in
-    rw long (sym (loop.invariant.1 ∙ free-last args.count loop.i (loop.i + 1) xs c.loop-i-test.false))
+    let end : args.count + 1 ≡ loop.i + 1 = omega arith in
+    rw long (end ∙ sym (loop.invariant ∙ free-last args.count loop.i (loop.i + 1) xs c.loop-i-test.false))

@@ -23,8 +23,8 @@ bounds-words-at-5 c = simp length-set (omega arith)
 pub returns : goal.returns
 unfolding lock_array
 returns c =
-    let start = c.before.before.before.before in
+    let start = c in
     let args = start.args in
     let narrow : Within lock_limits (lock_words args.l) = (omega arith, (omega arith, (omega arith, (omega arith, (flag-narrow args.l.shared, tt))))) in
-    rw c.flag.ensures
+    rw (c.from.ensures, c.from-2.ensures, c.flag.ensures)
     (wrote lock_of lock_limits 128 args.words.now (lock_words args.l) args.i args.l start.requires.1 start.requires.0 refl narrow (lock-back args.l narrow))

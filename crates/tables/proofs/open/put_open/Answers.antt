@@ -39,5 +39,5 @@ pub returns : goal.returns
 unfolding open_array
 returns c =
     let narrow : Within open_limits (open_words c.args.o) = (omega arith, (omega arith, (omega arith, (omega arith, (omega arith, (omega arith, (omega arith, (flag-narrow c.args.o.read, (omega arith, tt))))))))) in
-    rw c.flag.ensures
+    rw (c.from.ensures, c.from-2.ensures, c.from-3.ensures, c.from-4.ensures, c.from-5.ensures, c.from-6.ensures, c.from-7.ensures, c.flag.ensures)
     (wrote open_of open_limits 64 c.args.words.now (open_words c.args.o) c.args.i c.args.o c.requires.1 c.requires.0 refl narrow (open-back c.args.o narrow))

@@ -14,7 +14,8 @@ bounds-words-at-2 c = simp length-set (omega arith)
 pub returns : goal.returns
 unfolding session_array
 returns c =
-    let start = c.before.before in
+    let start = c in
     let args = start.args in
     let narrow : Within session_limits (session_words args.s) = (omega arith, (omega arith, tt)) in
-    wrote session_of session_limits 16 args.words.now (session_words args.s) args.i args.s start.requires.1 start.requires.0 refl narrow (session-back args.s narrow)
+    rw (c.from.ensures, c.from-2.ensures)
+    (wrote session_of session_limits 16 args.words.now (session_words args.s) args.i args.s start.requires.1 start.requires.0 refl narrow (session-back args.s narrow))

@@ -17,7 +17,8 @@ bounds-words-at-3 c = simp length-set (omega arith)
 pub returns : goal.returns
 unfolding tree_array
 returns c =
-    let start = c.before.before.before in
+    let start = c in
     let args = start.args in
     let narrow : Within tree_limits (tree_words args.t) = (omega arith, (omega arith, (omega arith, tt))) in
-    wrote tree_of tree_limits 32 args.words.now (tree_words args.t) args.i args.t start.requires.1 start.requires.0 refl narrow (tree-back args.t narrow)
+    rw (c.from.ensures, c.from-2.ensures, c.from-3.ensures)
+    (wrote tree_of tree_limits 32 args.words.now (tree_words args.t) args.i args.t start.requires.1 start.requires.0 refl narrow (tree-back args.t narrow))
