@@ -10,8 +10,7 @@ use borrow.Author.Tests.{eq-eqb}
 use native.Mathlib.Omega.{arith}
 use Rattle.lists.specs.Walk.{found, found_from}
 use Rattle.lists.specs.FoundLaws.{first_of, shifted, found-append, found_from-no}
-use Rattle.lists.specs.declared.Found.{Found}
-use Rattle.lists.specs.declared.Found.TheVariants.{At, Nothing}
+use Rattle.std.specs.Prelude.{Option, Some, None}
 use Rattle.records.specs.declared.Lock.{Lock}
 use Rattle.locks.specs.Range.{overlaps, passes_end}
 use Rattle.locks.specs.Answer.{bars, in_way, answers_for, answers}
@@ -30,11 +29,11 @@ unfolding range_passes
 range-passes e f g = rw (← e, ← f) g
 
 -- a walk that finds nothing leaves it to the other ranges
-after-granted : (f : Found) (list : List Lock) (g : Grants) (l : List Lock) → (Nothing ≡ blocked_at g → g ≡ granted l) → Nothing ≡ blocked_at (after_walk f list g)
+after-granted : (f : Option ℕ) (list : List Lock) (g : Grants) (l : List Lock) → (None ≡ blocked_at g → g ≡ granted l) → None ≡ blocked_at (after_walk f list g)
     → after_walk f list g ≡ granted l
 unfolding blocked_at after_walk
-after-granted (At k) list g l h e = let no : ◌≡◌ {A = ℕ} 0 1 = cc in absurd (omega arith)
-after-granted Nothing list g l h e = h e
+after-granted (Some k) list g l h e = let no : ◌≡◌ {A = ℕ} 0 1 = cc in absurd (omega arith)
+after-granted None list g l h e = h e
 
 -- a walk that starts at a place counts from 0 there
 pub found-whole : {A : Type 0} (p : A → Bool) (from : ℕ) (l : List A) → found p l ≡ found_from (from - from) p l
@@ -67,7 +66,7 @@ module _ (file : ℕ → ℕ) (fid : ℕ) (shared : Bool) (r : LockRange) where
   unfolding answers answers_for in_way bars ask_of lock_of range_meets
   exclusive-meets e x = rw (e, eq-eqb (file fid) (file fid) refl, and-true)
 
-  none-bars : shared ≡ true → (xs : List LockRange) (k : ℕ) → Nothing ≡ found_from k (answers file (ask_of fid (Grant shared) r)) (map (lock_of fid shared) xs)
+  none-bars : shared ≡ true → (xs : List LockRange) (k : ℕ) → None ≡ found_from k (answers file (ask_of fid (Grant shared) r)) (map (lock_of fid shared) xs)
   unfolding found_from
   none-bars e [] k = refl
   none-bars e (x ∷ xs) k = rw (shared-never e x) (none-bars e xs (suc k))
@@ -79,7 +78,7 @@ module _ (file : ℕ → ℕ) (fid : ℕ) (shared : Bool) (r : LockRange) where
   meets-bars e (x ∷ xs) k = rw (exclusive-meets e x, meets-bars e xs (suc k))
 
   -- none of a shared request's own locks is found
-  pub own-shared : shared ≡ true → (xs : List LockRange) → Nothing ≡ found (answers file (ask_of fid (Grant shared) r)) (map (lock_of fid shared) xs)
+  pub own-shared : shared ≡ true → (xs : List LockRange) → None ≡ found (answers file (ask_of fid (Grant shared) r)) (map (lock_of fid shared) xs)
   unfolding found
   own-shared e xs = none-bars e xs 0
 
@@ -119,7 +118,7 @@ module _ (q : Request) (s : List ℕ) where
 
 module _ (file : ℕ → ℕ) (fid : ℕ) (shared : Bool) where
   -- where nothing stands in the way all locks are granted, in order
-  pub granted-all : (rs : List LockRange) (list : List Lock) → Nothing ≡ blocked_at (grant_all file fid shared rs list)
+  pub granted-all : (rs : List LockRange) (list : List Lock) → None ≡ blocked_at (grant_all file fid shared rs list)
       → grant_all file fid shared rs list ≡ granted (list ++ map (lock_of fid shared) rs)
   unfolding grant_all
   granted-all [] list e = ap granted (sym (append-nil list))
@@ -136,13 +135,13 @@ module _ (file : ℕ → ℕ) (q : Request) (s : List ℕ) (list : List Lock) wh
 
   module _ (k : ℕ) where
     -- a lock in the way of range k blocks the request
-    pub grant-stop : (rs : List LockRange) (place : ℕ) → At place ≡ conflict_of file q s k list
+    pub grant-stop : (rs : List LockRange) (place : ℕ) → Some place ≡ conflict_of file q s k list
         → grant_all file q.fid q.shared (nth q s k ∷ rs) (along q s list k) ≡ blocked (holder_at (along q s list k) place)
     unfolding grant_all after_walk conflict_of
     grant-stop rs place e = rw (← e)
 
     -- with none in its way it is granted
-    pub grant-more : (rs : List LockRange) → q.unlocks ≤ k → Nothing ≡ conflict_of file q s k list
+    pub grant-more : (rs : List LockRange) → q.unlocks ≤ k → None ≡ conflict_of file q s k list
         → grant_all file q.fid q.shared (nth q s k ∷ rs) (along q s list k) ≡ grant_all file q.fid q.shared rs (along q s list (k + 1))
     unfolding grant_all after_walk conflict_of
     grant-more rs h e = rw (← e, along-more q s list k h)
@@ -152,16 +151,16 @@ module _ (file : ℕ → ℕ) (q : Request) (s : List ℕ) (list : List Lock) wh
     asked = answers file (ask_of q.fid (Grant q.shared) (nth q s k))
 
     -- a listed lock is in the way of range k
-    pub conflict-listed : (place : ℕ) → At place ≡ found asked list → At place ≡ conflict_of file q s k list
+    pub conflict-listed : (place : ℕ) → Some place ≡ found asked list → Some place ≡ conflict_of file q s k list
     unfolding conflict_of first_of
     conflict-listed place e = rw (found-append, ← e)
 
     -- none is, and none of the request's own
-    pub conflict-none : Nothing ≡ found asked list → Nothing ≡ found asked (own q s k) → Nothing ≡ conflict_of file q s k list
+    pub conflict-none : None ≡ found asked list → None ≡ found asked (own q s k) → None ≡ conflict_of file q s k list
     unfolding conflict_of first_of shifted
     conflict-none e g = rw (found-append, ← e, ← g)
 
     -- none is, but one of the request's own
-    pub conflict-own : (place n : ℕ) → length list ≡ n → Nothing ≡ found asked list → At place ≡ found asked (own q s k) → At (n + place) ≡ conflict_of file q s k list
+    pub conflict-own : (place n : ℕ) → length list ≡ n → None ≡ found asked list → Some place ≡ found asked (own q s k) → Some (n + place) ≡ conflict_of file q s k list
     unfolding conflict_of first_of shifted
     conflict-own place n l e g = rw (found-append, ← e, ← g, l)

@@ -11,8 +11,7 @@ use lib.Seq.{get_or-append-add}
 use native.Mathlib.Omega.{arith}
 use Rattle.lists.specs.Walk.{found}
 use Rattle.lists.specs.FoundLaws.{found_below}
-use Rattle.lists.specs.declared.Found.{Found}
-use Rattle.lists.specs.declared.Found.TheVariants.{At, Nothing}
+use Rattle.std.specs.Prelude.{Option, Some, None}
 use Rattle.records.specs.Empty.{no_lock}
 use Rattle.records.specs.declared.Lock.{Lock}
 use Rattle.tables.specs.Words.{lock_array}
@@ -37,18 +36,18 @@ record InWhole (whole : List Lock) (place : ℕ) (g : Grants) : Type 0 where
   pub below : place < length whole
 
 -- the list found it, or the ranges behind
-in_whole : (f : Found) (list more : List Lock) (g : Grants) (place : ℕ) → ((k : ℕ) → f ≡ At k → k < length list)
-    → (At place ≡ blocked_at g → InWhole (list ++ more) place g) → At place ≡ blocked_at (after_walk f list g) → InWhole (list ++ more) place (after_walk f list g)
+in_whole : (f : Option ℕ) (list more : List Lock) (g : Grants) (place : ℕ) → ((k : ℕ) → f ≡ Some k → k < length list)
+    → (Some place ≡ blocked_at g → InWhole (list ++ more) place g) → Some place ≡ blocked_at (after_walk f list g) → InWhole (list ++ more) place (after_walk f list g)
 unfolding blocked_at after_walk holder_at
-in_whole (At k) list more g place low next e =
+in_whole (Some k) list more g place low next e =
     let same : place ≡ k = cc in
     let below : k < length list = low k refl in
     let n = length-append list more in
     rw same (record { same = ap blocked (holder-front list more k below); below = omega arith })
-in_whole Nothing list more g place low next e = next e
+in_whole None list more g place low next e = next e
 
 module _ (file : ℕ → ℕ) (fid : ℕ) (shared : Bool) where
-  blocked-whole : (rs : List LockRange) (list : List Lock) (place : ℕ) → At place ≡ blocked_at (grant_all file fid shared rs list)
+  blocked-whole : (rs : List LockRange) (list : List Lock) (place : ℕ) → Some place ≡ blocked_at (grant_all file fid shared rs list)
       → InWhole (list ++ map (lock_of fid shared) rs) place (grant_all file fid shared rs list)
   unfolding grant_all blocked_at
   blocked-whole [] list place e = let no : ◌≡◌ {A = ℕ} 0 1 = cc in absurd (omega arith)
@@ -59,7 +58,7 @@ module _ (file : ℕ → ℕ) (fid : ℕ) (shared : Bool) where
       (λ h. rw (append_assoc list (lock_of fid shared r ∷ []) (map (lock_of fid shared) rs)) at (blocked-whole rs (list ++ (lock_of fid shared r ∷ [])) place h))
       e
 
-  module _ (rs : List LockRange) (list : List Lock) (place : ℕ) (e : At place ≡ blocked_at (grant_all file fid shared rs list)) where
+  module _ (rs : List LockRange) (list : List Lock) (place : ℕ) (e : Some place ≡ blocked_at (grant_all file fid shared rs list)) where
     pub blocked-at : grant_all file fid shared rs list ≡ blocked (holder_at (list ++ map (lock_of fid shared) rs) place)
     blocked-at = (blocked-whole rs list place e).same
 

@@ -17,7 +17,7 @@ use Rattle.tables.specs.ChangeLaws.{length-lock_array, count_set, fit_count}
 use Rattle.tables.specs.FitLaws.{fit-wrote}
 
 -- as many are held as are in use
-held-in-use : (w : List ℕ) → length (locks_in w) ≡ in_use w 128
+pub held-in-use : (w : List ℕ) → length (locks_in w) ≡ in_use w 128
 held-in-use w = length-take-most (lock_array w) (word w 0) 128 (length-lock_array w)
 
 -- which is the count, where it is one of the table's

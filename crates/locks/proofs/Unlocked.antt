@@ -4,7 +4,7 @@ use mathlib.Core.Path.{◌≡◌, sym, ap, ◌∙◌}
 use Prim.Native.Nat.{ℕ, ◌-◌, ◌≤◌, ◌<◌}
 use mathlib.Core.Bool.{Bool}
 use mathlib.Core.List.{List, ◌∷◌}
-use mathlib.Core.Option.{none}
+use Rattle.std.specs.Prelude.{None, Option, Some}
 use lib.ListN.{length, take}
 use lib.Seq.{length-take-le}
 use native.Mathlib.Omega.{arith}
@@ -12,8 +12,6 @@ use Rattle.lists.specs.Walk.{found}
 use Rattle.lists.specs.FoundLaws.{found_below}
 use Rattle.lists.specs.Stored.{stored}
 use Rattle.lists.specs.StoredLaws.{stored_same, stored-stored, take-stored}
-use Rattle.lists.specs.declared.Found.{Found}
-use Rattle.lists.specs.declared.Found.TheVariants.{At, Nothing}
 use Rattle.records.specs.Empty.{no_lock}
 use Rattle.records.specs.declared.Lock.{Lock}
 use Rattle.locks.specs.Answer.{answers}
@@ -25,18 +23,18 @@ use Rattle.locks.proofs.Removed.{length-remove_at}
 
 module _ (file : ℕ → ℕ) (fid : ℕ) where
   -- `f` is what the walk for the lock of range r yields, by the range that was read and by what was asked
-  module _ (r : LockRange) (list : List Lock) {range : LockRange} {ask : Ask} {f : Found} (read : range ≡ r) (asked : ask ≡ ask_of fid Release range)
+  module _ (r : LockRange) (list : List Lock) {range : LockRange} {ask : Ask} {f : Option ℕ} (read : range ≡ r) (asked : ask ≡ ask_of fid Release range)
       (walked : f ≡ found (answers file ask) list) where
     sought : found (answers file (ask_of fid Release r)) list ≡ f
     sought = sym (walked ∙ (λ i. found (answers file (asked i)) list) ∙ (λ i. found (answers file (ask_of fid Release (read i))) list))
 
     -- a range that names a lock takes it out of the list
-    pub release-more : (rs : List LockRange) {place : ℕ} → f ≡ At place → release_all file fid (r ∷ rs) list ≡ release_all file fid rs (remove_at place list)
+    pub release-more : (rs : List LockRange) {place : ℕ} → f ≡ Some place → release_all file fid (r ∷ rs) list ≡ release_all file fid rs (remove_at place list)
     unfolding release_all after_find
     release-more rs e = rw (sought, e)
 
     -- one that names none ends the unlocks
-    pub release-stop : (rs : List LockRange) → f ≡ Nothing → release_all file fid (r ∷ rs) list ≡ none
+    pub release-stop : (rs : List LockRange) → f ≡ None → release_all file fid (r ∷ rs) list ≡ None
     unfolding release_all after_find
     release-stop rs e = rw (sought, e)
 
@@ -62,7 +60,7 @@ module _ {locks : List Lock} {count : ℕ} {left : List Lock} {held : ℕ} (l : 
       ∙ stored-stored no_lock locks count (take held left) m b
 
   -- a place found in the list is one of its records
-  pub left_below : (p : Lock → Bool) (place : ℕ) → found p (take held left) ≡ At place → place < held
+  pub left_below : (p : Lock → Bool) (place : ℕ) → found p (take held left) ≡ Some place → place < held
   left_below p place e = rw l.long at (found_below p (take held left) place e)
 
   module _ {place : ℕ} (below : place < held) {next : List Lock} (e : next ≡ stored no_lock left held (remove_at place (take held left))) where

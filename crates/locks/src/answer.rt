@@ -7,7 +7,8 @@ use crate::range::overlap;
 use crate::types::{Ask, Purpose};
 use records::Lock;
 
-// The file of a FID, 255 where the table has none.
+// The file of a FID, 255 where the table has none, as the definitions have it.
+#[tactic(auto, unfolding(crate::specs::Answer::file_in))]
 pub fn file_in(files: &[u8; 65], fid: u16) -> u8
     ensures { result ≡ file_in files.now fid }
 {
@@ -17,66 +18,41 @@ pub fn file_in(files: &[u8; 65], fid: u16) -> u8
 }
 
 // Whether the lock is the asker's: "An owner is a FID with a process."
+#[tactic(auto, unfolding(crate::specs::Answer::owns))]
 fn owned(q: Ask, l: Lock) -> bool
     ensures { result ≡ owns q l }
 {
-    if l.fid != q.fid {
-        return false;
-    }
-    l.process == q.process
+    l.fid == q.fid && l.process == q.process
 }
 
 // Whether an overlapping lock of the same file stands in the way of what is asked.
+#[tactic(auto, unfolding(crate::specs::Answer::bars))]
 fn barring(q: Ask, l: Lock) -> bool
     ensures { result ≡ bars q.purpose q l }
 {
-    let purpose = q.purpose;
-    match purpose {
-        Purpose::Grant(shared) => {
-            if l.shared {
-                return !shared;
-            }
-            true
-        }
-        Purpose::Read => {
-            if l.shared {
-                return false;
-            }
-            !owned(q, l)
-        }
-        Purpose::Write => {
-            if l.shared {
-                return true;
-            }
-            !owned(q, l)
-        }
+    match q.purpose {
+        Purpose::Grant(shared) => !(l.shared && shared),
+        Purpose::Read => !l.shared && !owned(q, l),
+        Purpose::Write => l.shared || !owned(q, l),
         Purpose::Release => false,
     }
 }
 
 // Whether the lock stands in the way of what is asked; the overlap is tested first, since most locks
 // lie elsewhere.
+#[tactic(auto, unfolding(crate::specs::Answer::in_way))]
 pub(crate) fn in_way(files: &[u8; 65], q: Ask, l: Lock) -> bool
     ensures { result ≡ in_way (file_in files.now) q l }
 {
-    if !overlap(l.offset, l.length, q.offset, q.length) {
-        return false;
-    }
-    if !barring(q, l) {
-        return false;
-    }
-    file_in(files, l.fid) == file_in(files, q.fid)
+    overlap(l.offset, l.length, q.offset, q.length)
+        && barring(q, l)
+        && file_in(files, l.fid) == file_in(files, q.fid)
 }
 
 // Whether the lock is the one that an unlock names.
+#[tactic(auto, unfolding(crate::specs::Answer::named))]
 pub(crate) fn is_named(q: Ask, l: Lock) -> bool
     ensures { result ≡ named q l }
 {
-    if l.offset != q.offset {
-        return false;
-    }
-    if l.length != q.length {
-        return false;
-    }
-    owned(q, l)
+    l.offset == q.offset && l.length == q.length && owned(q, l)
 }

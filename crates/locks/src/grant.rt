@@ -11,6 +11,7 @@ use crate::wire_form::range_at;
 use records::Lock;
 
 // What is asked of the list for one range of a request.
+#[tactic(auto, unfolding(crate::specs::Request::ask_of))]
 pub(crate) fn ask_of(fid: u16, purpose: Purpose, r: LockRange) -> Ask
     ensures { result ≡ ask_of fid purpose r }
 {
@@ -24,6 +25,7 @@ pub(crate) fn ask_of(fid: u16, purpose: Purpose, r: LockRange) -> Ask
 }
 
 // The lock that a range asks for.
+#[tactic(auto, unfolding(crate::specs::Request::lock_of))]
 pub(crate) fn lock_of(fid: u16, shared: bool, r: LockRange) -> Lock
     ensures { result ≡ lock_of fid shared r }
 {
@@ -41,13 +43,11 @@ pub(crate) fn some_passes(area: &[u8], large: bool, from: usize, to: usize) -> b
     requires { (from ≤ to) × (to < 131072) }
     ensures { result ≡ any range_passes (ranges_at large area.now from (to - from)) }
 {
-    let mut k = from;
-    while k < to {
+    for k in from..to {
         let r = range_at(area, large, k);
         if passes_end(r.offset, r.length) {
             return true;
         }
-        k += 1;
     }
     false
 }

@@ -1,6 +1,7 @@
 // Locks in the words of the list: "Then locks in order, each against the list as it stands, the
 // asker's own locks included, however long it gets". The request's own earlier ranges are read again
-// from the message, so that the words change only once all are granted.
+// from the message, so that the words change only once all are granted. `words`, `held`, `q` and `area` are handed on by themselves and
+// not as one struct: `append_locks` writes the words that the others only read.
 
 ghost use Rattle.std.specs.Prelude.{◌≡◌, true, ◌++◌, map, ◌+◌, ◌-◌, ◌<◌, ◌≤◌, length, take};
 ghost use Rattle.lists.specs.Walk.{found};
@@ -18,23 +19,20 @@ use crate::range::overlap;
 use crate::types::{Ask, Holder, Purpose, Request};
 use crate::walk::first_answer;
 use crate::wire_form::{range_at, range_of};
-use lists::Found;
 use tables::lock::{lock_at, put_lock};
 
 // The first of the ranges from..to that overlaps what is asked.
-fn first_overlap(area: &[u8], large: bool, from: usize, to: usize, q: Ask) -> Found
+fn first_overlap(area: &[u8], large: bool, from: usize, to: usize, q: Ask) -> Option<usize>
     requires { (from ≤ to) × (to < 131072) }
     ensures { result ≡ found (range_meets q.offset q.length) (ranges_at large area.now from (to - from)) }
 {
-    let mut k = from;
-    while k < to {
+    for k in from..to {
         let r = range_at(area, large, k);
         if overlap(r.offset, r.length, q.offset, q.length) {
-            return Found::At(k - from);
+            return Some(k - from);
         }
-        k += 1;
     }
-    Found::Nothing
+    None
 }
 
 // The first listed lock that stands in the way of range k, in the words or among the request's own
@@ -47,25 +45,21 @@ fn conflict_of(
     q: Request,
     area: &[u8],
     k: usize,
-) -> Found
+) -> Option<usize>
     requires words_len { (length words.now ≡ 641) × (held ≡ length (locks_in words.now)) }
     requires unlocks_le_k { (q.unlocks ≤ k) × (k < 131072) }
     ensures { result ≡ conflict_of (file_in files.now) q area.now k (locks_in words.now) }
 {
     let from = q.unlocks as usize;
     let ask = ask_of(q.fid, Purpose::Grant(q.shared), range_of(area, q, k));
-    let first = first_answer(files, words, ask);
-    if let Found::At(place) = first {
-        return Found::At(place);
+    if let Some(place) = first_answer(files, words, ask) {
+        return Some(place);
     }
     if q.shared {
-        return Found::Nothing;
+        return None;
     }
-    let own = first_overlap(area, q.large, from, k, ask);
-    let Found::At(place) = own else {
-        return Found::Nothing;
-    };
-    Found::At(held + place)
+    let own = first_overlap(area, q.large, from, k, ask)?;
+    Some(held + own)
 }
 
 // The place of the first lock in the way of the request's locks, taken in order.
@@ -75,21 +69,18 @@ pub(crate) fn first_conflict(
     held: usize,
     q: Request,
     area: &[u8],
-) -> Found
+) -> Option<usize>
     requires { (length words.now ≡ 641) × (held ≡ length (locks_in words.now)) }
     ensures { result ≡ blocked_at (grant_all (file_in files.now) q.fid q.shared (ranges_of q area.now q.unlocks q.locks) (locks_in words.now)) }
 {
     let from = q.unlocks as usize;
     let to = from + q.locks as usize;
-    let mut k = from;
-    while k < to {
-        let first = conflict_of(files, words, held, q, area, k);
-        if let Found::At(place) = first {
-            return Found::At(place);
+    for k in from..to {
+        if let Some(place) = conflict_of(files, words, held, q, area, k) {
+            return Some(place);
         }
-        k += 1;
     }
-    Found::Nothing
+    None
 }
 
 // Who holds the lock at a place: a listed one, or, behind those, the lock of one of the request's own
@@ -121,11 +112,9 @@ pub(crate) fn append_locks(words: &mut [u64], held: usize, q: Request, area: &[u
 {
     let from = q.unlocks as usize;
     let to = from + q.locks as usize;
-    let mut k = from;
-    while k < to {
+    for k in from..to {
         let at = held + (k - from);
         put_lock(words, at, lock_of(q.fid, q.shared, range_of(area, q, k)));
-        k += 1;
     }
     words[0] = (held + (to - from)) as u64;
 }

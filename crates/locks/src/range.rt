@@ -4,24 +4,17 @@ ghost use Rattle.std.specs.Prelude.{◌≡◌};
 ghost use Rattle.locks.specs.Range.{overlaps, passes_end};
 
 // Whether some byte is in both [a, a + n) and [b, b + m).
+#[tactic(auto, unfolding(crate::specs::Range::overlaps))]
 pub fn overlap(a: u64, n: u64, b: u64, m: u64) -> bool
     ensures { result ≡ overlaps a n b m }
 {
-    if n == 0 {
-        return false;
-    }
-    if m == 0 {
-        return false;
-    }
-    if a <= b { b - a < n } else { a - b < m }
+    n != 0 && m != 0 && if a <= b { b - a < n } else { a - b < m }
 }
 
 // Whether the range ends past 2^64.
+#[tactic(auto, unfolding(crate::specs::Range::passes_end))]
 pub fn passes_end(offset: u64, length: u64) -> bool
     ensures { result ≡ passes_end offset length }
 {
-    if length == 0 {
-        return false;
-    }
-    0xffff_ffff_ffff_ffff - offset < length - 1
+    length != 0 && u64::MAX - offset < length - 1
 }

@@ -2,7 +2,9 @@
 
 use records::Lock;
 
-// A range of a LOCKING request; a lock's process is the range's.
+// A range of a LOCKING request; a lock's process is the range's. Process, offset and length stand in `Ask` and `records::Lock` once
+// more and not as a field of this type: the definitions of specs/ (`owns`, `in_way`, `ask_of`, `lock_of`) and the theorems over them
+// name them there.
 #[derive(Clone, Copy)]
 pub struct LockRange {
     pub process: u32,
@@ -50,10 +52,9 @@ pub struct Holder {
     pub place: usize,
 }
 
-// How a LOCKING request ends. A conflict names the holder.
+// Why a LOCKING request is refused. A conflict names the holder.
 #[derive(Clone, Copy)]
-pub enum Outcome {
-    Done,
+pub enum LockRefusal {
     Malformed,
     NoSuchLock,
     PassesEnd,
@@ -61,10 +62,10 @@ pub enum Outcome {
     NoRecord,
 }
 
-// The outcome, and the lock list after the request.
+// How a LOCKING request ends, and the lock list after it: the type of what `specs/Request.antt` says of one.
 #[derive(Clone, Copy)]
 pub struct Locking {
-    pub outcome: Outcome,
+    pub outcome: Result<(), LockRefusal>,
     pub locks: [Lock; 128],
     pub count: usize,
 }

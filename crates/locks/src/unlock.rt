@@ -11,12 +11,12 @@ ghost use Rattle.locks.specs.Request.{ranges_of, remove_at, release_all};
 ghost use Rattle.locks.specs.Changed.{Unlocks};
 
 use crate::grant::ask_of;
-use crate::types::{Purpose, Request};
+use crate::types::{LockRefusal, Purpose, Request};
 use crate::walk::first_answer;
 use crate::wire_form::range_of;
-use lists::Found;
 use records::Lock;
 use tables::lock::{lock_at, put_lock};
+use tables::record::Record;
 
 // The record at a place taken out: those behind it move forward, and the last is emptied.
 fn remove_at(words: &mut [u64], place: usize)
@@ -26,39 +26,31 @@ fn remove_at(words: &mut [u64], place: usize)
     ensures words_after_3 { table_fits lock_limits 128 words.old ≡ true → table_fits lock_limits 128 words.new ≡ true }
 {
     let count = words[0] as usize;
-    let mut i = place + 1;
-    while i < count {
+    for i in place + 1..count {
         let l = lock_at(words, i);
         put_lock(words, i - 1, l);
-        i += 1;
     }
-    let none = Lock {
-        fid: 0,
-        process: 0,
-        offset: 0,
-        length: 0,
-        shared: false,
-    };
-    put_lock(words, count - 1, none);
+    put_lock(words, count - 1, Lock::EMPTY);
     words[0] = (count - 1) as u64;
 }
 
-// The unlocks of a request, in order: the first ranges of the area. True if each names a lock; if
-// not, the words are left as they are then.
-pub(crate) fn release_all(files: &[u8; 65], words: &mut [u64], q: Request, area: &[u8]) -> bool
+// The unlocks of a request, in order: the first ranges of the area. Where one names no lock, the words are left as they are then.
+pub(crate) fn release_all(
+    files: &[u8; 65],
+    words: &mut [u64],
+    q: Request,
+    area: &[u8],
+) -> Result<(), LockRefusal>
     requires { (length words.old ≡ 641) × (word words.old 0 ≤ 128) }
     ensures unlocks { Unlocks (release_all (file_in files.now) q.fid (ranges_of q area.now 0 q.unlocks) (locks_in words.old)) words.old words.new result }
     ensures words_after { table_fits lock_limits 128 words.old ≡ true → table_fits lock_limits 128 words.new ≡ true }
 {
-    let unlocks = q.unlocks as usize;
-    let mut k: usize = 0;
-    while k < unlocks {
+    for k in 0..q.unlocks as usize {
         let r = range_of(area, q, k);
-        let Found::At(place) = first_answer(files, words, ask_of(q.fid, Purpose::Release, r)) else {
-            return false;
+        let Some(place) = first_answer(files, words, ask_of(q.fid, Purpose::Release, r)) else {
+            return Err(LockRefusal::NoSuchLock);
         };
         remove_at(words, place);
-        k += 1;
     }
-    true
+    Ok(())
 }

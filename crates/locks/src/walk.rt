@@ -12,7 +12,7 @@ ghost use Rattle.locks.specs.Answer.{file_in, in_way, named, answers};
 use crate::answer::{in_way, is_named};
 use crate::range::overlap;
 use crate::types::{Ask, Purpose};
-use lists::Found;
+use tables::fit::in_use;
 use tables::lock::lock_at;
 
 // Whether the lock at a place stands in the way of what is asked.
@@ -27,25 +27,6 @@ fn stands_in_way(files: &[u8; 65], words: &[u64], i: usize, q: Ask) -> bool
     in_way(files, q, lock_at(words, i))
 }
 
-// The place of the first lock in the way of what is asked.
-fn first_in_way(files: &[u8; 65], words: &[u64], q: Ask) -> Found
-    requires { length words.now ≡ 641 }
-    ensures { result ≡ found (in_way (file_in files.now) q) (locks_in words.now) }
-{
-    let count = words[0] as usize;
-    let mut i: usize = 0;
-    while i < 128 {
-        if count <= i {
-            return Found::Nothing;
-        }
-        if stands_in_way(files, words, i, q) {
-            return Found::At(i);
-        }
-        i += 1;
-    }
-    Found::Nothing
-}
-
 // Whether the lock at a place is the one that an unlock names.
 fn named_at(words: &[u64], i: usize, q: Ask) -> bool
     requires { (length words.now ≡ 641) × (i < 128) }
@@ -58,35 +39,27 @@ fn named_at(words: &[u64], i: usize, q: Ask) -> bool
     is_named(q, lock_at(words, i))
 }
 
-// The place of the first lock that an unlock names.
-fn first_named(words: &[u64], q: Ask) -> Found
-    requires { length words.now ≡ 641 }
-    ensures { result ≡ found (named q) (locks_in words.now) }
+// Whether the lock at a place answers what is asked.
+#[tactic(auto, unfolding(crate::specs::Answer::answers, crate::specs::Answer::answers_for))]
+fn answers_at(files: &[u8; 65], words: &[u64], i: usize, q: Ask) -> bool
+    requires { (length words.now ≡ 641) × (i < 128) }
+    ensures { result ≡ answers (file_in files.now) q (get_or (lock_array words.now) i no_lock) }
 {
-    let count = words[0] as usize;
-    let mut i: usize = 0;
-    while i < 128 {
-        if count <= i {
-            return Found::Nothing;
-        }
-        if named_at(words, i, q) {
-            return Found::At(i);
-        }
-        i += 1;
+    match q.purpose {
+        Purpose::Release => named_at(words, i, q),
+        _ => stands_in_way(files, words, i, q),
     }
-    Found::Nothing
 }
 
 // The place of the first listed lock that answers what is asked.
-pub fn first_answer(files: &[u8; 65], words: &[u64], q: Ask) -> Found
+pub fn first_answer(files: &[u8; 65], words: &[u64], q: Ask) -> Option<usize>
     requires { length words.now ≡ 641 }
     ensures { result ≡ found (answers (file_in files.now) q) (locks_in words.now) }
 {
-    let purpose = q.purpose;
-    match purpose {
-        Purpose::Grant(_) => first_in_way(files, words, q),
-        Purpose::Read => first_in_way(files, words, q),
-        Purpose::Write => first_in_way(files, words, q),
-        Purpose::Release => first_named(words, q),
+    for i in 0..in_use(words, 128) {
+        if answers_at(files, words, i, q) {
+            return Some(i);
+        }
     }
+    None
 }

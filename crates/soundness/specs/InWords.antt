@@ -1,7 +1,7 @@
 -- The rules of soundness as they are tested in the words of a table: a record's words r against tables by number. Where a rule
 -- bounds a number below what its field can hold, the one test is both.
 -- Assumes nothing.
-use Rattle.std.specs.Prelude.{◌≡◌, ℕ, ◌+◌, ◌*◌, Bool, true, not, ◌&&◌, ◌||◌, List, map, length, take, get_or, leb, ltb, eqb}
+use Rattle.std.specs.Prelude.{ℕ, ◌+◌, ◌*◌, Bool, not, ◌&&◌, ◌||◌, List, map, length, take, get_or, leb, ltb, eqb, cond, Option, Some, None}
 use Rattle.lists.specs.Walk.{all}
 use Rattle.locks.specs.Range.{passes_end}
 use Rattle.records.specs.declared.Tree.{Tree}
@@ -25,10 +25,9 @@ table_in_order limits n f limit key ok w =
     table_fits limits n w
     && (numbered limit (map key (take (word w 0) (array_of f (length limits) n w))) && all ok (take (word w 0) (array_of f (length limits) n w)))
 
--- what a walk over a table says: its verdict and, if it holds, the table by number that it made
-pub record Told (verdict : Bool) (good : List ℕ) (sound : Bool) (table : List ℕ) : Type 0 where
-  pub says : sound ≡ verdict
-  pub made : sound ≡ true → table ≡ good
+-- what a walk over a table gives: where its verdict holds, the table by number that it made
+abbrev pub told : Bool → List ℕ → Option (List ℕ)
+told verdict good = cond verdict (Some good) None
 
 -- the number is marked with 1
 unfoldable pub marked : List ℕ → ℕ → Bool

@@ -7,20 +7,18 @@ ghost use Rattle.soundness.specs.Sound.{file_ok};
 
 use tables::file::LARGEST;
 
+// The largest size of a file.
+const SIZE: u64 = 4096;
+
 // The rule for each file.
 pub(crate) fn files_ok(words: &[u64]) -> bool
     requires { length words.now ≡ 32 }
     ensures { result ≡ all file_ok (file_array words.now) }
 {
-    let mut i: usize = 0;
-    while i < 16 {
-        if 4096 < words[2 * i] {
+    for i in 0..16 {
+        if SIZE < words[2 * i] || LARGEST < words[2 * i + 1] {
             return false;
         }
-        if LARGEST < words[2 * i + 1] {
-            return false;
-        }
-        i += 1;
     }
     true
 }

@@ -24,20 +24,12 @@ fn lock_stands(files: &[u8], words: &[u64], i: usize) -> bool
     ensures { result ≡ lock_stands files.now (record_at 5 words.now i) }
 {
     let at = 1 + 5 * i;
-    if 1 < words[at + 4] {
-        return false;
-    }
-    if 4294967295 < words[at + 1] {
-        return false;
-    }
-    if passes_end(words[at + 2], words[at + 3]) {
-        return false;
-    }
     let fid = words[at] as usize;
-    if files.len() <= fid {
-        return false;
-    }
-    files[fid] != 255
+    words[at + 4] <= 1
+        && words[at + 1] <= 4294967295
+        && !passes_end(words[at + 2], words[at + 3])
+        && fid < files.len()
+        && files[fid] != 255
 }
 
 // The rules for each lock in use by itself.
@@ -45,25 +37,14 @@ pub(crate) fn locks_fit(files: &[u8; 65], words: &[u64]) -> bool
     requires { (length files.now ≡ 65) × ((length words.now ≡ 641) × (word words.now 0 ≤ 128)) }
     ensures { result ≡ table_fits lock_limits 128 words.now && all (lock_fits (file_in files.now)) (locks_in words.now) }
 {
-    let count = words[0] as usize;
-    let mut i: usize = 0;
-    while i < count {
-        if !lock_stands(files, words, i) {
-            return false;
-        }
-        i += 1;
-    }
-    true
+    (0..words[0] as usize).all(|i| lock_stands(files, words, i))
 }
 
 // Whether a lock and the one whose word says so are both shared.
 fn both_shared(shared: bool, flag: u64) -> bool
     ensures { result ≡ shared && eqb (flag % 2) 1 }
 {
-    if !shared {
-        return false;
-    }
-    flag % 2 == 1
+    shared && flag % 2 == 1
 }
 
 // The place behind the last exclusive lock, 0 where all are shared. Two shared locks may always stand together, so a shared lock
@@ -72,14 +53,12 @@ fn exclusives_end(words: &[u64]) -> usize
     requires { (length words.now ≡ 641) × (word words.now 0 ≤ 128) }
     ensures { SharedFrom (lock_array words.now) (word words.now 0) result }
 {
-    let mut end = words[0] as usize;
-    while 0 < end {
-        if words[5 * end] % 2 != 1 {
-            return end;
+    for i in (0..words[0] as usize).rev() {
+        if words[5 * i + 5] % 2 != 1 {
+            return i + 1;
         }
-        end -= 1;
     }
-    end
+    0
 }
 
 // How far a lock is compared.
@@ -130,12 +109,10 @@ fn agrees_later(files: &[u8; 65], words: &[u64], exclusives: usize, i: usize) ->
     let last = l.offset + (l.length - 1);
     let file = file_in(files, l.fid);
     let end = compared_to(l.shared, exclusives, words[0] as usize);
-    let mut j = i + 1;
-    while j < end {
+    for j in i + 1..end {
         if !agrees_at(files, words, l, last, file, j) {
             return false;
         }
-        j += 1;
     }
     true
 }
@@ -146,14 +123,11 @@ pub(crate) fn locks_agree(files: &[u8; 65], words: &[u64]) -> bool
     requires words_value { all in_bounds (locks_in words.now) ≡ true }
     ensures { result ≡ agree_all (file_in files.now) (locks_in words.now) }
 {
-    let count = words[0] as usize;
     let exclusives = exclusives_end(words);
-    let mut i: usize = 0;
-    while i < count {
+    for i in 0..words[0] as usize {
         if !agrees_later(files, words, exclusives, i) {
             return false;
         }
-        i += 1;
     }
     true
 }

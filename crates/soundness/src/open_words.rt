@@ -6,18 +6,11 @@ ghost use Rattle.tables.specs.Words.{word, record_at, open_of, open_limits};
 ghost use Rattle.tables.specs.Written.{opens_in};
 ghost use Rattle.soundness.specs.File.{file_table};
 ghost use Rattle.numbers.specs.ByNumber.{by_number};
-ghost use Rattle.soundness.specs.InWords.{table_in_order, Told, holds_at, open_in, open_stands};
+ghost use Rattle.soundness.specs.InWords.{table_in_order, told, holds_at, open_in, open_stands};
 
 use crate::by_number::number_free;
-use numbers::number::at_most;
+use tables::fit::in_use;
 use tables::open::open_at;
-
-// Whether the opens in use are sound and, if so, the file of each FID, 255 for none.
-#[derive(Clone, Copy)]
-pub(crate) struct Opens {
-    pub sound: bool,
-    pub files: [u8; 65],
-}
 
 // The file of each FID from 0 to 64, and 255 where no open has it. The opens are gone through from
 // the last, so that the first of two with one FID stands.
@@ -26,9 +19,7 @@ pub fn file_table(words: &[u64]) -> [u8; 65]
     ensures { result ≡ file_table (opens_in words.now) }
 {
     let mut files = [255u8; 65];
-    let mut i = at_most(words[0] as usize, 64);
-    while 0 < i {
-        i -= 1;
+    for i in (0..in_use(words, 64)).rev() {
         let o = open_at(words, i);
         let fid = o.fid as usize;
         if fid < 65 {
@@ -39,24 +30,16 @@ pub fn file_table(words: &[u64]) -> [u8; 65]
 }
 
 // Whether the tree with that TID is of that session and permits the access: "no open exceeds its tree's right".
+#[tactic(auto, unfolding(crate::specs::InWords::holds_at, crate::specs::InWords::code_holds))]
 fn holds_at(codes: &[u8], tid: u64, uid: u64, access: u64) -> bool
     ensures { result ≡ holds_at codes.now tid uid access }
 {
-    if 65535 < uid {
-        return false;
-    }
     let at = tid as usize;
-    if codes.len() <= at {
+    if 65535 < uid || codes.len() <= at {
         return false;
     }
     let code = codes[at] as u64;
-    if code == 2 * uid + 2 {
-        return true;
-    }
-    if code != 2 * uid + 1 {
-        return false;
-    }
-    access == 0
+    code == 2 * uid + 2 || code == 2 * uid + 1 && access == 0
 }
 
 // Whether the words of an open fit, its FID is in order, its file, access and sharing code are among those listed, and its tree holds it;
@@ -66,50 +49,28 @@ fn open_stands(codes: &[u8; 33], files: &[u8; 65], words: &[u64], i: usize) -> b
     ensures { result ≡ open_stands codes.now files.now (record_at 9 words.now i) }
 {
     let at = 1 + 9 * i;
-    if !number_free(files, 255, words[at]) {
-        return false;
-    }
-    if 4294967295 < words[at + 3] {
-        return false;
-    }
-    if 15 < words[at + 4] {
-        return false;
-    }
-    let access = words[at + 5];
-    if 2 < access {
-        return false;
-    }
-    let sharing = words[at + 6];
-    if sharing < 1 {
-        return false;
-    }
-    if 4 < sharing {
-        return false;
-    }
-    if 1 < words[at + 7] {
-        return false;
-    }
-    holds_at(codes, words[at + 2], words[at + 1], access)
+    number_free(files, 255, words[at])
+        && words[at + 3] <= 4294967295
+        && words[at + 4] <= 15
+        && words[at + 5] <= 2
+        && (1..=4).contains(&words[at + 6])
+        && words[at + 7] <= 1
+        && holds_at(codes, words[at + 2], words[at + 1], words[at + 5])
 }
 
-// The rules for each open in use; `codes` has the trees.
-pub(crate) fn opens_marked(codes: &[u8; 33], words: &[u64]) -> Opens
+// The rules for each open in use: where they hold, the file of each FID, 255 for none. `codes` has the trees.
+pub(crate) fn opens_marked(codes: &[u8; 33], words: &[u64]) -> Option<[u8; 65]>
     requires { (length codes.now ≡ 33) × ((length words.now ≡ 577) × (word words.now 0 ≤ 64)) }
-    ensures { Told (table_in_order open_limits 64 open_of 64 fid_of (open_in codes.now) words.now) (by_number fid_of (λ o. o.file) 255 65 (opens_in words.now)) result.sound result.files }
+    ensures { result ≡ told (table_in_order open_limits 64 open_of 64 fid_of (open_in codes.now) words.now) (by_number fid_of (λ o. o.file) 255 65 (opens_in words.now)) }
 {
     let mut files = [255u8; 65];
-    let mut i = words[0] as usize;
-    while 0 < i {
-        i -= 1;
+    for i in (0..words[0] as usize).rev() {
         if !open_stands(codes, &files, words, i) {
-            return Opens {
-                sound: false,
-                files,
-            };
+            return None;
         }
         let at = 1 + 9 * i;
         let fid = words[at] as usize;
         files[fid] = words[at + 4] as u8;
     }
-    Opens { sound: true, files }
+    Some(files)
 }

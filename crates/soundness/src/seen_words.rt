@@ -16,10 +16,7 @@ fn changes_of(files: &[u64], file: u8) -> u64
     ensures { result ≡ (get_or (file_array files.now) file no_file).changes }
 {
     let i = file as usize;
-    if 16 <= i {
-        return 0;
-    }
-    changes_at(files, i)
+    if i < 16 { changes_at(files, i) } else { 0 }
 }
 
 // The rule for each open in use.
@@ -27,14 +24,8 @@ pub(crate) fn all_seen(files: &[u64], words: &[u64]) -> bool
     requires { (length files.now ≡ 32) × ((length words.now ≡ 577) × (word words.now 0 ≤ 64)) }
     ensures { result ≡ all (seen_ok (file_array files.now)) (opens_in words.now) }
 {
-    let count = words[0] as usize;
-    let mut i: usize = 0;
-    while i < count {
+    (0..words[0] as usize).all(|i| {
         let o = open_at(words, i);
-        if changes_of(files, o.file) < o.seen {
-            return false;
-        }
-        i += 1;
-    }
-    true
+        o.seen <= changes_of(files, o.file)
+    })
 }

@@ -8,19 +8,12 @@ ghost use Rattle.tables.specs.Written.{trees_in};
 ghost use Rattle.soundness.specs.Sound.{permits, holds_open};
 ghost use Rattle.soundness.specs.Lookup.{is_tree};
 ghost use Rattle.numbers.specs.ByNumber.{by_number};
-ghost use Rattle.soundness.specs.InWords.{table_in_order, Told, tree_code, tree_in, tree_stands};
+ghost use Rattle.soundness.specs.InWords.{table_in_order, told, tree_code, tree_in, tree_stands};
 
 use crate::by_number::{is_marked, number_free};
-use numbers::number::at_most;
 use records::{Open, Tree};
+use tables::fit::in_use;
 use tables::tree::tree_at;
-
-// Whether the trees in use are sound and, if so, the UID and the right of each TID as one number, 0 for none.
-#[derive(Clone, Copy)]
-pub(crate) struct Trees {
-    pub sound: bool,
-    pub codes: [u8; 33],
-}
 
 // Whether the words of a tree fit, its TID is in order, its right is among those listed and its session exists; `codes` has the
 // trees behind it.
@@ -29,58 +22,41 @@ fn tree_stands(uids: &[u8; 17], codes: &[u8; 33], words: &[u64], i: usize) -> bo
     ensures { result ≡ tree_stands uids.now codes.now (record_at 3 words.now i) }
 {
     let at = 1 + 3 * i;
-    if !number_free(codes, 0, words[at]) {
-        return false;
-    }
-    if 1 < words[at + 2] {
-        return false;
-    }
-    is_marked(uids, words[at + 1])
+    number_free(codes, 0, words[at]) && words[at + 2] <= 1 && is_marked(uids, words[at + 1])
 }
 
-// The rules for each tree in use; `uids` marks the UIDs of the sessions.
-pub(crate) fn trees_marked(uids: &[u8; 17], words: &[u64]) -> Trees
+// The rules for each tree in use: where they hold, the UID and the right of each TID as one number, 0 for none. `uids` marks the UIDs
+// of the sessions.
+pub(crate) fn trees_marked(uids: &[u8; 17], words: &[u64]) -> Option<[u8; 33]>
     requires { (length uids.now ≡ 17) × ((length words.now ≡ 97) × (word words.now 0 ≤ 32)) }
-    ensures { Told (table_in_order tree_limits 32 tree_of 32 tid_of (tree_in uids.now) words.now) (by_number tid_of tree_code 0 33 (trees_in words.now)) result.sound result.codes }
+    ensures { result ≡ told (table_in_order tree_limits 32 tree_of 32 tid_of (tree_in uids.now) words.now) (by_number tid_of tree_code 0 33 (trees_in words.now)) }
 {
     let mut codes = [0u8; 33];
-    let mut i = words[0] as usize;
-    while 0 < i {
-        i -= 1;
+    for i in (0..words[0] as usize).rev() {
         if !tree_stands(uids, &codes, words, i) {
-            return Trees {
-                sound: false,
-                codes,
-            };
+            return None;
         }
         let at = 1 + 3 * i;
         let tid = words[at] as usize;
         codes[tid] = (2 * words[at + 1] + 1 + words[at + 2]) as u8;
     }
-    Trees { sound: true, codes }
+    Some(codes)
 }
 
 // Whether a tree's right permits an open's access.
+#[tactic(auto, unfolding(crate::specs::Sound::permits))]
 fn right_permits(right: u8, access: u8) -> bool
     ensures { result ≡ permits right access }
 {
-    if 1 <= right {
-        return true;
-    }
-    access == 0
+    1 <= right || access == 0
 }
 
 // Whether the tree is the open's own and permits its access.
+#[tactic(auto, unfolding(crate::specs::Sound::holds_open))]
 fn holding(o: Open, t: Tree) -> bool
     ensures { result ≡ holds_open o t }
 {
-    if t.tid != o.tid {
-        return false;
-    }
-    if t.uid != o.uid {
-        return false;
-    }
-    right_permits(t.right, o.access)
+    t.tid == o.tid && t.uid == o.uid && right_permits(t.right, o.access)
 }
 
 // Whether a tree in use holds the open.
@@ -88,25 +64,15 @@ pub fn some_tree_holds(words: &[u64], o: Open) -> bool
     requires { length words.now ≡ 97 }
     ensures { result ≡ any (holds_open o) (trees_in words.now) }
 {
-    let count = at_most(words[0] as usize, 32);
-    let mut i: usize = 0;
-    while i < count {
-        if holding(o, tree_at(words, i)) {
-            return true;
-        }
-        i += 1;
-    }
-    false
+    (0..in_use(words, 32)).any(|i| holding(o, tree_at(words, i)))
 }
 
 // Whether the tree has that TID and is of that session.
+#[tactic(auto, unfolding(crate::specs::Lookup::is_tree))]
 fn tree_is(t: Tree, tid: u16, uid: u16) -> bool
     ensures { result ≡ is_tree tid uid t }
 {
-    if t.tid != tid {
-        return false;
-    }
-    t.uid == uid
+    t.tid == tid && t.uid == uid
 }
 
 // Whether a tree in use has that TID and is of that session.
@@ -114,13 +80,5 @@ pub fn some_tree_is(words: &[u64], tid: u16, uid: u16) -> bool
     requires { length words.now ≡ 97 }
     ensures { result ≡ any (is_tree tid uid) (trees_in words.now) }
 {
-    let count = at_most(words[0] as usize, 32);
-    let mut i: usize = 0;
-    while i < count {
-        if tree_is(tree_at(words, i), tid, uid) {
-            return true;
-        }
-        i += 1;
-    }
-    false
+    (0..in_use(words, 32)).any(|i| tree_is(tree_at(words, i), tid, uid))
 }

@@ -15,12 +15,6 @@ pub returns-then-passes_end : goal.returns-then-passes_end
 returns-then-passes_end c =
     sym (ahead-here c.loop-k.invariant (omega arith) (λ rs. any-first _ _ rs (range-passes c.range_at-r.ensures c.passes_end.ensures c.if-passes_end.true)))
 
-pub overflow_add-k : goal.overflow_add-k
-overflow_add-k c = omega arith
-
-pub loop-k-smaller : goal.loop-k-smaller
-loop-k-smaller c = omega arith
-
 pub loop-k-preserved : goal.loop-k-preserved
 loop-k-preserved c =
     ahead_more c.loop-k.invariant (omega arith) (λ rs. any-later _ _ rs (range-passes c.range_at-r.ensures c.passes_end.ensures c.if-passes_end.false))

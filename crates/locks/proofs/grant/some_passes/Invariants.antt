@@ -7,6 +7,3 @@ use Rattle.locks.proofs.grant.some_passes.Given as goal
 
 abbrev pub invariant-loop-k : goal.invariant-loop-k
 invariant-loop-k l = Ahead (any range_passes (ranges_at l.large l.area l.from (l.to - l.from))) (any range_passes) l.large l.area l.from l.to l.k
-
-abbrev pub decreases-loop-k : goal.decreases-loop-k
-decreases-loop-k l = l.to - l.k

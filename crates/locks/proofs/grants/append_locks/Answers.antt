@@ -10,15 +10,6 @@ use Rattle.locks.proofs.Appended.{appended-start, appended-more}
 use native.Mathlib.Omega.{arith}
 use Rattle.locks.proofs.grants.append_locks.Goals as goal
 
-pub overflow_cast-from : goal.overflow_cast-from
-overflow_cast-from c = omega arith
-
-pub overflow_cast-to : goal.overflow_cast-to
-overflow_cast-to c = omega arith
-
-pub overflow_add-to : goal.overflow_add-to
-overflow_add-to c = omega arith
-
 pub loop-k-init : goal.loop-k-init
 loop-k-init c =
     let args = c.args in
@@ -31,20 +22,8 @@ loop-k-init c =
       λ f. rw first f,
     )
 
-pub overflow_sub-at : goal.overflow_sub-at
-overflow_sub-at c = omega arith
-
-pub overflow_add-at : goal.overflow_add-at
-overflow_add-at c = omega arith
-
 pub put_lock-requires : goal.put_lock-requires
 put_lock-requires c = (c.loop-k.invariant.2, omega arith)
-
-pub overflow_add-k : goal.overflow_add-k
-overflow_add-k c = omega arith
-
-pub loop-k-smaller : goal.loop-k-smaller
-loop-k-smaller c = omega arith
 
 pub loop-k-preserved : goal.loop-k-preserved
 loop-k-preserved c =
@@ -63,12 +42,6 @@ loop-k-preserved c =
           ),
       λ f. fit-behind (args.held + (loop.k - args.q.unlocks)) _ (omega arith) wrote.ensures (loop.invariant.4 f),
     )
-
-pub overflow_sub-words : goal.overflow_sub-words
-overflow_sub-words c = omega arith
-
-pub overflow_add-words : goal.overflow_add-words
-overflow_add-words c = omega arith
 
 pub bounds-words-0 : goal.bounds-words-0
 bounds-words-0 c = let l = c.loop-k.invariant.2 in omega arith

@@ -9,6 +9,3 @@ use Rattle.locks.proofs.grants.append_locks.Given as goal
 abbrev pub invariant-loop-k : goal.invariant-loop-k
 invariant-loop-k l = (l.from ≤ l.k) × (l.k ≤ l.to) × (length l.words ≡ 641) × (lock_array l.words ≡ appended (lock_array l.initial.words) l.held l.q l.area l.k)
     × (records_fit lock_limits l.held l.initial.words ≡ true → records_fit lock_limits (l.held + (l.k - l.from)) l.words ≡ true)
-
-abbrev pub decreases-loop-k : goal.decreases-loop-k
-decreases-loop-k l = l.to - l.k

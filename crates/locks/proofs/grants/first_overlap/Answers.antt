@@ -12,18 +12,9 @@ use Rattle.locks.proofs.grants.first_overlap.Goals as goal
 pub loop-k-init : goal.loop-k-init
 loop-k-init c = ahead-start (omega arith) (found-whole _ c.args.from _)
 
-pub overflow_sub-result : goal.overflow_sub-result
-overflow_sub-result c = omega arith
-
 pub returns-then-overlap : goal.returns-then-overlap
 unfolding range_meets
 returns-then-overlap c = sym (ahead-here c.loop-k.invariant (omega arith) (λ rs. found_from-yes _ _ _ _ (rw (← c.range_at-r.ensures, ← c.overlap.ensures) c.if-overlap.true)))
-
-pub overflow_add-k : goal.overflow_add-k
-overflow_add-k c = omega arith
-
-pub loop-k-smaller : goal.loop-k-smaller
-loop-k-smaller c = omega arith
 
 pub loop-k-preserved : goal.loop-k-preserved
 unfolding range_meets

@@ -8,6 +8,3 @@ use Rattle.locks.proofs.grants.first_overlap.Given as goal
 abbrev pub invariant-loop-k : goal.invariant-loop-k
 invariant-loop-k l = Ahead (found (range_meets l.q.offset l.q.length) (ranges_at l.large l.area l.from (l.to - l.from)))
     (λ rs. found_from (l.k - l.from) (range_meets l.q.offset l.q.length) rs) l.large l.area l.from l.to l.k
-
-abbrev pub decreases-loop-k : goal.decreases-loop-k
-decreases-loop-k l = l.to - l.k

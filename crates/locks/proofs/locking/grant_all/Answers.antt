@@ -21,16 +21,16 @@ holder_at-requires c =
     let args = c.args in
     let held = c.held_in-held.ensures in
     let many = length-of args.q args.area.now args.q.unlocks args.q.locks in
-    let below = blocked-below _ _ _ _ _ _ (sym c.in-At.is ∙ c.first_conflict-first.ensures) in
+    let below = blocked-below _ _ _ _ _ _ (sym c.in-Some.is ∙ c.first_conflict.ensures) in
     record { words_len = (c.requires, held); place_bound = omega arith }
 
-pub returns-in-At : goal.returns-in-At
-returns-in-At c =
+pub returns-in-Some : goal.returns-in-Some
+returns-in-Some c =
     let args = c.args in
     let within : false ≡ any range_passes (ranges_of args.q args.area.now args.q.unlocks args.q.locks) =
     sym c.if-some_passes.false ∙ c.some_passes.ensures ∙ passes_of args.q args.area.now
     in
-    record { settles = settles-refused args.words.now _ _ (locks-conflict _ _ _ _ _ within (sym c.in-At.is ∙ c.first_conflict-first.ensures) c.holder_at.ensures); words_after = λ f. f }
+    record { settles = settles-refused args.words.now _ _ (locks-conflict _ _ _ _ _ within (sym c.in-Some.is ∙ c.first_conflict.ensures) c.holder_at.ensures); words_after = λ f. f }
 
 pub overflow_sub-held : goal.overflow_sub-held
 overflow_sub-held c = let most = held-most c.args.words.now in let held = c.held_in-held.ensures in omega arith
@@ -43,7 +43,7 @@ returns-then-held-wanted c =
     in
     let most = held-most args.words.now in
     let held = c.held_in-held.ensures in
-    let free = sym c.in_default.is ∙ c.first_conflict-first.ensures in
+    let free = sym c.in_default.is ∙ c.first_conflict.ensures in
     let many = length-of args.q args.area.now args.q.unlocks args.q.locks in
     record { settles = settles-refused args.words.now _ _ (locks-full _ _ _ _ _ within free _ _ held many (omega arith)); words_after = λ f. f }
 
@@ -58,7 +58,7 @@ returns c =
     in
     let most = held-most args.words.now in
     let held = c.held_in-held.ensures in
-    let free = sym c.in_default.is ∙ c.first_conflict-first.ensures in
+    let free = sym c.in_default.is ∙ c.first_conflict.ensures in
     let many = length-of args.q args.area.now args.q.unlocks args.q.locks in record {
       settles = settles-done args.words.now _ _ _
           (locks-granted _ _ _ _ _ within free _ _ held many (omega arith))

@@ -1,8 +1,9 @@
 -- `locks::locking::lock_request` meets its contract: without unlocks the locks decide, with them the words are as tried or brought back.
 -- Assumes nothing.
-use mathlib.Core.Path.{◌≡◌, sym, ◌∙◌}
+use mathlib.Core.Path.{◌≡◌, ap, ◌∙◌}
 use Prim.Native.Nat.{◌+◌, ◌*◌}
 use native.Mathlib.Omega.{arith}
+use mathlib.Core.Bool.{not}
 use lib.ListN.{length}
 use Rattle.tables.specs.Words.{word, lock_array}
 use Rattle.tables.specs.Written.{locks_in}
@@ -39,20 +40,20 @@ returns-then-q-eq0 c =
       words_after = c.grant_all.ensures.words_after;
     }
 
-pub returns-then-is_done : goal.returns-then-is_done
-returns-then-is_done c =
+pub returns-else-is_err : goal.returns-else-is_err
+returns-else-is_err c =
     let args = c.args in
     let q = args.q in
     let w = args.words.now in
-    let sized : length args.area.now ≡ (q.unlocks + q.locks) * range_size q.large = rw (← c.range_size.ensures) c.if-area-ranges.false in record { settles = rw (locking-sized (file_in args.files.now) (lock_array w) (word w 0) q args.area.now sized) (settles-tried w (sym c.is_done.ensures ∙ c.if-is_done.true) c.unlock_and_grant-why.ensures.tried); words_after = c.unlock_and_grant-why.ensures.words_after }
+    let sized : length args.area.now ≡ (q.unlocks + q.locks) * range_size q.large = rw (← c.range_size.ensures) c.if-area-ranges.false in record { settles = rw (locking-sized (file_in args.files.now) (lock_array w) (word w 0) q args.area.now sized) (settles-tried w (c.is_err.ensures.negation ∙ ap not c.if-is_err.false) c.unlock_and_grant-ended.ensures.tried); words_after = c.unlock_and_grant-ended.ensures.words_after }
 
-pub returns : goal.returns
-returns c =
+pub returns-then-is_err : goal.returns-then-is_err
+returns-then-is_err c =
     let args = c.args in
     let q = args.q in
     let w = args.words.now in
     let sized : length args.area.now ≡ (q.unlocks + q.locks) * range_size q.large = rw (← c.range_size.ensures) c.if-area-ranges.false in record {
-      settles = rw (locking-sized (file_in args.files.now) (lock_array w) (word w 0) q args.area.now sized, c.copy_words-2.ensures, c.copy_words.ensures)
-          (settles-back w _ (sym c.is_done.ensures ∙ c.if-is_done.false) c.unlock_and_grant-why.ensures.tried);
-      words_after = λ f. rw (c.copy_words-2.ensures, c.copy_words.ensures) f;
+      settles = rw (locking-sized (file_in args.files.now) (lock_array w) (word w 0) q args.area.now sized, c.copy_from_slice-then-is_err.ensures.after, c.copy_from_slice.ensures.after)
+          (settles-back w _ (c.is_err.ensures.negation ∙ ap not c.if-is_err.true) c.unlock_and_grant-ended.ensures.tried);
+      words_after = λ f. rw (c.copy_from_slice-then-is_err.ensures.after, c.copy_from_slice.ensures.after) f;
     }

@@ -1,6 +1,6 @@
 -- `locks::unlock::release_all` meets its contract: the unlocks ahead make of the list so far what all of them make of the first list, and the words hold it.
 -- Assumes nothing.
-use mathlib.Core.Path.{◌≡◌, sym, ◌∙◌}
+use mathlib.Core.Path.{◌≡◌, refl, sym, ◌∙◌}
 use mathlib.Core.Bool.{false≢true}
 use Prim.Native.Nat.{◌-◌}
 use mathlib.Core.List.{map}
@@ -12,9 +12,6 @@ use Rattle.tables.specs.ChangeLaws.{length-lock_array}
 use Rattle.locks.proofs.Unlocked.{left-start, left_below, left_step, left-list, release-more, release-stop}
 use native.Mathlib.Omega.{arith}
 use Rattle.locks.proofs.unlock.release_all.Goals as goal
-
-pub overflow_cast-unlocks : goal.overflow_cast-unlocks
-overflow_cast-unlocks c = omega arith
 
 pub loop-k-init : goal.loop-k-init
 unfolding ranges_of
@@ -37,8 +34,11 @@ returns-in_default c = record {
     array = λ e. absurd (false≢true e);
     count = λ e. absurd (false≢true e);
     missing =
-        λ _. ahead-here c.loop-k.invariant.2 (omega arith)
-        (λ rs. release-stop _ _ _ _ c.range_of-r.ensures c.ask_of.ensures c.first_answer.ensures (map _ rs) c.in_default.is);
+        λ _. (
+          refl,
+          ahead-here c.loop-k.invariant.2 (omega arith)
+              (λ rs. release-stop _ _ _ _ c.range_of-r.ensures c.ask_of.ensures c.first_answer.ensures (map _ rs) c.in_default.is),
+        );
   };
   words_after = c.loop-k.invariant.3;
 }
@@ -47,29 +47,23 @@ pub remove_at-requires : goal.remove_at-requires
 remove_at-requires c =
     let loop = c.loop-k in
     let short = loop.invariant.1.short in
-    let below = left_below loop.invariant.1 _ c.in-At.place (sym c.first_answer.ensures ∙ c.in-At.is) in
+    let below = left_below loop.invariant.1 _ c.in-Some.place (sym c.first_answer.ensures ∙ c.in-Some.is) in
     (loop.invariant.0, (below, omega arith))
-
-pub overflow_add-k : goal.overflow_add-k
-overflow_add-k c = omega arith
-
-pub loop-k-smaller : goal.loop-k-smaller
-loop-k-smaller c = omega arith
 
 pub loop-k-preserved : goal.loop-k-preserved
 loop-k-preserved c =
     let loop = c.loop-k in
     let left = loop.invariant.1 in
-    let place = c.in-At.place in
+    let place = c.in-Some.place in
     let gone = c.remove_at.ensures in
-    let below = left_below left _ place (sym c.first_answer.ensures ∙ c.in-At.is) in (
+    let below = left_below left _ place (sym c.first_answer.ensures ∙ c.in-Some.is) in (
       c.remove_at.auto.words ∙ loop.invariant.0,
       rw gone.words_after_2 (left_step left below gone.words_after),
       ahead_more loop.invariant.2 (omega arith)
           (
           λ rs.
           rw (gone.words_after_2, left-list left below gone.words_after)
-          (release-more _ _ _ _ c.range_of-r.ensures c.ask_of.ensures c.first_answer.ensures (map _ rs) c.in-At.is)
+          (release-more _ _ _ _ c.range_of-r.ensures c.ask_of.ensures c.first_answer.ensures (map _ rs) c.in-Some.is)
           ),
       λ f. gone.words_after_3 (loop.invariant.3 f),
     )

@@ -1,6 +1,5 @@
 use mathlib.Core.Path.{◌≡◌}
 use mathlib.Core.Bool.{true}
-use Prim.Native.Nat.{◌-◌}
 use mathlib.Core.List.{map}
 use lib.ListN.{length}
 use Rattle.tables.specs.Words.{word, lock_array, lock_limits, table_fits}
@@ -17,6 +16,3 @@ invariant-loop-k l = (length l.words ≡ 641)
     × Ahead (release_all (file_in l.files) l.q.fid (ranges_of l.q l.area 0 l.q.unlocks) (locks_in l.initial.words))
     (λ rs. release_all (file_in l.files) l.q.fid (map (of_header l.q.high) rs) (locks_in l.words)) l.q.large l.area 0 l.q.unlocks l.k
     × (table_fits lock_limits 128 l.initial.words ≡ true → table_fits lock_limits 128 l.words ≡ true)
-
-abbrev pub decreases-loop-k : goal.decreases-loop-k
-decreases-loop-k l = l.q.unlocks - l.k

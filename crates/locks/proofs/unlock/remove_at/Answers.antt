@@ -10,12 +10,6 @@ use Rattle.locks.proofs.Removed.{moved-start, moved-step, moved-end}
 use native.Mathlib.Omega.{arith}
 use Rattle.locks.proofs.unlock.remove_at.Goals as goal
 
-pub bounds-words-0 : goal.bounds-words-0
-bounds-words-0 c = omega arith
-
-pub overflow_add-i : goal.overflow_add-i
-overflow_add-i c = omega arith
-
 pub loop-i-init : goal.loop-i-init
 loop-i-init c =
     let words = c.args.words.now in
@@ -25,17 +19,8 @@ loop-i-init c =
 pub lock_at-l-requires : goal.lock_at-l-requires
 lock_at-l-requires c = (c.loop-i.invariant.2, omega arith)
 
-pub overflow_sub-i : goal.overflow_sub-i
-overflow_sub-i c = omega arith
-
 pub put_lock-requires : goal.put_lock-requires
 put_lock-requires c = (c.loop-i.invariant.2, omega arith)
-
-pub overflow_add-i-in-loop-i : goal.overflow_add-i-in-loop-i
-overflow_add-i-in-loop-i c = omega arith
-
-pub loop-i-smaller : goal.loop-i-smaller
-loop-i-smaller c = omega arith
 
 pub loop-i-preserved : goal.loop-i-preserved
 loop-i-preserved c =
@@ -52,14 +37,8 @@ loop-i-preserved c =
       λ f. fit-within _ _ (omega arith) wrote.ensures (loop.invariant.4 f),
     )
 
-pub overflow_sub-count : goal.overflow_sub-count
-overflow_sub-count c = omega arith
-
 pub put_lock-requires-2 : goal.put_lock-requires-2
 put_lock-requires-2 c = (c.loop-i.invariant.2, omega arith)
-
-pub overflow_sub-words : goal.overflow_sub-words
-overflow_sub-words c = omega arith
 
 pub bounds-words-0-2 : goal.bounds-words-0-2
 bounds-words-0-2 c = let l = c.loop-i.invariant.2 in let k = c.put_lock-2.auto.words in omega arith

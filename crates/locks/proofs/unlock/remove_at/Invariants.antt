@@ -1,6 +1,6 @@
 use mathlib.Core.Path.{◌≡◌}
 use mathlib.Core.Bool.{true}
-use Prim.Native.Nat.{◌-◌, ◌≤◌, ◌<◌}
+use Prim.Native.Nat.{◌≤◌, ◌<◌}
 use lib.ListN.{length}
 use Rattle.tables.specs.Words.{lock_array, lock_limits, records_fit}
 use Rattle.locks.proofs.Removed.{moved}
@@ -12,6 +12,3 @@ invariant-loop-i l = (l.place < l.i)
     × (length l.words ≡ 641)
     × (lock_array l.words ≡ moved (lock_array l.initial.words) l.place l.i)
     × (records_fit lock_limits l.count l.initial.words ≡ true → records_fit lock_limits l.count l.words ≡ true)
-
-abbrev pub decreases-loop-i : goal.decreases-loop-i
-decreases-loop-i l = l.count - l.i

@@ -3,7 +3,7 @@
 -- the range's place is small
 use Prim.Native.Nat.{◌*◌, ◌≤◌}
 use native.Mathlib.Omega.{arith}
-use Rattle.locks.specs.Wire.{range_at, place-small, size_small}
+use Rattle.locks.specs.Wire.{place-small, size_small}
 use Rattle.locks.proofs.wire_form.range_at.Goals as goal
 use Rattle.locks.proofs.wire_form.range_at.Goals.{After-range_size-size}
 
@@ -21,13 +21,5 @@ overflow_add-at c =
 pub range_inside-requires : goal.range_inside-requires
 range_inside-requires c = (at_small (goal.at.range_inside-requires c).After-range_size-size, rw (← c.range_size-size.ensures) c.if-at-size.true)
 
-pub returns-then-at-size : goal.returns-then-at-size
-unfolding range_at
-returns-then-at-size c = rw (← c.range_size-size.ensures) c.range_inside.ensures
-
 pub range_past-requires : goal.range_past-requires
 range_past-requires c = at_small (goal.at.range_past-requires c).After-range_size-size
-
-pub returns : goal.returns
-unfolding range_at
-returns c = rw (← c.range_size-size.ensures) c.range_past.ensures

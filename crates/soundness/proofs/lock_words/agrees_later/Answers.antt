@@ -20,9 +20,6 @@ returns-then-l-eq0 c =
     let words = args.words.now in
     sym (agree-empty (file_in args.files.now) _ (rw c.lock_at-l.ensures at c.if-l-eq0.true) (rest (lock_array words) (word words 0) (args.i + 1)))
 
-pub overflow_sub-last : goal.overflow_sub-last
-overflow_sub-last c = omega arith
-
 pub overflow_add-last : goal.overflow_add-last
 overflow_add-last c =
     let args = c.args in
@@ -31,12 +28,6 @@ overflow_add-last c =
     let long : length (lock_array words) ≡ 128 = length-lock_array words in
     let bound = within c.lock_at-l.result (rw c.lock_at-l.ensures (all-at in_bounds (lock_array words) (word words 0) args.i no_lock (omega arith) (omega arith) pre.words_value)) in
     omega arith
-
-pub bounds-words-0 : goal.bounds-words-0
-bounds-words-0 c = omega arith
-
-pub overflow_add-j : goal.overflow_add-j
-overflow_add-j c = omega arith
 
 pub loop-j-init : goal.loop-j-init
 loop-j-init c =
@@ -65,12 +56,6 @@ returns-then-not-agrees_at c =
     let most : c.compared_to-end.result ≤ word words 0 = loop.invariant.1 in
     let below : loop.j < c.compared_to-end.result = c.loop-j-test.true in
     sym (rw (← l.ensures) (loop.invariant.2 ∙ all-no (lock_array words) (word words 0) loop.j no_lock (omega arith) (omega arith) (agree (file_in args.files.now) l.result) (sym c.agrees_at.ensures ∙ c.if-not-agrees_at.true)))
-
-pub overflow_add-j-in-loop-j : goal.overflow_add-j-in-loop-j
-overflow_add-j-in-loop-j c = omega arith
-
-pub loop-j-smaller : goal.loop-j-smaller
-loop-j-smaller c = omega arith
 
 pub loop-j-preserved : goal.loop-j-preserved
 loop-j-preserved c =

@@ -12,11 +12,8 @@ use Rattle.tables.specs.ChangeLaws.{length-lock_array}
 use Rattle.soundness.specs.Sound.{agree, agree_all}
 use Rattle.soundness.proofs.lock_words.locks_agree.Goals as goal
 
-pub bounds-words-0 : goal.bounds-words-0
-bounds-words-0 c = omega arith
-
 pub loop-i-init : goal.loop-i-init
-loop-i-init c = (omega arith, refl)
+loop-i-init c = refl
 
 pub agrees_later-requires : goal.agrees_later-requires
 agrees_later-requires c = let pre = c.requires in record { words_len = (pre.words_len.0, (pre.words_len.1, omega arith)); words_value = pre.words_value; shared_from = c.exclusives_end-exclusives.ensures }
@@ -28,13 +25,7 @@ returns-then-not-agrees_later c =
     let loop = c.loop-i in
     let later = c.agrees_later in
     let long : length (lock_array words) ≡ 128 = length-lock_array words in
-    sym (loop.invariant.1 ∙ tails-no (lock_array words) (word words 0) loop.i no_lock (omega arith) (omega arith) (λ l ms. all (agree (file_in c.args.files.now) l) ms) (sym later.ensures ∙ c.if-not-agrees_later.true))
-
-pub overflow_add-i : goal.overflow_add-i
-overflow_add-i c = omega arith
-
-pub loop-i-smaller : goal.loop-i-smaller
-loop-i-smaller c = omega arith
+    sym (loop.invariant ∙ tails-no (lock_array words) (word words 0) loop.i no_lock (omega arith) (omega arith) (λ l ms. all (agree (file_in c.args.files.now) l) ms) (sym later.ensures ∙ c.if-not-agrees_later.true))
 
 pub loop-i-preserved : goal.loop-i-preserved
 unfolding agree_all
@@ -43,10 +34,10 @@ loop-i-preserved c =
     let loop = c.loop-i in
     let later = c.agrees_later in
     let long : length (lock_array words) ≡ 128 = length-lock_array words in
-    (omega arith, loop.invariant.1 ∙ tails-yes (lock_array words) (word words 0) loop.i no_lock (omega arith) (omega arith) (λ l ms. all (agree (file_in c.args.files.now) l) ms) (sym later.ensures ∙ c.if-not-agrees_later.false))
+    loop.invariant ∙ tails-yes (lock_array words) (word words 0) loop.i no_lock (omega arith) (omega arith) (λ l ms. all (agree (file_in c.args.files.now) l) ms) (sym later.ensures ∙ c.if-not-agrees_later.false)
 
 pub returns : goal.returns
 unfolding agree_all
 returns c =
     let args = c.args in
-    sym (c.loop-i.invariant.1 ∙ tails_end (lock_array args.words.now) (word args.words.now 0) (λ l ms. all (agree (file_in args.files.now) l) ms) c.loop-i.i c.loop-i-test.false)
+    sym (c.loop-i.invariant ∙ tails_end (lock_array args.words.now) (word args.words.now 0) (λ l ms. all (agree (file_in args.files.now) l) ms) c.loop-i.i c.loop-i-test.false)

@@ -11,31 +11,19 @@ use Rattle.soundness.specs.File.{file_of, tabulate, file_table, length-file_tabl
 use native.Mathlib.Omega.{arith}
 use Rattle.soundness.proofs.open_words.file_table.Goals as goal
 
-pub bounds-words-0 : goal.bounds-words-0
-bounds-words-0 c = omega arith
-
 pub loop-i-init : goal.loop-i-init
 unfolding file_table tabulate file_of
 loop-i-init c =
     let w = c.args.words.now in
-    let e = c.at_most-i.ensures in
-    (omega arith, rw (rest-most (open_array w) (word w 0) 64 c.at_most-i.result (length-open_array w) e))
-
-pub overflow_sub-i : goal.overflow_sub-i
-overflow_sub-i c = omega arith
-
-pub loop-i-smaller-then-fid-lt65 : goal.loop-i-smaller-then-fid-lt65
-loop-i-smaller-then-fid-lt65 c = omega arith
+    let e = c.in_use-i.ensures in
+    rw (rest-most (open_array w) (word w 0) 64 c.in_use-i.result (length-open_array w) e)
 
 pub loop-i-preserved-then-fid-lt65 : goal.loop-i-preserved-then-fid-lt65
 loop-i-preserved-then-fid-lt65 c =
     let w = c.args.words.now in
     let loop = c.loop-i in
     let long : length (open_array w) ≡ 64 = length-open_array w in
-    (omega arith, rw (loop.invariant.1, c.open_at-o.ensures) (sym (file_table-turn (open_array w) (word w 0) loop.i no_open c.loop-i-test.true (omega arith) (omega arith))))
-
-pub loop-i-smaller : goal.loop-i-smaller
-loop-i-smaller c = omega arith
+    rw (loop.invariant, c.open_at-o.ensures) (sym (file_table-turn (open_array w) (word w 0) loop.i no_open c.loop-i-test.true (omega arith) (omega arith)))
 
 pub loop-i-preserved : goal.loop-i-preserved
 loop-i-preserved c =
@@ -44,7 +32,7 @@ loop-i-preserved c =
     let long : length (open_array w) ≡ 64 = length-open_array w in
     let turn = file_table-turn (open_array w) (word w 0) loop.i no_open c.loop-i-test.true (omega arith) (omega arith) in
     let past = rw c.open_at-o.ensures at c.if-fid-lt65.false in
-    (omega arith, loop.invariant.1 ∙ sym (turn ∙ set_out (file_table (rest (open_array w) (word w 0) loop.i)) _ _ (rw (length-file_table (rest (open_array w) (word w 0) loop.i)) past)))
+    loop.invariant ∙ sym (turn ∙ set_out (file_table (rest (open_array w) (word w 0) loop.i)) _ _ (rw (length-file_table (rest (open_array w) (word w 0) loop.i)) past))
 
 pub returns : goal.returns
-returns c = let z : c.loop-i.i ≡ 0 = omega arith in rw z at c.loop-i.invariant.1
+returns c = let z : c.loop-i.i ≡ 0 = omega arith in rw z at c.loop-i.invariant

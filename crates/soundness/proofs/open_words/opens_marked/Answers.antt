@@ -43,15 +43,9 @@ open-numbers w i codes files long few size e =
       file-same = rw same (uncut (word w (1 + 9 * i + 4)) 255 (omega arith));
     }
 
-pub bounds-words-0 : goal.bounds-words-0
-bounds-words-0 c = omega arith
-
 pub loop-i-init : goal.loop-i-init
 unfolding by_number up_to entry
-loop-i-init c = (omega arith, marked_start (word c.args.words.now 0) _ (omega arith) refl)
-
-pub overflow_sub-i : goal.overflow_sub-i
-overflow_sub-i c = omega arith
+loop-i-init c = marked_start (word c.args.words.now 0) _ (omega arith) refl
 
 pub returns-then-not-open_stands : goal.returns-then-not-open_stands
 unfolding open_array
@@ -61,31 +55,10 @@ returns-then-not-open_stands c =
     let loop = c.loop-i in
     let w = args.words.now in
     let stands = c.open_stands in
-    let rule = open-stands w (loop.i - 1) (rest (rows 9 64 w) (word w 0) loop.i) args.codes.now loop.files pre.1.0 (omega arith) (λ k. omega (arith, c.type_inv.words k)) (omega arith) loop.invariant.1.keeps loop.invariant.1.made in
-    told-no open_limits 64 open_of 64 fid_of (open_in args.codes.now) (λ o. o.file) 255 65 w loop.files
-    (row-no 9 64 w loop.i loop.files loop.invariant.1 c.loop-i-test.true loop.invariant.0 (omega arith)
+    let rule = open-stands w (loop.i - 1) (rest (rows 9 64 w) (word w 0) loop.i) args.codes.now loop.files pre.1.0 (omega arith) (λ k. omega (arith, c.type_inv.words k)) (omega arith) loop.invariant.keeps loop.invariant.made in
+    told-no open_limits 64 open_of 64 fid_of (open_in args.codes.now) (λ o. o.file) 255 65 w
+    (row-no 9 64 w loop.i loop.files loop.invariant c.loop-i-test.true (omega arith) (omega arith)
     (sym rule ∙ sym stands.ensures ∙ c.if-not-open_stands.true))
-
-pub overflow_mul-at : goal.overflow_mul-at
-overflow_mul-at c = omega arith
-
-pub overflow_add-at : goal.overflow_add-at
-overflow_add-at c = omega arith
-
-pub offset_bounds-words-at : goal.offset_bounds-words-at
-offset_bounds-words-at c = omega arith
-
-pub bounds-words-at : goal.bounds-words-at
-bounds-words-at c = omega arith
-
-pub overflow_add-files : goal.overflow_add-files
-overflow_add-files c = omega arith
-
-pub offset_bounds-words-at-in-loop-i : goal.offset_bounds-words-at-in-loop-i
-offset_bounds-words-at-in-loop-i c = omega arith
-
-pub bounds-words-at-in-loop-i : goal.bounds-words-at-in-loop-i
-bounds-words-at-in-loop-i c = omega arith
 
 pub overflow_cast-files : goal.overflow_cast-files
 overflow_cast-files c =
@@ -94,7 +67,7 @@ overflow_cast-files c =
     let loop = c.loop-i in
     let w = args.words.now in
     let stands = c.open_stands in
-    let n = open-numbers w (loop.i - 1) args.codes.now loop.files pre.1.0 (omega arith) (marked-length 9 64 w loop.invariant.1) (sym stands.ensures ∙ c.if-not-open_stands.false) in
+    let n = open-numbers w (loop.i - 1) args.codes.now loop.files pre.1.0 (omega arith) (marked-length 9 64 w loop.invariant) (sym stands.ensures ∙ c.if-not-open_stands.false) in
     omega arith
 
 pub bounds-files-fid : goal.bounds-files-fid
@@ -104,11 +77,8 @@ bounds-files-fid c =
     let loop = c.loop-i in
     let w = args.words.now in
     let stands = c.open_stands in
-    let n = open-numbers w (loop.i - 1) args.codes.now loop.files pre.1.0 (omega arith) (marked-length 9 64 w loop.invariant.1) (sym stands.ensures ∙ c.if-not-open_stands.false) in
+    let n = open-numbers w (loop.i - 1) args.codes.now loop.files pre.1.0 (omega arith) (marked-length 9 64 w loop.invariant) (sym stands.ensures ∙ c.if-not-open_stands.false) in
     omega arith
-
-pub loop-i-smaller : goal.loop-i-smaller
-loop-i-smaller c = omega arith
 
 pub loop-i-preserved : goal.loop-i-preserved
 loop-i-preserved c =
@@ -117,9 +87,9 @@ loop-i-preserved c =
     let loop = c.loop-i in
     let w = args.words.now in
     let stands = c.open_stands in
-    let n = open-numbers w (loop.i - 1) args.codes.now loop.files pre.1.0 (omega arith) (marked-length 9 64 w loop.invariant.1) (sym stands.ensures ∙ c.if-not-open_stands.false) in
-    let rule = open-stands w (loop.i - 1) (rest (rows 9 64 w) (word w 0) loop.i) args.codes.now loop.files pre.1.0 (omega arith) (λ k. omega (arith, c.type_inv.words k)) (omega arith) loop.invariant.1.keeps loop.invariant.1.made in
-    (omega arith, row-yes 9 64 w loop.i loop.files loop.invariant.1 c.loop-i-test.true loop.invariant.0 (omega arith) _ _ (sym rule ∙ sym stands.ensures ∙ c.if-not-open_stands.false) n.fid-same n.file-same n.fid-small)
+    let n = open-numbers w (loop.i - 1) args.codes.now loop.files pre.1.0 (omega arith) (marked-length 9 64 w loop.invariant) (sym stands.ensures ∙ c.if-not-open_stands.false) in
+    let rule = open-stands w (loop.i - 1) (rest (rows 9 64 w) (word w 0) loop.i) args.codes.now loop.files pre.1.0 (omega arith) (λ k. omega (arith, c.type_inv.words k)) (omega arith) loop.invariant.keeps loop.invariant.made in
+    row-yes 9 64 w loop.i loop.files loop.invariant c.loop-i-test.true (omega arith) (omega arith) _ _ (sym rule ∙ sym stands.ensures ∙ c.if-not-open_stands.false) n.fid-same n.file-same n.fid-small
 
 pub returns : goal.returns
 unfolding open_array
@@ -127,4 +97,4 @@ returns c =
     let args = c.args in
     let loop = c.loop-i in
     let z : loop.i ≡ 0 = omega arith in
-    told-yes open_limits 64 open_of 64 fid_of (open_in args.codes.now) (λ o. o.file) 255 65 args.words.now loop.files (rw z at loop.invariant.1)
+    told-yes open_limits 64 open_of 64 fid_of (open_in args.codes.now) (λ o. o.file) 255 65 args.words.now loop.files (rw z at loop.invariant)

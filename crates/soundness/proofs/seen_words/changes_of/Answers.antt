@@ -9,8 +9,8 @@ use Rattle.tables.specs.Words.{file_array}
 use Rattle.tables.specs.ArrayLaws.{length-file_array}
 use Rattle.soundness.proofs.seen_words.changes_of.Goals as goal
 
-pub returns-then-i-ge16 : goal.returns-then-i-ge16
-returns-then-i-ge16 c =
+pub returns-else-i-lt16 : goal.returns-else-i-lt16
+returns-else-i-lt16 c =
     let f = file_array c.args.files.now in
     let long : length (file_array c.args.files.now) ≡ 16 = length-file_array c.args.files.now in
     let past : length (file_array c.args.files.now) ≤ c.args.file = omega arith in

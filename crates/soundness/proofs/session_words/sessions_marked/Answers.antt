@@ -27,15 +27,9 @@ session-uid w i uids long few size e =
     let small : word w (1 + 2 * i) < 17 = rw size at (free-inside 0 uids (word w (1 + 2 * i)) free) in
     (small, rw same (uncut (word w (1 + 2 * i)) 65535 (omega arith)))
 
-pub bounds-words-0 : goal.bounds-words-0
-bounds-words-0 c = omega arith
-
 pub loop-i-init : goal.loop-i-init
 unfolding by_number up_to entry
-loop-i-init c = (omega arith, marked_start (word c.args.words.now 0) _ (omega arith) refl)
-
-pub overflow_sub-i : goal.overflow_sub-i
-overflow_sub-i c = omega arith
+loop-i-init c = marked_start (word c.args.words.now 0) _ (omega arith) refl
 
 pub returns-then-not-session_stands : goal.returns-then-not-session_stands
 unfolding session_array
@@ -44,22 +38,10 @@ returns-then-not-session_stands c =
     let loop = c.loop-i in
     let pre = c.requires in
     let stands = c.session_stands in
-    let fails = session-stands w (loop.i - 1) (rest (rows 2 16 w) (word w 0) loop.i) loop.uids pre.0 (omega arith) loop.invariant.1.keeps loop.invariant.1.made in
-    told-no session_limits 16 session_of 16 uid_of (λ _. true) (λ _. 1) 0 17 w loop.uids
-    (row-no 2 16 w loop.i loop.uids loop.invariant.1 c.loop-i-test.true loop.invariant.0 (omega arith)
+    let fails = session-stands w (loop.i - 1) (rest (rows 2 16 w) (word w 0) loop.i) loop.uids pre.0 (omega arith) loop.invariant.keeps loop.invariant.made in
+    told-no session_limits 16 session_of 16 uid_of (λ _. true) (λ _. 1) 0 17 w
+    (row-no 2 16 w loop.i loop.uids loop.invariant c.loop-i-test.true (omega arith) (omega arith)
     (sym fails ∙ sym stands.ensures ∙ c.if-not-session_stands.true))
-
-pub overflow_mul-uid : goal.overflow_mul-uid
-overflow_mul-uid c = omega arith
-
-pub overflow_add-uid : goal.overflow_add-uid
-overflow_add-uid c = omega arith
-
-pub offset_bounds-words-i : goal.offset_bounds-words-i
-offset_bounds-words-i c = omega arith
-
-pub bounds-words-i : goal.bounds-words-i
-bounds-words-i c = omega arith
 
 pub bounds-uids-uid : goal.bounds-uids-uid
 bounds-uids-uid c =
@@ -67,11 +49,8 @@ bounds-uids-uid c =
     let pre = c.requires in
     let loop = c.loop-i in
     let stands = c.session_stands in
-    let small = session-uid w (loop.i - 1) loop.uids pre.0 (omega arith) (marked-length 2 16 w loop.invariant.1) (sym stands.ensures ∙ c.if-not-session_stands.false) in
+    let small = session-uid w (loop.i - 1) loop.uids pre.0 (omega arith) (marked-length 2 16 w loop.invariant) (sym stands.ensures ∙ c.if-not-session_stands.false) in
     omega arith
-
-pub loop-i-smaller : goal.loop-i-smaller
-loop-i-smaller c = omega arith
 
 pub loop-i-preserved : goal.loop-i-preserved
 loop-i-preserved c =
@@ -80,9 +59,9 @@ loop-i-preserved c =
     let loop = c.loop-i in
     let stands = c.session_stands in
     let stood = sym stands.ensures ∙ c.if-not-session_stands.false in
-    let u = session-uid w (loop.i - 1) loop.uids pre.0 (omega arith) (marked-length 2 16 w loop.invariant.1) stood in
-    let holds = session-stands w (loop.i - 1) (rest (rows 2 16 w) (word w 0) loop.i) loop.uids pre.0 (omega arith) loop.invariant.1.keeps loop.invariant.1.made in
-    (omega arith, row-yes 2 16 w loop.i loop.uids loop.invariant.1 c.loop-i-test.true loop.invariant.0 (omega arith) _ 1 (sym holds ∙ stood) u.1 refl u.0)
+    let u = session-uid w (loop.i - 1) loop.uids pre.0 (omega arith) (marked-length 2 16 w loop.invariant) stood in
+    let holds = session-stands w (loop.i - 1) (rest (rows 2 16 w) (word w 0) loop.i) loop.uids pre.0 (omega arith) loop.invariant.keeps loop.invariant.made in
+    row-yes 2 16 w loop.i loop.uids loop.invariant c.loop-i-test.true (omega arith) (omega arith) _ 1 (sym holds ∙ stood) u.1 refl u.0
 
 pub returns : goal.returns
 unfolding session_array
@@ -90,4 +69,4 @@ returns c =
     let w = c.args.words.now in
     let loop = c.loop-i in
     let z : loop.i ≡ 0 = omega arith in
-    told-yes session_limits 16 session_of 16 uid_of (λ _. true) (λ _. 1) 0 17 w loop.uids (rw z at loop.invariant.1)
+    told-yes session_limits 16 session_of 16 uid_of (λ _. true) (λ _. 1) 0 17 w loop.uids (rw z at loop.invariant)

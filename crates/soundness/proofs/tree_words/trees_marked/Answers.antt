@@ -47,15 +47,9 @@ tree-numbers w i uids codes long few size wide e =
       code_same = rw (same, uncut (word w (1 + 3 * i + 1)) 65535 (omega arith), uncut (word w (1 + 3 * i + 2)) 255 (omega arith));
     }
 
-pub bounds-words-0 : goal.bounds-words-0
-bounds-words-0 c = omega arith
-
 pub loop-i-init : goal.loop-i-init
 unfolding by_number up_to entry
-loop-i-init c = (omega arith, marked_start (word c.args.words.now 0) _ (omega arith) refl)
-
-pub overflow_sub-i : goal.overflow_sub-i
-overflow_sub-i c = omega arith
+loop-i-init c = marked_start (word c.args.words.now 0) _ (omega arith) refl
 
 pub returns-then-not-tree_stands : goal.returns-then-not-tree_stands
 unfolding tree_array
@@ -65,31 +59,10 @@ returns-then-not-tree_stands c =
     let loop = c.loop-i in
     let w = args.words.now in
     let stands = c.tree_stands in
-    let rule = tree-stands w (loop.i - 1) (rest (rows 3 32 w) (word w 0) loop.i) args.uids.now loop.codes pre.1.0 (omega arith) (omega arith) loop.invariant.1.keeps loop.invariant.1.made in
-    told-no tree_limits 32 tree_of 32 tid_of (tree_in args.uids.now) tree_code 0 33 w loop.codes
-    (row-no 3 32 w loop.i loop.codes loop.invariant.1 c.loop-i-test.true loop.invariant.0 (omega arith)
+    let rule = tree-stands w (loop.i - 1) (rest (rows 3 32 w) (word w 0) loop.i) args.uids.now loop.codes pre.1.0 (omega arith) (omega arith) loop.invariant.keeps loop.invariant.made in
+    told-no tree_limits 32 tree_of 32 tid_of (tree_in args.uids.now) tree_code 0 33 w
+    (row-no 3 32 w loop.i loop.codes loop.invariant c.loop-i-test.true (omega arith) (omega arith)
     (sym rule ∙ sym stands.ensures ∙ c.if-not-tree_stands.true))
-
-pub overflow_mul-at : goal.overflow_mul-at
-overflow_mul-at c = omega arith
-
-pub overflow_add-at : goal.overflow_add-at
-overflow_add-at c = omega arith
-
-pub offset_bounds-words-at : goal.offset_bounds-words-at
-offset_bounds-words-at c = omega arith
-
-pub bounds-words-at : goal.bounds-words-at
-bounds-words-at c = omega arith
-
-pub overflow_add-codes : goal.overflow_add-codes
-overflow_add-codes c = omega arith
-
-pub offset_bounds-words-at-in-loop-i : goal.offset_bounds-words-at-in-loop-i
-offset_bounds-words-at-in-loop-i c = omega arith
-
-pub bounds-words-at-in-loop-i : goal.bounds-words-at-in-loop-i
-bounds-words-at-in-loop-i c = omega arith
 
 pub overflow_mul-codes : goal.overflow_mul-codes
 overflow_mul-codes c =
@@ -98,7 +71,7 @@ overflow_mul-codes c =
     let loop = c.loop-i in
     let w = args.words.now in
     let stands = c.tree_stands in
-    let n = tree-numbers w (loop.i - 1) args.uids.now loop.codes pre.1.0 (omega arith) pre.0 (marked-length 3 32 w loop.invariant.1) (sym stands.ensures ∙ c.if-not-tree_stands.false) in
+    let n = tree-numbers w (loop.i - 1) args.uids.now loop.codes pre.1.0 (omega arith) pre.0 (marked-length 3 32 w loop.invariant) (sym stands.ensures ∙ c.if-not-tree_stands.false) in
     omega arith
 
 pub overflow_add-codes-in-loop-i : goal.overflow_add-codes-in-loop-i
@@ -108,17 +81,8 @@ overflow_add-codes-in-loop-i c =
     let loop = c.loop-i in
     let w = args.words.now in
     let stands = c.tree_stands in
-    let n = tree-numbers w (loop.i - 1) args.uids.now loop.codes pre.1.0 (omega arith) pre.0 (marked-length 3 32 w loop.invariant.1) (sym stands.ensures ∙ c.if-not-tree_stands.false) in
+    let n = tree-numbers w (loop.i - 1) args.uids.now loop.codes pre.1.0 (omega arith) pre.0 (marked-length 3 32 w loop.invariant) (sym stands.ensures ∙ c.if-not-tree_stands.false) in
     omega arith
-
-pub overflow_add-codes-in-loop-i-2 : goal.overflow_add-codes-in-loop-i-2
-overflow_add-codes-in-loop-i-2 c = omega arith
-
-pub offset_bounds-words-at-in-loop-i-2 : goal.offset_bounds-words-at-in-loop-i-2
-offset_bounds-words-at-in-loop-i-2 c = omega arith
-
-pub bounds-words-at-in-loop-i-2 : goal.bounds-words-at-in-loop-i-2
-bounds-words-at-in-loop-i-2 c = omega arith
 
 pub overflow_add-codes-in-loop-i-3 : goal.overflow_add-codes-in-loop-i-3
 overflow_add-codes-in-loop-i-3 c =
@@ -127,7 +91,7 @@ overflow_add-codes-in-loop-i-3 c =
     let loop = c.loop-i in
     let w = args.words.now in
     let stands = c.tree_stands in
-    let n = tree-numbers w (loop.i - 1) args.uids.now loop.codes pre.1.0 (omega arith) pre.0 (marked-length 3 32 w loop.invariant.1) (sym stands.ensures ∙ c.if-not-tree_stands.false) in
+    let n = tree-numbers w (loop.i - 1) args.uids.now loop.codes pre.1.0 (omega arith) pre.0 (marked-length 3 32 w loop.invariant) (sym stands.ensures ∙ c.if-not-tree_stands.false) in
     omega arith
 
 pub overflow_cast-codes : goal.overflow_cast-codes
@@ -137,7 +101,7 @@ overflow_cast-codes c =
     let loop = c.loop-i in
     let w = args.words.now in
     let stands = c.tree_stands in
-    let n = tree-numbers w (loop.i - 1) args.uids.now loop.codes pre.1.0 (omega arith) pre.0 (marked-length 3 32 w loop.invariant.1) (sym stands.ensures ∙ c.if-not-tree_stands.false) in
+    let n = tree-numbers w (loop.i - 1) args.uids.now loop.codes pre.1.0 (omega arith) pre.0 (marked-length 3 32 w loop.invariant) (sym stands.ensures ∙ c.if-not-tree_stands.false) in
     omega arith
 
 pub bounds-codes-tid : goal.bounds-codes-tid
@@ -147,11 +111,8 @@ bounds-codes-tid c =
     let loop = c.loop-i in
     let w = args.words.now in
     let stands = c.tree_stands in
-    let n = tree-numbers w (loop.i - 1) args.uids.now loop.codes pre.1.0 (omega arith) pre.0 (marked-length 3 32 w loop.invariant.1) (sym stands.ensures ∙ c.if-not-tree_stands.false) in
+    let n = tree-numbers w (loop.i - 1) args.uids.now loop.codes pre.1.0 (omega arith) pre.0 (marked-length 3 32 w loop.invariant) (sym stands.ensures ∙ c.if-not-tree_stands.false) in
     omega arith
-
-pub loop-i-smaller : goal.loop-i-smaller
-loop-i-smaller c = omega arith
 
 pub loop-i-preserved : goal.loop-i-preserved
 loop-i-preserved c =
@@ -160,9 +121,9 @@ loop-i-preserved c =
     let loop = c.loop-i in
     let w = args.words.now in
     let stands = c.tree_stands in
-    let n = tree-numbers w (loop.i - 1) args.uids.now loop.codes pre.1.0 (omega arith) pre.0 (marked-length 3 32 w loop.invariant.1) (sym stands.ensures ∙ c.if-not-tree_stands.false) in
-    let rule = tree-stands w (loop.i - 1) (rest (rows 3 32 w) (word w 0) loop.i) args.uids.now loop.codes pre.1.0 (omega arith) (omega arith) loop.invariant.1.keeps loop.invariant.1.made in
-    (omega arith, row-yes 3 32 w loop.i loop.codes loop.invariant.1 c.loop-i-test.true loop.invariant.0 (omega arith) _ _ (sym rule ∙ sym stands.ensures ∙ c.if-not-tree_stands.false) n.tid-same n.code_same n.tid-small)
+    let n = tree-numbers w (loop.i - 1) args.uids.now loop.codes pre.1.0 (omega arith) pre.0 (marked-length 3 32 w loop.invariant) (sym stands.ensures ∙ c.if-not-tree_stands.false) in
+    let rule = tree-stands w (loop.i - 1) (rest (rows 3 32 w) (word w 0) loop.i) args.uids.now loop.codes pre.1.0 (omega arith) (omega arith) loop.invariant.keeps loop.invariant.made in
+    row-yes 3 32 w loop.i loop.codes loop.invariant c.loop-i-test.true (omega arith) (omega arith) _ _ (sym rule ∙ sym stands.ensures ∙ c.if-not-tree_stands.false) n.tid-same n.code_same n.tid-small
 
 pub returns : goal.returns
 unfolding tree_array
@@ -170,4 +131,4 @@ returns c =
     let args = c.args in
     let loop = c.loop-i in
     let z : loop.i ≡ 0 = omega arith in
-    told-yes tree_limits 32 tree_of 32 tid_of (tree_in args.uids.now) tree_code 0 33 args.words.now loop.codes (rw z at loop.invariant.1)
+    told-yes tree_limits 32 tree_of 32 tid_of (tree_in args.uids.now) tree_code 0 33 args.words.now loop.codes (rw z at loop.invariant)

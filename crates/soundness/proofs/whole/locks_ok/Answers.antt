@@ -8,14 +8,8 @@ use Rattle.tables.specs.Written.{locks_in}
 use Rattle.soundness.specs.WholeLaws.{fits-in-bounds}
 use Rattle.soundness.proofs.whole.locks_ok.Goals as goal
 
-pub returns-then-not-locks_fit : goal.returns-then-not-locks_fit
-returns-then-not-locks_fit c = rw (sym c.locks_fit.ensures ∙ c.if-not-locks_fit.true)
-
 pub locks_agree-requires : goal.locks_agree-requires
 locks_agree-requires c =
     let args = c.args in
-    let fit = both_hold (table_fits lock_limits 128 args.words.now) _ (sym c.locks_fit.ensures ∙ c.if-not-locks_fit.false) in
+    let fit = both_hold (table_fits lock_limits 128 args.words.now) _ (sym c.locks_fit.ensures ∙ c.if-locks_fit.true) in
     record { words_len = c.requires.1; words_value = fits-in-bounds (file_in args.files.now) (locks_in args.words.now) fit.1 }
-
-pub returns : goal.returns
-returns c = rw (sym c.locks_fit.ensures ∙ c.if-not-locks_fit.false) c.locks_agree.ensures
