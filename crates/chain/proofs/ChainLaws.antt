@@ -1,5 +1,5 @@
 -- Of specs/ChainLaws.antt: what rests on its other theorems. Assumes nothing.
-use Rattle.std.specs.Prelude.{◌≡◌, ℕ, zero, suc, ◌-◌, ◌≤◌, ◌<◌, List}
+use Rattle.std.specs.Prelude.{◌≡◌, ℕ, zero, suc, ◌-◌, ◌≤◌, ◌<◌, List, Some as Whole}
 use Rattle.std.proofs.Math.Path.{ap}
 use Rattle.std.proofs.Common.{◌∙◌, arith}
 use Rattle.std.proofs.Math.ListN.{length}
@@ -8,10 +8,7 @@ use Rattle.chain.specs.Parse.{parse}
 use Rattle.chain.proofs.ParseLaws.{placed}
 use Rattle.chain.specs.Chain.{before, after_block, after_parse, blocks_within, blocks_from}
 use Rattle.chain.specs.declared.block.Block.{Block}
-use Rattle.chain.specs.declared.block.Next.{Next}
-use Rattle.chain.specs.declared.block.Next.TheVariants.{Follow}
-use Rattle.chain.specs.declared.block.Parsed.{Parsed}
-use Rattle.chain.specs.declared.block.Parsed.TheVariants.{Whole}
+use Rattle.chain.specs.Next.{Next, Follow, Parsed}
 use Rattle.chain.specs.ChainLaws.{parse-same}
 
 -- turns enough give the same reading, however many they are

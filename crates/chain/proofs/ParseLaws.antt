@@ -1,5 +1,5 @@
 -- Of specs/ParseLaws.antt: what rests on its other theorems. Assumes nothing.
-use Rattle.std.specs.Prelude.{◌≡◌, ℕ, ◌≤◌, Bool, true, ◌&&◌, List}
+use Rattle.std.specs.Prelude.{◌≡◌, ℕ, ◌≤◌, Bool, true, ◌&&◌, List, Some as Whole, None as Malformed}
 use Rattle.std.proofs.Common.{sym, ◌∙◌}
 use Rattle.std.proofs.Math.ListN.{length}
 use Rattle.std.proofs.Math.Dec.{eqb}
@@ -9,7 +9,6 @@ use Rattle.chain.specs.Parse.{bare, locking_fits, read_fits, write_fits, link_fi
 use Rattle.chain.specs.declared.block.Body.{Body}
 use Rattle.chain.specs.declared.block.Body.TheVariants.{Close, Logoff, TreeDisconnect, ProcessExit, LockByteRange, UnlockByteRange}
 use Rattle.chain.specs.declared.block.Block.{Block}
-use Rattle.chain.specs.declared.block.Parsed.TheVariants.{Whole, Malformed}
 use Rattle.chain.specs.ParseLaws.{Placed, answer-whole, bare-inside, link-ahead, locking-inside, open-inside, placed-bare, placed-core-write, read-inside, unserved, write-inside}
 
 module _ (s : List ℕ) (command at : ℕ) (fits : Bool) (body : Body) (b : Block) (inside : fits ≡ true → block_end s at ≤ length s) where

@@ -6,7 +6,7 @@ use Prim.Native.Nat.{ℕ, ◌-◌, ◌≤◌, ◌<◌}
 use native.Mathlib.Omega.{arith}
 use mathlib.Core.Bool.{true, false}
 use mathlib.Core.List.{List}
-use mathlib.Core.Option.{Option, none, some}
+use Rattle.std.specs.Prelude.{Option, None, Some, None as End, Some as Fits, None as NotFit}
 use lib.ListN.{length}
 use Rattle.chain.specs.Layout.{block_end}
 use Rattle.chain.specs.Parse.{parse}
@@ -16,29 +16,28 @@ use Rattle.chain.specs.ChainLaws.{chain-refused, chain-end}
 use Rattle.chain.proofs.ChainLaws.{chain_more}
 use Rattle.chain.specs.Judged.{judged, readable, judged-malformed, judged-stands, Stood}
 use Rattle.chain.specs.declared.block.Block.{Block}
-use Rattle.chain.specs.declared.block.Next.TheVariants.{End, Follow}
-use Rattle.chain.specs.declared.block.Judged.TheVariants as judge
+use Rattle.chain.specs.Next.{Follow}
 
 -- a block in front changes nothing
 readable-before : (b : Block) (o : Option (List Block)) → readable (before b o) ≡ readable o
 unfolding readable before
-readable-before b none = refl
-readable-before b (some bs) = refl
+readable-before b None = refl
+readable-before b (Some bs) = refl
 
 module _ (s : List ℕ) (command at : ℕ) where
   -- a block that is refused
-  pub sentence-refused : judged (parse s command at) ≡ judge.Malformed → readable (blocks_from s command at) ≡ false
+  pub sentence-refused : judged (parse s command at) ≡ NotFit → readable (blocks_from s command at) ≡ false
   unfolding readable
   sentence-refused e = ap readable (chain-refused s command at (judged-malformed (parse s command at) e))
 
   -- a block that nothing follows
-  pub sentence-end : judged (parse s command at) ≡ judge.Fits End → readable (blocks_from s command at) ≡ true
+  pub sentence-end : judged (parse s command at) ≡ Fits End → readable (blocks_from s command at) ≡ true
   unfolding readable
   sentence-end e =
       let b = judged-stands (parse s command at) End e in
       ap readable (chain-end s command at b.block b.whole b.follows)
 
-  module _ (c a : ℕ) (e : judged (parse s command at) ≡ judge.Fits (Follow c a)) where
+  module _ (c a : ℕ) (e : judged (parse s command at) ≡ Fits (Follow c a)) where
     stood : Stood (parse s command at) (Follow c a)
     stood = judged-stands (parse s command at) (Follow c a) e
 

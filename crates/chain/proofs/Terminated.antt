@@ -1,36 +1,33 @@
--- A walk over the bytes of a name from the front: what is said of the bytes from a place on, said of those after it.
+-- A name with the byte behind it: all of the bytes but the last, and the last.
 -- Assumes nothing.
-use mathlib.Core.Path.{◌≡◌}
-use Prim.Native.Nat.{ℕ, ◌+◌, ◌-◌, ◌≤◌, ◌<◌}
-use native.Mathlib.Numerals.{add-one}
-use native.Mathlib.Omega.{arith}
-use mathlib.Core.Bool.{false}
-use mathlib.Core.List.{List}
-use lib.ListN.{length, drop, get_or, length-drop, drop_of_length-le}
-use lib.Seq.{drop-cons}
+use mathlib.Core.Path.{◌≡◌, refl}
+use Prim.Native.Nat.{ℕ}
+use mathlib.Core.Bool.{Bool, true, false, not, ◌&&◌, ◌||◌}
+use mathlib.Core.List.{List, [], ◌∷◌}
+use lib.ListN.{length}
 use lib.Dec.{eqb}
-use borrow.Author.Tests.{eqb-true, eq-eqb}
-use Rattle.lists.specs.Truth.{same_truth}
+use Rattle.std.specs.Prelude.{◌++◌, ◌+◌, cond}
+use native.Mathlib.Omega.{arith}
+use borrow.Author.Tests.{ne_eqb}
+use Rattle.std.proofs.lemmas.List.{length_push}
+use Rattle.std.specs.List.{list_any}
 use Rattle.chain.specs.Parse.{terminated}
 
-module _ (xs : List ℕ) (i : ℕ) where
-  -- a zero byte decides: it is the last byte
-  pub terminated-zero : i < length xs → get_or xs i 0 ≡ 0 → terminated (drop i xs) ≡ eqb (i + 1) (length xs)
-  unfolding terminated
-  terminated-zero h e =
-      let left : length (drop (i + 1) xs) ≡ length xs - (i + 1) = length-drop (i + 1) xs in
-      let last : eqb (length (drop (i + 1) xs)) 0 ≡ eqb (i + 1) (length xs) =
-      same_truth (eqb (length (drop (i + 1) xs)) 0) (eqb (i + 1) (length xs))
-      (λ t. let none : length (drop (i + 1) xs) ≡ 0 = eqb-true _ _ t in eq-eqb (i + 1) (length xs) (omega arith))
-      (λ t. let all : i + 1 ≡ length xs = eqb-true _ _ t in eq-eqb (length (drop (i + 1) xs)) 0 (omega arith)) in
-      rw (drop-cons xs i 0 h, e, ← (add-one i)) last
+-- whether a zero byte is among them
+abbrev pub has-zero : List ℕ → Bool
+has-zero xs = list_any (λ y. eqb y 0) xs
 
-  -- any other is passed over
-  pub terminated-more : i < length xs → eqb (get_or xs i 0) 0 ≡ false → terminated (drop i xs) ≡ terminated (drop (i + 1) xs)
-  unfolding terminated
-  terminated-more h e = rw (drop-cons xs i 0 h, e, add-one i)
+more : (xs : List ℕ) (x : ℕ) → eqb (length (xs ++ x ∷ [])) 0 ≡ false
+more xs x = ne_eqb (length (xs ++ x ∷ [])) 0 (λ e. let one : length (xs ++ x ∷ []) ≡ length xs + 1 = length_push xs x in omega arith)
 
-  -- there was none
-  pub terminated-end : length xs ≤ i → terminated (drop i xs) ≡ false
-  unfolding terminated
-  terminated-end h = rw (drop_of_length-le xs h)
+pub terminated-last : (name : List ℕ) (last : ℕ) → terminated (name ++ last ∷ []) ≡ (eqb last 0 && not (has-zero name))
+unfolding terminated
+terminated-last [] last = alone (eqb last 0) where
+  alone : (b : Bool) → cond b true false ≡ (b && true)
+  alone true = refl
+  alone false = refl
+terminated-last (y ∷ ys) last = rw (terminated-last ys last, more ys last) (first (eqb y 0) (eqb last 0)) where
+  first : (b l : Bool) → cond b false (l && not (has-zero ys)) ≡ (l && not (b || has-zero ys))
+  first true true = refl
+  first true false = refl
+  first false l = refl

@@ -1,5 +1,6 @@
 pub mod Layout
 pub mod Header
+pub mod Next
 pub mod Grammar
 pub mod Parse
 pub mod Request

@@ -1,16 +1,13 @@
 -- What the reader of one block answers, as tests on the bytes and total field extraction.
 -- Assumes nothing.
-use Rattle.std.specs.Prelude.{ℕ, ◌+◌, ◌-◌, ◌*◌, ◌/◌, ◌%◌, Bool, false, cond, ◌&&◌, ◌||◌, List, [], ◌∷◌, length, take, drop, leb, eqb}
+use Rattle.std.specs.Prelude.{ℕ, ◌+◌, ◌-◌, ◌*◌, ◌/◌, ◌%◌, Bool, false, cond, ◌&&◌, ◌||◌, List, [], ◌∷◌, length, take, drop, leb, eqb, None as End, Some as Whole, None as Malformed}
 use Rattle.locks.specs.Wire.{range_size}
 use Rattle.chain.specs.Layout.{CLOSE, PROCESS_EXIT, LOCKING, READ, WRITE, TREE_DISCONNECT, LOGOFF, CORE-READ, CORE-WRITE, LOCK_BYTE_RANGE, UNLOCK_BYTE_RANGE, OPEN, NO_COMMAND, word_count, byte_area, byte_count, block_end, andx_command, andx_offset, fid_after_andx, lock_type, unlock_count, lock_count, offset_low, read_max, read_offset_high, data_length, data_offset, write_offset_high, first_fid, core_count, core_offset, data_mark, marked_length, marked_data, range_length, range_offset, open_flags, access_mode, open_mode}
 use Rattle.chain.specs.declared.block.Body.{Body}
 use Rattle.chain.specs.declared.block.Body.TheVariants.{Locking, Read, Write, Close, Logoff, TreeDisconnect, ProcessExit, CoreRead, CoreWrite, LockByteRange, UnlockByteRange, Open}
 use Rattle.chain.specs.declared.block.RangeFields.{RangeFields}
 use Rattle.chain.specs.declared.block.OpenFields.{OpenFields}
-use Rattle.chain.specs.declared.block.Next.{Next}
-use Rattle.chain.specs.declared.block.Next.TheVariants.{End, Follow}
-use Rattle.chain.specs.declared.block.Parsed.{Parsed}
-use Rattle.chain.specs.declared.block.Parsed.TheVariants.{Whole, Malformed}
+use Rattle.chain.specs.Next.{Next, Follow, Parsed}
 
 -- a block of that many words inside the message
 unfoldable pub shaped : List ℕ → ℕ → ℕ → Bool

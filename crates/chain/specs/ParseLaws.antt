@@ -1,6 +1,6 @@
 -- Laws of the reader of one block: a block that it yields stands inside the message, and its follower not before its end.
 -- Assumes nothing.
-use Rattle.std.specs.Prelude.{◌≡◌, refl, ℕ, ◌+◌, ◌*◌, ◌≤◌, ◌<◌, Bool, true, false, cond, ◌&&◌, ◌||◌, List, leb}
+use Rattle.std.specs.Prelude.{◌≡◌, refl, ℕ, ◌+◌, ◌*◌, ◌≤◌, ◌<◌, Bool, true, false, cond, ◌&&◌, ◌||◌, List, leb, None as End, Some as Whole, None as Malformed}
 use native.Mathlib.Omega.{arith}
 use Rattle.std.proofs.Math.Bool.{and-false}
 use Rattle.std.proofs.Math.ListN.{length}
@@ -12,10 +12,8 @@ use Rattle.locks.specs.Wire.{range_size}
 use Rattle.chain.specs.Layout.{CORE-WRITE, NO_COMMAND, word_count, byte_count, block_end, andx_command, andx_offset, lock_type, unlock_count, lock_count, core_count, data_mark, marked_length}
 use Rattle.chain.specs.Parse.{shaped, bare, is_large, locking_fits, read_fits, data_inside, write_fits, may_follow, link_fits, link_at, answer, core_write_fits, terminated, bytes_at, open_fits, parse_bare, parse_core_write}
 use Rattle.chain.specs.declared.block.Body.{Body}
-use Rattle.chain.specs.declared.block.Next.{Next}
-use Rattle.chain.specs.declared.block.Next.TheVariants.{End, Follow}
+use Rattle.chain.specs.Next.{Next, Follow, same-place}
 use Rattle.chain.specs.declared.block.Block.{Block}
-use Rattle.chain.specs.declared.block.Parsed.TheVariants.{Whole, Malformed}
 
 module _ (s : List ℕ) (at : ℕ) where
   -- past the end stands no block
@@ -84,7 +82,7 @@ module _ (s : List ℕ) (at : ℕ) where
 link-case : (stop may : Bool) (end command at c a : ℕ) → (stop || (may && leb end at)) ≡ true → cond stop End (Follow command at) ≡ Follow c a → end ≤ a
 link-case true may end command at c a e f = let never : ◌≡◌ {A = ℕ} 0 1 = cc in omega arith
 link-case false may end command at c a e f =
-    let same : at ≡ a = cc in
+    let same : at ≡ a = same-place f in
     let below : end ≤ at = leb-true end at (both_hold may (leb end at) e).1 in
     omega arith
 

@@ -1,7 +1,7 @@
 -- A block by the row of its command: whether it fits the row, whether its words begin with AndX, and what follows it. The reader of one
 -- block answers by these alone (`parse-row`), whatever the block's fields are.
 -- Assumes nothing.
-use Rattle.std.specs.Prelude.{◌≡◌, ℕ, ◌+◌, ◌≤◌, Bool, true, false, cond, ◌&&◌, ◌||◌, List, length}
+use Rattle.std.specs.Prelude.{◌≡◌, ℕ, ◌+◌, ◌≤◌, Bool, true, false, cond, ◌&&◌, ◌||◌, List, length, Option, Some, None, None as End, Some as Fits, None as NotFit}
 use Rattle.std.proofs.Math.Path.{refl}
 use Rattle.std.proofs.Common.{sym, ap, ◌∙◌, arith}
 use Rattle.std.proofs.lemmas.Bool.{false≢true}
@@ -14,28 +14,25 @@ use Rattle.chain.specs.RequestLaws.{Unserved}
 use Rattle.chain.specs.Judged.{is_whole, judged}
 use Rattle.chain.specs.declared.block.Body.{Body}
 use Rattle.chain.specs.declared.block.Body.TheVariants.{ProcessExit}
-use Rattle.chain.specs.declared.block.Next.{Next}
-use Rattle.chain.specs.declared.block.Next.TheVariants.{End}
-use Rattle.chain.specs.declared.block.Judged.{Judged}
-use Rattle.chain.specs.declared.block.Judged.TheVariants as judge
+use Rattle.chain.specs.Next.{Next, Judged}
 use Rattle.chain.specs.declared.command.ServedRequest.{ServedRequest}
 use Rattle.chain.specs.declared.command.ServedRequest.TheVariants as named
 
 -- the row's test of the block, without its AndX words
-unfoldable pub row_fits : List ℕ → ServedRequest → ℕ → Bool
-row_fits s named.Locking at = locking_fits s at
-row_fits s named.Read at = read_fits s at
-row_fits s named.Write at = write_fits s at
-row_fits s named.Close at = bare s at 3
-row_fits s named.Logoff at = bare s at 2
-row_fits s named.TreeDisconnect at = bare s at 0
-row_fits s named.ProcessExit at = bare s at 0
-row_fits s named.CoreRead at = bare s at 5
-row_fits s named.CoreWrite at = core_write_fits s at
-row_fits s named.LockByteRange at = bare s at 5
-row_fits s named.UnlockByteRange at = bare s at 5
-row_fits s named.Open at = open_fits s at
-row_fits s named.None at = false
+unfoldable pub row_fits : List ℕ → Option ServedRequest → ℕ → Bool
+row_fits s (Some named.Locking) at = locking_fits s at
+row_fits s (Some named.Read) at = read_fits s at
+row_fits s (Some named.Write) at = write_fits s at
+row_fits s (Some named.Close) at = bare s at 3
+row_fits s (Some named.Logoff) at = bare s at 2
+row_fits s (Some named.TreeDisconnect) at = bare s at 0
+row_fits s (Some named.ProcessExit) at = bare s at 0
+row_fits s (Some named.CoreRead) at = bare s at 5
+row_fits s (Some named.CoreWrite) at = core_write_fits s at
+row_fits s (Some named.LockByteRange) at = bare s at 5
+row_fits s (Some named.UnlockByteRange) at = bare s at 5
+row_fits s (Some named.Open) at = open_fits s at
+row_fits s None at = false
 
 -- and with them, where it has them
 unfoldable pub fits : List ℕ → ℕ → ℕ → Bool
@@ -47,7 +44,7 @@ next_at s command at = cond (is_andx (request_named command)) (link_at s at) End
 
 -- the AndX words, judged
 unfoldable pub link_judged : List ℕ → ℕ → ℕ → Judged
-link_judged s command at = cond (link_fits s command at) (judge.Fits (link_at s at)) judge.Malformed
+link_judged s command at = cond (link_fits s command at) (Fits (link_at s at)) NotFit
 
 -- the fields that the reader gives the block with that command at a place, should it fit
 pub record HasBody (s : List ℕ) (command at : ℕ) (body : Body) : Type 0 where
@@ -116,50 +113,50 @@ module _ (s : List ℕ) (at : ℕ) where
 -- ---- a block judged
 
 -- a block that fits its row stands inside the message
-pub row_inside : (s : List ℕ) (request : ServedRequest) (at : ℕ) → row_fits s request at ≡ true → block_end s at ≤ length s
+pub row_inside : (s : List ℕ) (request : Option ServedRequest) (at : ℕ) → row_fits s request at ≡ true → block_end s at ≤ length s
 unfolding row_fits
-row_inside s named.Locking at e = locking-inside s at e
-row_inside s named.Read at e = read-inside s at e
-row_inside s named.Write at e = write-inside s at e
-row_inside s named.Close at e = bare-inside s at 3 e
-row_inside s named.Logoff at e = bare-inside s at 2 e
-row_inside s named.TreeDisconnect at e = bare-inside s at 0 e
-row_inside s named.ProcessExit at e = bare-inside s at 0 e
-row_inside s named.CoreRead at e = bare-inside s at 5 e
-row_inside s named.CoreWrite at e = core-write-inside s at e
-row_inside s named.LockByteRange at e = bare-inside s at 5 e
-row_inside s named.UnlockByteRange at e = bare-inside s at 5 e
-row_inside s named.Open at e = open-inside s at e
-row_inside s named.None at e = absurd (false≢true e)
+row_inside s (Some named.Locking) at e = locking-inside s at e
+row_inside s (Some named.Read) at e = read-inside s at e
+row_inside s (Some named.Write) at e = write-inside s at e
+row_inside s (Some named.Close) at e = bare-inside s at 3 e
+row_inside s (Some named.Logoff) at e = bare-inside s at 2 e
+row_inside s (Some named.TreeDisconnect) at e = bare-inside s at 0 e
+row_inside s (Some named.ProcessExit) at e = bare-inside s at 0 e
+row_inside s (Some named.CoreRead) at e = bare-inside s at 5 e
+row_inside s (Some named.CoreWrite) at e = core-write-inside s at e
+row_inside s (Some named.LockByteRange) at e = bare-inside s at 5 e
+row_inside s (Some named.UnlockByteRange) at e = bare-inside s at 5 e
+row_inside s (Some named.Open) at e = open-inside s at e
+row_inside s None at e = absurd (false≢true e)
 
 -- and has its AndX words, where it has any
-row_words : (s : List ℕ) (request : ServedRequest) (at : ℕ) → is_andx request ≡ true → row_fits s request at ≡ true → 2 ≤ word_count s at
+row_words : (s : List ℕ) (request : Option ServedRequest) (at : ℕ) → is_andx request ≡ true → row_fits s request at ≡ true → 2 ≤ word_count s at
 unfolding is_andx row_fits locking_fits read_fits write_fits open_fits
-row_words s named.Locking at a e = let w : word_count s at ≡ 8 = shaped-words s at 8 (both_hold (shaped s at 8) _ e).0 in omega arith
-row_words s named.Read at a e =
+row_words s (Some named.Locking) at a e = let w : word_count s at ≡ 8 = shaped-words s at 8 (both_hold (shaped s at 8) _ e).0 in omega arith
+row_words s (Some named.Read) at a e =
     either-cases (bare s at 10) (bare s at 12) e (λ p. let w : word_count s at ≡ 10 = bare-words s at 10 p in omega arith)
     (λ p. let w : word_count s at ≡ 12 = bare-words s at 12 p in omega arith)
-row_words s named.Write at a e =
+row_words s (Some named.Write) at a e =
     either-cases (shaped s at 12) (shaped s at 14) (both_hold (shaped s at 12 || shaped s at 14) (data_inside s at) e).0
     (λ p. let w : word_count s at ≡ 12 = shaped-words s at 12 p in omega arith) (λ p. let w : word_count s at ≡ 14 = shaped-words s at 14 p in omega arith)
-row_words s named.Close at a e = absurd (false≢true a)
-row_words s named.Logoff at a e = let w : word_count s at ≡ 2 = bare-words s at 2 e in omega arith
-row_words s named.TreeDisconnect at a e = absurd (false≢true a)
-row_words s named.ProcessExit at a e = absurd (false≢true a)
-row_words s named.CoreRead at a e = absurd (false≢true a)
-row_words s named.CoreWrite at a e = absurd (false≢true a)
-row_words s named.LockByteRange at a e = absurd (false≢true a)
-row_words s named.UnlockByteRange at a e = absurd (false≢true a)
-row_words s named.Open at a e = let w : word_count s at ≡ 15 = shaped-words s at 15 (both_hold (shaped s at 15) _ e).0 in omega arith
-row_words s named.None at a e = absurd (false≢true a)
+row_words s (Some named.Close) at a e = absurd (false≢true a)
+row_words s (Some named.Logoff) at a e = let w : word_count s at ≡ 2 = bare-words s at 2 e in omega arith
+row_words s (Some named.TreeDisconnect) at a e = absurd (false≢true a)
+row_words s (Some named.ProcessExit) at a e = absurd (false≢true a)
+row_words s (Some named.CoreRead) at a e = absurd (false≢true a)
+row_words s (Some named.CoreWrite) at a e = absurd (false≢true a)
+row_words s (Some named.LockByteRange) at a e = absurd (false≢true a)
+row_words s (Some named.UnlockByteRange) at a e = absurd (false≢true a)
+row_words s (Some named.Open) at a e = let w : word_count s at ≡ 15 = shaped-words s at 15 (both_hold (shaped s at 15) _ e).0 in omega arith
+row_words s None at a e = absurd (false≢true a)
 
-pub andx-inside : (s : List ℕ) (request : ServedRequest) (at : ℕ) → is_andx request ≡ true → row_fits s request at ≡ true → at + 5 ≤ length s
+pub andx-inside : (s : List ℕ) (request : Option ServedRequest) (at : ℕ) → is_andx request ≡ true → row_fits s request at ≡ true → at + 5 ≤ length s
 andx-inside s request at a e =
     let w : 2 ≤ word_count s at = row_words s request at a e in
     let h : block_end s at ≤ length s = row_inside s request at e in
     omega arith
 
-pub judged-answer : (s : List ℕ) (command at : ℕ) (t : Bool) (body : Body) (next : Next) → judged (answer s command at t body next) ≡ cond t (judge.Fits next) judge.Malformed
+pub judged-answer : (s : List ℕ) (command at : ℕ) (t : Bool) (body : Body) (next : Next) → judged (answer s command at t body next) ≡ cond t (Fits next) NotFit
 unfolding judged answer
 judged-answer s command at true body next = refl
 judged-answer s command at false body next = refl

@@ -64,12 +64,15 @@ pub enum Body {
     Open(OpenFields),
 }
 
-// What follows a block: nothing, or a block with that command at that place.
+// A block that follows: its command, and its place from the header's start.
 #[derive(Clone, Copy)]
-pub enum Next {
-    End,
-    Follow(u8, usize),
+pub struct Follower {
+    pub command: u8,
+    pub at: usize,
 }
+
+// What follows a block, if anything does.
+pub type Next = Option<Follower>;
 
 // A block: its command, its place from the header's start, its length, its fields and what follows.
 #[derive(Clone, Copy)]
@@ -82,16 +85,5 @@ pub struct Block {
 }
 
 // The answer for one block: "A block's reading either yields the block or ends the chain's reading at
-// once with 2/1." The definitions give it; the code judges a block first, and takes it apart after.
-#[derive(Clone, Copy)]
-pub enum Parsed {
-    Whole(Block),
-    Malformed,
-}
-
-// The same answer where a block is judged and not taken apart: what follows a block that stands there.
-#[derive(Clone, Copy)]
-pub enum Judged {
-    Fits(Next),
-    Malformed,
-}
+// once with 2/1." The code judges a block first, and takes it apart after: what follows a block that stands there, if one does.
+pub type Judged = Option<Next>;

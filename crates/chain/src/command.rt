@@ -1,9 +1,11 @@
 // The commands of the requests served, and what may follow what.
 
-ghost use Rattle.std.specs.Prelude.{◌≡◌};
+ghost use Rattle.std.specs.Prelude.{◌≡◌, Some};
 ghost use Rattle.chain.specs.Parse.{may_follow};
 ghost use Rattle.chain.specs.Request.{request_named, is_andx, is_served};
 
+// The commands by their numbers on the wire. They are no enum: the tests of the definitions and of `may_follow`, which is public, go by the
+// numbers of any message; `request_named` makes `ServedRequest` of those that are served.
 pub const CLOSE: u8 = 0x04;
 
 pub const PROCESS_EXIT: u8 = 0x11;
@@ -31,7 +33,7 @@ pub const OPEN: u8 = 0x2d;
 // The AndXCommand that ends a chain.
 pub const NO_COMMAND: u8 = 0xff;
 
-// The requests served, as the grammar's table has them, and one case for every other command.
+// The requests served, as the grammar's table has them.
 #[derive(Clone, Copy)]
 pub enum ServedRequest {
     Locking,
@@ -46,67 +48,55 @@ pub enum ServedRequest {
     LockByteRange,
     UnlockByteRange,
     Open,
-    None,
 }
 
-// The request that a command's number names: the list of the numbers served stands here alone. It is in two halves: LLVM makes one
+// The request that a command's number names, if it is served: the list of the numbers served stands here alone. It is in two halves: LLVM makes one
 // match of all twelve a table of 113 places, and then inlines it no longer, which costs every block of a chain some nanoseconds.
-pub(crate) fn request_named(command: u8) -> ServedRequest
+pub(crate) fn request_named(command: u8) -> Option<ServedRequest>
     ensures { result ≡ request_named command }
 {
     if command < LOCKING {
         match command {
-            CLOSE => ServedRequest::Close,
-            PROCESS_EXIT => ServedRequest::ProcessExit,
-            CORE_READ => ServedRequest::CoreRead,
-            CORE_WRITE => ServedRequest::CoreWrite,
-            LOCK_BYTE_RANGE => ServedRequest::LockByteRange,
-            UNLOCK_BYTE_RANGE => ServedRequest::UnlockByteRange,
-            _ => ServedRequest::None,
+            CLOSE => Some(ServedRequest::Close),
+            PROCESS_EXIT => Some(ServedRequest::ProcessExit),
+            CORE_READ => Some(ServedRequest::CoreRead),
+            CORE_WRITE => Some(ServedRequest::CoreWrite),
+            LOCK_BYTE_RANGE => Some(ServedRequest::LockByteRange),
+            UNLOCK_BYTE_RANGE => Some(ServedRequest::UnlockByteRange),
+            _ => None,
         }
     } else {
         match command {
-            LOCKING => ServedRequest::Locking,
-            READ => ServedRequest::Read,
-            WRITE => ServedRequest::Write,
-            LOGOFF => ServedRequest::Logoff,
-            TREE_DISCONNECT => ServedRequest::TreeDisconnect,
-            OPEN => ServedRequest::Open,
-            _ => ServedRequest::None,
+            LOCKING => Some(ServedRequest::Locking),
+            READ => Some(ServedRequest::Read),
+            WRITE => Some(ServedRequest::Write),
+            LOGOFF => Some(ServedRequest::Logoff),
+            TREE_DISCONNECT => Some(ServedRequest::TreeDisconnect),
+            OPEN => Some(ServedRequest::Open),
+            _ => None,
         }
     }
 }
 
 // Whether the request's words begin with AndX: "Words after AndX" in the grammar's table.
 pub(crate) fn is_andx(request: ServedRequest) -> bool
-    ensures { result ≡ is_andx request }
+    ensures { result ≡ is_andx (Some request) }
 {
-    match request {
-        ServedRequest::Locking => true,
-        ServedRequest::Read => true,
-        ServedRequest::Write => true,
-        ServedRequest::Close => false,
-        ServedRequest::Logoff => true,
-        ServedRequest::TreeDisconnect => false,
-        ServedRequest::ProcessExit => false,
-        ServedRequest::CoreRead => false,
-        ServedRequest::CoreWrite => false,
-        ServedRequest::LockByteRange => false,
-        ServedRequest::UnlockByteRange => false,
-        ServedRequest::Open => true,
-        ServedRequest::None => false,
-    }
+    matches!(
+        request,
+        ServedRequest::Locking
+            | ServedRequest::Read
+            | ServedRequest::Write
+            | ServedRequest::Logoff
+            | ServedRequest::Open
+    )
 }
 
 // Whether the command is in the grammar's table: "2/22 header command not served".
 pub fn is_served(command: u8) -> bool
     ensures { result ≡ is_served (request_named command) }
 {
-    let request = request_named(command);
-    match request {
-        ServedRequest::None => false,
-        _ => true,
-    }
+    request_named(command).is_some()
 }
 
 // What may follow what: document 01's column "May be followed by", row by row in its order, last in LOCKING's row the
@@ -117,27 +107,10 @@ pub fn may_follow(command: u8, next: u8) -> bool
     ensures { result ≡ may_follow command next }
 {
     match command {
-        LOCKING => match next {
-            READ => true,
-            WRITE => true,
-            CORE_READ => true,
-            CORE_WRITE => true,
-            _ => false,
-        },
-        READ => match next {
-            CLOSE => true,
-            _ => false,
-        },
-        WRITE => match next {
-            WRITE => true,
-            READ => true,
-            CLOSE => true,
-            _ => false,
-        },
-        OPEN => match next {
-            READ => true,
-            _ => false,
-        },
+        LOCKING => next == READ || next == WRITE || next == CORE_READ || next == CORE_WRITE,
+        READ => next == CLOSE,
+        WRITE => next == WRITE || next == READ || next == CLOSE,
+        OPEN => next == READ,
         _ => false,
     }
 }

@@ -1,12 +1,12 @@
 // One block, judged by its command: a row of the grammar's table each. Nothing of it is taken apart.
 
-ghost use Rattle.std.specs.Prelude.{◌≡◌, ◌+◌, ◌≤◌, ◌<◌, length};
+ghost use Rattle.std.specs.Prelude.{◌≡◌, ◌+◌, ◌≤◌, ◌<◌, length, Some};
 ghost use Rattle.chain.specs.Layout.{block_end};
 ghost use Rattle.chain.specs.Parse.{locking_fits, read_fits, write_fits, data_inside, core_write_fits, terminated, open_fits, parse};
 ghost use Rattle.chain.specs.Rows.{row_fits, link_judged};
 ghost use Rattle.chain.specs.Judged.{judged};
 
-use crate::block::{Judged, Next};
+use crate::block::{Follower, Judged};
 use crate::command::{NO_COMMAND, ServedRequest, is_andx, may_follow, request_named};
 use crate::place::{
     CORE_COUNT, CORE_WRITE_BYTE_COUNT, DATA_MARK, LOCK_TYPE, LOCKING_BYTE_COUNT, LOCKS,
@@ -84,18 +84,14 @@ fn core_write_fits(s: &[u8], at: usize) -> bool
     bytes == 3 + count as usize
 }
 
-// Whether the bytes are a name without zero bytes, then one zero byte: the first zero byte is the last byte.
+// Whether the bytes are a name without zero bytes, then one zero byte.
 fn is_terminated(bytes: &[u8]) -> bool
     ensures { result ≡ terminated bytes.now }
 {
-    let mut i: usize = 0;
-    while i < bytes.len() {
-        if bytes[i] == 0 {
-            return i + 1 == bytes.len();
-        }
-        i += 1;
-    }
-    false
+    let Some((last, name)) = bytes.split_last() else {
+        return false;
+    };
+    *last == 0 && !name.contains(&0)
 }
 
 // Whether the OPEN block at a place has 15 words and just a name: "The byte area is a name of any length, even none, without zero
@@ -111,9 +107,9 @@ fn open_fits(s: &[u8], at: usize) -> bool
     is_terminated(&s[from..to])
 }
 
-// Whether the block at a place is one of the request's row; no other request is served.
+// Whether the block at a place is one of the request's row.
 fn row_fits(s: &[u8], request: ServedRequest, at: usize) -> bool
-    ensures { result ≡ row_fits s.now request at }
+    ensures { result ≡ row_fits s.now (Some request) at }
 {
     match request {
         ServedRequest::Locking => locking_fits(s, at),
@@ -128,7 +124,6 @@ fn row_fits(s: &[u8], request: ServedRequest, at: usize) -> bool
         ServedRequest::LockByteRange => is_bare(s, at, 5),
         ServedRequest::UnlockByteRange => is_bare(s, at, 5),
         ServedRequest::Open => open_fits(s, at),
-        ServedRequest::None => false,
     }
 }
 
@@ -140,28 +135,31 @@ fn judge_link(s: &[u8], command: u8, at: usize) -> Judged
 {
     let next = s[at + 1];
     if next == NO_COMMAND {
-        return Judged::Fits(Next::End);
+        return Some(None);
     }
     if !may_follow(command, next) {
-        return Judged::Malformed;
+        return None;
     }
     let place = number_inside(s, at + 3) as usize;
     if place < end_inside(s, at) {
-        return Judged::Malformed;
+        return None;
     }
-    Judged::Fits(Next::Follow(next, place))
+    Some(Some(Follower {
+        command: next,
+        at: place,
+    }))
 }
 
 // Whether a block with that command stands at a place of the message, and what follows it.
 pub fn judge_block(s: &[u8], command: u8, at: usize) -> Judged
     ensures { result ≡ judged (parse s.now command at) }
 {
-    let request = request_named(command);
+    let request = request_named(command)?;
     if !row_fits(s, request, at) {
-        return Judged::Malformed;
+        return None;
     }
     if !is_andx(request) {
-        return Judged::Fits(Next::End);
+        return Some(None);
     }
     judge_link(s, command, at)
 }

@@ -1,6 +1,5 @@
 // The reader of a message: "a record that holds the message slice and a place" (document 01, "Layers"), thin
-// over `judge`. The borrow checker covers no function over such a record, so `reader_at`, `read_block` and
-// `judge_at` are proved by hand. Who calls `judge_at`, whose parameters are plain, needs no walk.
+// over `judge`. `judge_at` has plain parameters, for who has no reader.
 
 ghost use Rattle.std.specs.Prelude.{◌≡◌};
 ghost use Rattle.chain.specs.Parse.{parse};

@@ -1,13 +1,12 @@
 // One block that was judged to stand at its place, taken apart by its command.
 
-ghost use Rattle.std.specs.Prelude.{◌≡◌, ◌+◌, ◌≤◌, ◌<◌, true, length};
+ghost use Rattle.std.specs.Prelude.{◌≡◌, ◌+◌, ◌≤◌, ◌<◌, true, length, Some as Whole};
 ghost use Rattle.wire.specs.LittleEndian.{le32_at};
 ghost use Rattle.chain.specs.Parse.{wide_offset, core_read_at, range_fields, parse};
 ghost use Rattle.chain.specs.Request.{request_named, is_andx};
 ghost use Rattle.chain.specs.Rows.{HasBody, next_at};
 ghost use Rattle.chain.specs.Judged.{is_whole};
 ghost use Rattle.chain.specs.Layout.{LOCKING, READ, WRITE, CORE-WRITE, OPEN};
-ghost use Rattle.chain.specs.declared.block.Parsed.TheVariants.{Whole};
 
 use crate::block::{
     Block, Body, LockingFields, Next, OpenFields, RangeFields, ReadFields, WriteFields,
@@ -150,7 +149,9 @@ fn body_at(s: &[u8], command: u8, at: usize) -> Body
     requires { at < length s.now }
     ensures { HasBody s.now command at result }
 {
-    let request = request_named(command);
+    let Some(request) = request_named(command) else {
+        return Body::ProcessExit;
+    };
     match request {
         ServedRequest::Locking => locking_body(s, at),
         ServedRequest::Read => read_body(s, at),
@@ -164,7 +165,6 @@ fn body_at(s: &[u8], command: u8, at: usize) -> Body
         ServedRequest::LockByteRange => Body::LockByteRange(range_fields(s, at)),
         ServedRequest::UnlockByteRange => Body::UnlockByteRange(range_fields(s, at)),
         ServedRequest::Open => open_body(s, at),
-        ServedRequest::None => Body::ProcessExit,
     }
 }
 
@@ -173,10 +173,11 @@ fn next_at(s: &[u8], command: u8, at: usize) -> Next
     requires { is_andx (request_named command) ≡ true → at + 5 ≤ length s.now }
     ensures { result ≡ next_at s.now command at }
 {
-    if is_andx(request_named(command)) {
+    let request = request_named(command)?;
+    if is_andx(request) {
         return link_at(s, at);
     }
-    Next::End
+    None
 }
 
 // The block with that command at a place where it was judged to stand, taken apart.

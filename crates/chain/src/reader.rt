@@ -5,7 +5,6 @@ ghost use Rattle.std.specs.Prelude.{◌≡◌};
 ghost use Rattle.chain.specs.Chain.{blocks_from};
 ghost use Rattle.chain.specs.Judged.{readable};
 
-use crate::block::{Judged, Next};
 use crate::message_reader::judge_at;
 
 // Whether a chain that begins with that command at a place has a reading. A malformed block "ends the
@@ -13,11 +12,11 @@ use crate::message_reader::judge_at;
 pub fn is_sentence(s: &[u8], command: u8, at: usize) -> bool
     ensures { result ≡ readable (blocks_from s.now command at) }
 {
-    let Judged::Fits(next) = judge_at(s, command, at) else {
+    let Some(next) = judge_at(s, command, at) else {
         return false;
     };
-    let Next::Follow(then, place) = next else {
+    let Some(follower) = next else {
         return true;
     };
-    is_sentence(s, then, place)
+    is_sentence(s, follower.command, follower.at)
 }

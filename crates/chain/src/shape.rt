@@ -5,7 +5,7 @@ ghost use Rattle.wire.specs.LittleEndian.{le16_at};
 ghost use Rattle.chain.specs.Layout.{block_end};
 ghost use Rattle.chain.specs.Parse.{shaped, bare, link_at};
 
-use crate::block::Next;
+use crate::block::{Follower, Next};
 use crate::command::NO_COMMAND;
 
 // Where the block at a place ends.
@@ -18,22 +18,15 @@ pub(crate) fn block_end(s: &[u8], at: usize) -> usize
     at + 3 + 2 * words + bytes
 }
 
-// Two bytes as a number, the lower first.
-fn pair(low: u8, high: u8) -> u16
-    ensures { result ≡ low + 256 * high }
-{
-    low as u16 + 256 * (high as u16)
-}
-
-// Two bytes that are known to stand inside the message.
+// Two bytes as a number, the lower first, that are known to stand inside the message.
 pub(crate) fn number_inside(s: &[u8], at: usize) -> u16
     requires { at + 2 ≤ length s.now }
     ensures { result ≡ le16_at s.now at }
 {
-    pair(s[at], s[at + 1])
+    u16::from_le_bytes([s[at], s[at + 1]])
 }
 
-// Where the block at a place ends, that is known to stand inside the message.
+// Where the block at a place ends, that is known to stand inside the message: it asks no place again, which `block_end` does, for speed.
 pub(crate) fn end_inside(s: &[u8], at: usize) -> usize
     requires { block_end s.now at ≤ length s.now }
     ensures { result ≡ block_end s.now at }
@@ -74,8 +67,11 @@ pub(crate) fn link_at(s: &[u8], at: usize) -> Next
 {
     let next = s[at + 1];
     if next == NO_COMMAND {
-        return Next::End;
+        return None;
     }
     let place = number_inside(s, at + 3) as usize;
-    Next::Follow(next, place)
+    Some(Follower {
+        command: next,
+        at: place,
+    })
 }

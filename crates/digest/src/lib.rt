@@ -2,9 +2,17 @@
 #![tactic(auto)]
 
 ghost use Rattle.std.specs.Prelude.{◌≡◌, ◌<◌};
-ghost use Rattle.digest.specs.Digest.{digest};
+ghost use Rattle.digest.specs.Digest.{added, digest};
 
 const PRIME: u64 = 4294967291;
+
+// One number more.
+fn added(d: u64, x: u64) -> u64
+    requires { d < 4294967291 }
+    ensures { (result ≡ added d x) × (result < 4294967291) }
+{
+    (d * 257 + x % PRIME + 1) % PRIME
+}
 
 // Numbers added to a digest.
 pub fn digest_words(start: u64, words: &[u64]) -> u64
@@ -12,30 +20,21 @@ pub fn digest_words(start: u64, words: &[u64]) -> u64
     ensures { (result ≡ digest start words.now) × (result < 4294967291) }
 {
     let mut d = start;
-    let mut i: usize = 0;
-    while i < words.len() {
-        d = (d * 257 + words[i] % PRIME + 1) % PRIME;
-        i += 1;
+    for x in words {
+        d = added(d, *x);
     }
     d
 }
 
-fn wide(x: u8) -> u64
-    ensures { result ≡ x }
-{
-    x as u64
-}
-
-// Bytes added to a digest.
+// Bytes added to a digest. One function over any `T: Into<u64>` would be no plainer: what it promises would speak of the list of what the
+// elements convert to, and each caller would first have to show that this is the list that it lends.
 pub fn digest_bytes(start: u64, bytes: &[u8]) -> u64
     requires { start < 4294967291 }
     ensures { result ≡ digest start bytes.now }
 {
     let mut d = start;
-    let mut i: usize = 0;
-    while i < bytes.len() {
-        d = (d * 257 + wide(bytes[i]) % PRIME + 1) % PRIME;
-        i += 1;
+    for b in bytes {
+        d = added(d, u64::from(*b));
     }
     d
 }

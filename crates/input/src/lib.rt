@@ -8,7 +8,8 @@ use std::io;
 use std::io::Read;
 
 // Reads until the buffer is full or the input ends, and returns how many bytes it put at the start of the buffer: those that the
-// reader gave, and all of them where the buffer isn't full.
+// reader gave, and all of them where the buffer isn't full. It goes by what each read gives and counts no index, so it is no `for`; the
+// buffer is lent and of fixed size, as the library's host lends its own.
 pub fn read_full<R: Read>(input: &mut R, buffer: &mut [u8]) -> io::Result<usize>
     ensures bound { IfOk result (λ n. n ≤ length buffer.new) }
     ensures bytes { IfOk result (λ n. Consumes (R.remaining input.old) (R.remaining input.new) (take n buffer.new)) }

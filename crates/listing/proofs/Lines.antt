@@ -6,7 +6,7 @@ use native.Mathlib.Numerals.{add-one}
 use native.Mathlib.Omega.{arith}
 use mathlib.Core.Bool.{true, false, false≢true}
 use mathlib.Core.List.{List, ◌++◌}
-use mathlib.Core.Option.{Option, none, some}
+use Rattle.std.specs.Prelude.{Option, None, Some, None as End, Some as Whole, None as Malformed}
 use lib.ListN.{length}
 use Rattle.wire.specs.LittleEndian.{byte_at}
 use Rattle.chain.specs.Layout.{block_end}
@@ -18,9 +18,7 @@ use Rattle.chain.specs.ChainLaws.{chain-refused, chain-end}
 use Rattle.chain.proofs.ChainLaws.{chain_more}
 use Rattle.chain.specs.Judged.{is_whole, readable, readable-blocks}
 use Rattle.chain.specs.declared.block.Block.{Block}
-use Rattle.chain.specs.declared.block.Next.TheVariants.{End, Follow}
-use Rattle.chain.specs.declared.block.Parsed.{Parsed}
-use Rattle.chain.specs.declared.block.Parsed.TheVariants.{Whole, Malformed}
+use Rattle.chain.specs.Next.{Follow, Parsed}
 use Rattle.listing.specs.Text.{line, end_line, lines_from, not_chain, dropped_line, listed, listing}
 use Rattle.listing.specs.Lines.{SentenceFrom, lines_of}
 
@@ -42,12 +40,12 @@ unfolding lines_of lines_from
 lines_end s command place k b e f = rw (chain-end s command place b e f)
 
 -- what a chain that has a reading begins with leaves a reading
-sentence-after : (b : Block) (o : Option (List Block)) (bs : List Block) → before b o ≡ some bs → (r : List Block) × (o ≡ some r)
+sentence-after : (b : Block) (o : Option (List Block)) (bs : List Block) → before b o ≡ Some bs → (r : List Block) × (o ≡ Some r)
 unfolding before
-sentence-after b none bs e = let never : ◌≡◌ {A = ℕ} 0 1 = cc in absurd (omega arith)
-sentence-after b (some r) bs e = (r, refl)
+sentence-after b None bs e = let never : ◌≡◌ {A = ℕ} 0 1 = cc in absurd (omega arith)
+sentence-after b (Some r) bs e = (r, refl)
 
-lines-before : (k : ℕ) (b : Block) (o : Option (List Block)) (r : List Block) → o ≡ some r → lines_of k (before b o) ≡ line k b ++ lines_of (suc k) o
+lines-before : (k : ℕ) (b : Block) (o : Option (List Block)) (r : List Block) → o ≡ Some r → lines_of k (before b o) ≡ line k b ++ lines_of (suc k) o
 unfolding before lines_of lines_from
 lines-before k b o r e = rw e
 
@@ -97,10 +95,10 @@ listing-dropped s e = rw e
 
 unread-listed : (o : Option (List Block)) → readable o ≡ false → listed o ≡ not_chain
 unfolding readable listed
-unread-listed none e = refl
-unread-listed (some bs) e = absurd (false≢true (sym e))
+unread-listed None e = refl
+unread-listed (Some bs) e = absurd (false≢true (sym e))
 
-listed-some : (o : Option (List Block)) (bs : List Block) → o ≡ some bs → listed o ≡ lines_of 1 o
+listed-some : (o : Option (List Block)) (bs : List Block) → o ≡ Some bs → listed o ≡ lines_of 1 o
 unfolding listed lines_of
 listed-some o bs e = rw e
 

@@ -1,8 +1,7 @@
 -- The text of the chain lister (document 01, "A listing, whole"): "for each block its place, command in hex, offset and
 -- length, then `end`; else only `not a chain`, for an unserved command too, or `dropped` by row 1". Each line ends with a
 -- newline (10); a space is 32. Assumes nothing.
-use Rattle.std.specs.Prelude.{ℕ, suc, cond, List, [], ◌∷◌, ◌++◌}
-use Rattle.std.proofs.Math.Option.{Option, none, some}
+use Rattle.std.specs.Prelude.{ℕ, suc, cond, List, [], ◌∷◌, ◌++◌, Option, None, Some}
 use Rattle.text.specs.Digits.{decimal, hex_byte}
 use Rattle.chain.specs.Header.{dropped}
 use Rattle.chain.specs.Chain.{blocks}
@@ -30,8 +29,8 @@ unfoldable pub dropped_line : List ℕ
 dropped_line = 100 ∷ 114 ∷ 111 ∷ 112 ∷ 112 ∷ 101 ∷ 100 ∷ 10 ∷ []
 
 unfoldable pub listed : Option (List Block) → List ℕ
-listed none = not_chain
-listed (some bs) = lines_from 1 bs
+listed None = not_chain
+listed (Some bs) = lines_from 1 bs
 
 -- what is printed for a message
 unfoldable pub listing : List ℕ → List ℕ

@@ -7,7 +7,7 @@ ghost use Rattle.listing.specs.Text.{line, listing};
 ghost use Rattle.listing.specs.Lines.{SentenceFrom, lines_of};
 ghost use Rattle.text.specs.Over.{Written};
 
-use chain::block::{Block, Next};
+use chain::block::Block;
 use chain::header::{COMMAND, FIRST, is_dropped};
 use chain::parse::fields_at;
 use chain::reader::is_sentence;
@@ -40,10 +40,10 @@ fn put_blocks(s: &[u8], out: &mut [u8], at: usize, k: usize, command: u8, place:
     let b = fields_at(s, command, place);
     let to = put_line(out, at, k, b);
     let next = b.next;
-    let Next::Follow(then, then_place) = next else {
+    let Some(follower) = next else {
         return put_text(out, to, b"end\n");
     };
-    put_blocks(s, out, to, k + 1, then, then_place)
+    put_blocks(s, out, to, k + 1, follower.command, follower.at)
 }
 
 // What the lister prints for a message, as far as the buffer has room; how many bytes that is.

@@ -6,9 +6,9 @@ use mathlib.Core.List.{List, ◌++◌}
 use lib.ListN.{length, drop, get_or, length-drop}
 use native.Mathlib.Omega.{arith}
 use Rattle.stream.specs.declared.state.State.{State}
-use Rattle.stream.specs.declared.header.Judged.{Judged}
-use Rattle.stream.specs.declared.header.Judged.TheVariants.{Stop, KeepAlive, Message}
-use Rattle.stream.specs.declared.reader.Seen.TheVariants.{Short, Bad, Body}
+use Rattle.stream.specs.Stream.{Judged}
+use Rattle.stream.specs.Stream.{Stop, KeepAlive, Message}
+use Rattle.stream.specs.Seen.{Short, Bad, Body}
 use Rattle.stream.specs.Stream.{judge, begins_by, begins}
 use Rattle.stream.specs.State.{header_words, header_begun, begun_bytes}
 use Rattle.stream.specs.Seen.{seen_of}

@@ -9,7 +9,7 @@ use native.Mathlib.Omega.{arith}
 use native.Mathlib.Nat.{le_of_eq}
 use borrow.Author.Tests.{lt-leb, le-leb, eq-eqb, ne_eqb}
 use Rattle.lists.specs.Put.{put}
-use Rattle.stream.specs.declared.reader.Event.TheVariants.{NoMessage, InPiece, InBuffer}
+use Rattle.stream.specs.Reader.{NoMessage, InPiece, InBuffer}
 use Rattle.stream.specs.State.{none_begun, message_begun}
 use Rattle.stream.specs.Reader.{step_of}
 use Rattle.stream.specs.Seen.{gathered}

@@ -7,9 +7,9 @@ use lib.ListN.{length, take, drop, get_or, length-drop}
 use lib.Seq.{drop-drop, take_all}
 use native.Mathlib.Omega.{arith}
 use native.Mathlib.Nat.{le_of_eq}
-use Rattle.stream.specs.declared.header.Judged.{Judged}
-use Rattle.stream.specs.declared.header.Judged.TheVariants.{Stop, KeepAlive, Message}
-use Rattle.stream.specs.declared.reader.Seen.TheVariants.{Short, Bad, Body}
+use Rattle.stream.specs.Stream.{Judged}
+use Rattle.stream.specs.Stream.{Stop, KeepAlive, Message}
+use Rattle.stream.specs.Seen.{Short, Bad, Body}
 use Rattle.stream.specs.Stream.{judge, begins_by, begins}
 use Rattle.stream.specs.State.{header_begun}
 use Rattle.stream.specs.Seen.{seen_of}

@@ -5,8 +5,8 @@ use Rattle.std.proofs.Common.{sym, ap, ◌∙◌, length-append, length-drop, dr
 use Rattle.std.proofs.Math.Seq.{drop-append-add}
 use Rattle.std.proofs.lemmas.Bool.{not-false}
 use Rattle.lists.specs.Truth.{choice-cases, either-cases, not-decided-twice}
-use Rattle.stream.specs.declared.header.Judged.{Judged}
-use Rattle.stream.specs.declared.header.Judged.TheVariants.{Stop, KeepAlive, Message}
+use Rattle.stream.specs.Stream.{Judged}
+use Rattle.stream.specs.Stream.{Stop, KeepAlive, Message}
 use Rattle.stream.specs.Stream.{length_of, header_of, known, judge_length, judge, Begins, short, bad, message, begins_by, begins}
 
 -- ---- header by header

@@ -1,6 +1,7 @@
 pub mod Stream
 pub mod State
 pub mod Reader
+pub mod Told
 pub mod Writer
 pub mod Seen
 pub mod BeginsLaws

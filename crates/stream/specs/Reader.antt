@@ -3,11 +3,21 @@
 use Rattle.std.specs.Prelude.{ℕ, ◌-◌, cond, List, ◌++◌, eqb, length, drop}
 use Rattle.lists.specs.Put.{put}
 use Rattle.stream.specs.declared.state.State.{State}
-use Rattle.stream.specs.declared.reader.Event.{Event}
-use Rattle.stream.specs.declared.reader.Event.TheVariants.{NoMessage, InPiece, InBuffer}
-use Rattle.stream.specs.declared.reader.Step.{Step}
 use Rattle.stream.specs.Stream.{First, wanted, stops, whole, first}
 use Rattle.stream.specs.State.{none_begun, stopped_by, begun_state, pending, is_left}
+
+-- no message became whole; or one did, as a part of the piece from a place on and of a length, or in the buffer from 0 on and of a length
+pub data Event : Type 0 where
+  NoMessage : Event
+  InPiece : ℕ → ℕ → Event
+  InBuffer : ℕ → Event
+
+-- 0 or the number of a refusal, how many bytes of the piece were taken, whether a message became whole, and the state for the next call
+pub record Step : Type 0 where
+  pub number : ℕ
+  pub taken : ℕ
+  pub event : Event
+  pub state : State
 
 -- what a call returns, and the buffer after it
 pub record Read : Type 0 where

@@ -13,9 +13,9 @@ use Rattle.lists.specs.Truth.{test-cases}
 use Rattle.lists.specs.Put.{put}
 use Rattle.lists.specs.PutLaws.{put-nothing}
 use Rattle.stream.specs.declared.state.State.{State}
-use Rattle.stream.specs.declared.header.Judged.TheVariants.{Message}
-use Rattle.stream.specs.declared.reader.Event.TheVariants.{NoMessage}
-use Rattle.stream.specs.declared.reader.Seen.TheVariants.{Short, Bad, Body}
+use Rattle.stream.specs.Stream.{Message}
+use Rattle.stream.specs.Reader.{NoMessage}
+use Rattle.stream.specs.Seen.{Short, Bad, Body}
 use Rattle.stream.specs.Stream.{length_of, header_of, Begins, short, bad, message, begins, first_of, first}
 use Rattle.stream.specs.State.{stopped_by, header_begun, begun_state, begun_bytes, pending, is_left}
 use Rattle.stream.specs.Reader.{step_of, refused, handed, read_by, read}

@@ -2,12 +2,16 @@
 -- Assumes nothing.
 use Rattle.std.specs.Prelude.{ℕ, ◌+◌, ◌-◌, cond, List, eqb, leb, length, take, drop}
 use Rattle.lists.specs.Put.{put}
-use Rattle.stream.specs.declared.reader.Event.TheVariants.{NoMessage, InPiece, InBuffer}
-use Rattle.stream.specs.declared.reader.Seen.{Seen}
-use Rattle.stream.specs.declared.reader.Seen.TheVariants.{Short, Bad, Body}
+use Rattle.stream.specs.declared.state.State.{State}
 use Rattle.stream.specs.Stream.{Begins, short, bad, message}
 use Rattle.stream.specs.State.{none_begun, header_begun, message_begun}
-use Rattle.stream.specs.Reader.{Read, step_of}
+use Rattle.stream.specs.Reader.{NoMessage, InPiece, InBuffer, Read, step_of}
+
+-- the state of a begun header; or a header that stops the reader or that is a message's, with the place behind it
+pub data Seen : Type 0 where
+  Short : State → Seen
+  Bad : ℕ → ℕ → Seen
+  Body : ℕ → ℕ → Seen
 
 -- the state of a begun header, or the place behind the header in a piece of that length
 unfoldable pub seen_of : Begins → ℕ → Seen

@@ -1,10 +1,14 @@
 -- What a byte stream carries: messages, each behind the four-byte session header of RFC 1002 (document 02, CR 1), and what is left at its end.
 -- Assumes nothing.
 use Rattle.std.specs.Prelude.{ℕ, zero, suc, ◌+◌, ◌*◌, ◌/◌, ◌%◌, Bool, cond, not, ◌||◌, List, [], ◌∷◌, ◌++◌, eqb, leb, ltb, length, take, drop}
-use Rattle.stream.specs.declared.header.Judged.{Judged}
-use Rattle.stream.specs.declared.header.Judged.TheVariants.{Stop, KeepAlive, Message}
 
 -- ---- a header
+
+-- what a header says: the reader stops by that number, a keep-alive, or a message of that length
+pub data Judged : Type 0 where
+  Stop : ℕ → Judged
+  KeepAlive : Judged
+  Message : ℕ → Judged
 
 -- "flags whose lowest bit extends the length to 17 bits, and a 16-bit length, high byte first"
 unfoldable pub length_of : ℕ → ℕ → ℕ → ℕ

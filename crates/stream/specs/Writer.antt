@@ -2,8 +2,12 @@
 -- Assumes nothing.
 use Rattle.std.specs.Prelude.{ℕ, ◌+◌, cond, List, ◌++◌, ltb, length}
 use Rattle.lists.specs.Put.{put}
-use Rattle.stream.specs.declared.writer.Written.{Written}
 use Rattle.stream.specs.Stream.{header_of}
+
+-- 0 or the number of a refusal, and how many bytes were written
+pub record Written : Type 0 where
+  pub number : ℕ
+  pub length : ℕ
 
 -- what a call returns, and the room after it
 pub record Wrote : Type 0 where

@@ -2,8 +2,10 @@
 
 ghost use Rattle.std.specs.Prelude.{◌≡◌};
 ghost use Rattle.stream.specs.Stream.{length_of, known, judge};
+ghost use Rattle.stream.specs.Told.{number_of, judged_of};
 
 // "Type 0x00 carries a message; 0x85 is a keep-alive, passed over."
+// Bytes of the wire, where any may stand: no enum.
 pub const MESSAGE: u8 = 0x00;
 
 pub const KEEP_ALIVE: u8 = 0x85;
@@ -11,55 +13,72 @@ pub const KEEP_ALIVE: u8 = 0x85;
 // "a length above 8,192" is refused.
 pub const LONGEST_READ: usize = 8192;
 
-// What a header says: the reader stops by that number, a keep-alive, or a message of that length.
+// What a header says: a keep-alive, or a message of that length.
 #[derive(Clone, Copy)]
-pub enum Judged {
-    Stop(u8),
+pub enum Header {
     KeepAlive,
     Message(usize),
 }
 
-fn wide(b: u8) -> usize
-    ensures { result ≡ b }
-{
-    b as usize
+// Why the reader refuses: a header of another type, with reserved flag bits, of a keep-alive with length or of a message that is too long,
+// each of which stops it; or a state that no stream leaves.
+#[derive(Clone, Copy)]
+pub enum StreamRefusal {
+    UnknownType,
+    ReservedFlags,
+    LongKeepAlive,
+    LongMessage,
+    NotLeft,
+}
+
+impl StreamRefusal {
+    // Its number, by which C knows it.
+    pub fn number(self) -> u8
+        ensures { result ≡ number_of self }
+    {
+        match self {
+            StreamRefusal::UnknownType => 1,
+            StreamRefusal::ReservedFlags => 2,
+            StreamRefusal::LongKeepAlive => 3,
+            StreamRefusal::LongMessage => 4,
+            StreamRefusal::NotLeft => 5,
+        }
+    }
 }
 
 // The length, of 17 bits: the lowest bit of the flags is its highest.
 fn length_of(flags: u8, high: u8, low: u8) -> usize
     ensures { result ≡ length_of flags high low }
 {
-    wide(flags % 2) * 65536 + wide(high) * 256 + wide(low)
+    usize::from(flags % 2) * 65536 + usize::from(high) * 256 + usize::from(low)
 }
 
+#[tactic(auto, unfolding(crate::specs::Stream::known))]
 fn is_known(kind: u8) -> bool
     ensures { result ≡ known kind }
 {
-    if kind == MESSAGE {
-        return true;
-    }
-    kind == KEEP_ALIVE
+    kind == MESSAGE || kind == KEEP_ALIVE
 }
 
 // A header whose four bytes are in: the refusals in their order.
-pub fn judge(kind: u8, flags: u8, high: u8, low: u8) -> Judged
-    ensures { result ≡ judge kind flags high low }
+pub fn judge(kind: u8, flags: u8, high: u8, low: u8) -> Result<Header, StreamRefusal>
+    ensures { judged_of result ≡ judge kind flags high low }
 {
     if !is_known(kind) {
-        return Judged::Stop(1);
+        return Err(StreamRefusal::UnknownType);
     }
     if 1 < flags {
-        return Judged::Stop(2);
+        return Err(StreamRefusal::ReservedFlags);
     }
     let length = length_of(flags, high, low);
     if kind == KEEP_ALIVE {
         if length != 0 {
-            return Judged::Stop(3);
+            return Err(StreamRefusal::LongKeepAlive);
         }
-        return Judged::KeepAlive;
+        return Ok(Header::KeepAlive);
     }
     if LONGEST_READ < length {
-        return Judged::Stop(4);
+        return Err(StreamRefusal::LongMessage);
     }
-    Judged::Message(length)
+    Ok(Header::Message(length))
 }

@@ -1,5 +1,5 @@
 // Text written into a lent buffer from a place on, as far as the buffer has room: bytes, texts, numbers in decimal and in
-// hex. Each writer answers the next place.
+// hex. Each writer answers the next place. No `String`: the core has no heap, and `listing-fits` and the replies' bounds are of such buffers.
 #![tactic(auto)]
 
 ghost use Rattle.std.specs.Prelude.{◌≡◌, ◌∷◌, [], ◌≤◌};
@@ -22,10 +22,8 @@ pub fn put_text(out: &mut [u8], at: usize, text: &[u8]) -> usize
     ensures { Written out.old at text.now out.new result }
 {
     let mut to = at;
-    let mut i: usize = 0;
-    while i < text.len() {
-        to = put_byte(out, to, text[i]);
-        i += 1;
+    for b in text {
+        to = put_byte(out, to, *b);
     }
     to
 }
@@ -70,10 +68,8 @@ pub fn put_hex_bytes(out: &mut [u8], at: usize, bytes: &[u8]) -> usize
     ensures { Written out.old at (hex_bytes bytes.now) out.new result }
 {
     let mut to = at;
-    let mut i: usize = 0;
-    while i < bytes.len() {
-        to = put_hex(out, to, bytes[i]);
-        i += 1;
+    for b in bytes {
+        to = put_hex(out, to, *b);
     }
     to
 }

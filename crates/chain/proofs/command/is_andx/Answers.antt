@@ -1,56 +1,41 @@
--- `chain::command::is_andx` meets its contract: each arm is the definition's.
+-- `chain::command::is_andx` meets its contract: the requests named are those of the definition, and no other is.
 -- Assumes nothing.
+use mathlib.Core.Path.{◌≡◌, refl}
+use mathlib.Core.Bool.{true, false}
+use mathlib.Core.Logic.{◌⊎◌, inl, inr}
+use Rattle.std.specs.Prelude.{Some}
 use Rattle.chain.specs.Request.{is_andx}
+use Rattle.chain.specs.declared.command.ServedRequest.{ServedRequest}
+use Rattle.chain.specs.declared.command.ServedRequest.TheVariants.{Locking, Read, Write, Close, Logoff, TreeDisconnect, ProcessExit, CoreRead, CoreWrite, LockByteRange, UnlockByteRange, Open}
 use Rattle.chain.proofs.command.is_andx.Goals as goal
 
+others : (r : ServedRequest) → (r ≡ Locking → ⊥) → (r ≡ Read → ⊥) → (r ≡ Write → ⊥) → (r ≡ Logoff → ⊥) → (r ≡ Open → ⊥) → false ≡ is_andx (Some r)
+unfolding is_andx
+others Locking l _ _ _ _ = absurd (l refl)
+others Read _ r _ _ _ = absurd (r refl)
+others Write _ _ w _ _ = absurd (w refl)
+others Close _ _ _ _ _ = refl
+others Logoff _ _ _ o _ = absurd (o refl)
+others TreeDisconnect _ _ _ _ _ = refl
+others ProcessExit _ _ _ _ _ = refl
+others CoreRead _ _ _ _ _ = refl
+others CoreWrite _ _ _ _ _ = refl
+others LockByteRange _ _ _ _ _ = refl
+others UnlockByteRange _ _ _ _ _ = refl
+others Open _ _ _ _ p = absurd (p refl)
+
+named : (r : ServedRequest) → (r ≡ Locking) ⊎ ((r ≡ Read) ⊎ ((r ≡ Write) ⊎ ((r ≡ Logoff) ⊎ (r ≡ Open)))) → true ≡ is_andx (Some r)
+unfolding is_andx
+named r (inl e) = rw e
+named r (inr (inl e)) = rw e
+named r (inr (inr (inl e))) = rw e
+named r (inr (inr (inr (inl e)))) = rw e
+named r (inr (inr (inr (inr e)))) = rw e
+
 pub returns-in-Locking : goal.returns-in-Locking
-unfolding is_andx
-returns-in-Locking c = rw c.in-Locking.is
+returns-in-Locking c = named c.args.request c.in-Locking.is
 
-pub returns-in-Read : goal.returns-in-Read
-unfolding is_andx
-returns-in-Read c = rw c.in-Read.is
-
-pub returns-in-Write : goal.returns-in-Write
-unfolding is_andx
-returns-in-Write c = rw c.in-Write.is
-
-pub returns-in-Close : goal.returns-in-Close
-unfolding is_andx
-returns-in-Close c = rw c.in-Close.is
-
-pub returns-in-Logoff : goal.returns-in-Logoff
-unfolding is_andx
-returns-in-Logoff c = rw c.in-Logoff.is
-
-pub returns-in-TreeDisconnect : goal.returns-in-TreeDisconnect
-unfolding is_andx
-returns-in-TreeDisconnect c = rw c.in-TreeDisconnect.is
-
-pub returns-in-ProcessExit : goal.returns-in-ProcessExit
-unfolding is_andx
-returns-in-ProcessExit c = rw c.in-ProcessExit.is
-
-pub returns-in-CoreRead : goal.returns-in-CoreRead
-unfolding is_andx
-returns-in-CoreRead c = rw c.in-CoreRead.is
-
-pub returns-in-CoreWrite : goal.returns-in-CoreWrite
-unfolding is_andx
-returns-in-CoreWrite c = rw c.in-CoreWrite.is
-
-pub returns-in-LockByteRange : goal.returns-in-LockByteRange
-unfolding is_andx
-returns-in-LockByteRange c = rw c.in-LockByteRange.is
-
-pub returns-in-UnlockByteRange : goal.returns-in-UnlockByteRange
-unfolding is_andx
-returns-in-UnlockByteRange c = rw c.in-UnlockByteRange.is
-
-pub returns-in-Open : goal.returns-in-Open
-unfolding is_andx
-returns-in-Open c = rw c.in-Open.is
-
-pub returns-in-None : goal.returns-in-None
-unfolding is_andx
-returns-in-None c = rw c.in-None.is
+pub returns-in_default : goal.returns-in_default
+returns-in_default c =
+    let n = c.in_default in
+    others c.args.request n.not-Locking n.not-Read n.not-Write n.not-Logoff n.not-Open

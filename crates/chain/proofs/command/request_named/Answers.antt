@@ -33,7 +33,7 @@ pub returns-in_default : goal.returns-in_default
 unfolding request_named
 returns-in_default c =
     let command = c.args.command in
-    rw (ne_eqb command 36 (omega arith), ne_eqb command 46 (omega arith), ne_eqb command 47 (omega arith), ne_eqb command 4 c.in_default.in_default-own.rest.0.0.0.0.0.1, ne_eqb command 116 (omega arith), ne_eqb command 113 (omega arith), ne_eqb command 17 c.in_default.in_default-own.rest.0.0.0.0.1, ne_eqb command 10 c.in_default.in_default-own.rest.0.0.0.1, ne_eqb command 11 c.in_default.in_default-own.rest.0.0.1, ne_eqb command 12 c.in_default.in_default-own.rest.0.1, ne_eqb command 13 c.in_default.in_default-own.rest.1, ne_eqb command 45 (omega arith))
+    rw (ne_eqb command 36 (omega arith), ne_eqb command 46 (omega arith), ne_eqb command 47 (omega arith), ne_eqb command 4 (omega arith), ne_eqb command 116 (omega arith), ne_eqb command 113 (omega arith), ne_eqb command 17 (omega arith), ne_eqb command 10 (omega arith), ne_eqb command 11 (omega arith), ne_eqb command 12 (omega arith), ne_eqb command 13 (omega arith), ne_eqb command 45 (omega arith))
 
 pub returns-in-36 : goal.returns-in-36
 unfolding request_named
@@ -63,4 +63,4 @@ pub returns-in_default-command : goal.returns-in_default-command
 unfolding request_named
 returns-in_default-command c =
     let command = c.args.command in
-    rw (ne_eqb command 36 c.in_default-command.in_default-command-own.rest.0.0.0.0.0.1, ne_eqb command 46 c.in_default-command.in_default-command-own.rest.0.0.0.0.1, ne_eqb command 47 c.in_default-command.in_default-command-own.rest.0.0.0.1, ne_eqb command 4 (omega arith), ne_eqb command 116 c.in_default-command.in_default-command-own.rest.0.0.1, ne_eqb command 113 c.in_default-command.in_default-command-own.rest.0.1, ne_eqb command 17 (omega arith), ne_eqb command 10 (omega arith), ne_eqb command 11 (omega arith), ne_eqb command 12 (omega arith), ne_eqb command 13 (omega arith), ne_eqb command 45 c.in_default-command.in_default-command-own.rest.1)
+    rw (ne_eqb command 36 (omega arith), ne_eqb command 46 (omega arith), ne_eqb command 47 (omega arith), ne_eqb command 4 (omega arith), ne_eqb command 116 (omega arith), ne_eqb command 113 (omega arith), ne_eqb command 17 (omega arith), ne_eqb command 10 (omega arith), ne_eqb command 11 (omega arith), ne_eqb command 12 (omega arith), ne_eqb command 13 (omega arith), ne_eqb command 45 (omega arith))

@@ -50,7 +50,3 @@ returns-in-UnlockByteRange c = rw c.in-UnlockByteRange.is c.is_bare-in-UnlockByt
 pub returns-in-Open : goal.returns-in-Open
 unfolding row_fits
 returns-in-Open c = rw c.in-Open.is c.open_fits.ensures
-
-pub returns-in-None : goal.returns-in-None
-unfolding row_fits
-returns-in-None c = rw c.in-None.is

@@ -4,7 +4,7 @@ use mathlib.Core.Path.{sym, ap, ◌∙◌}
 use Prim.Native.Nat.{◌+◌, ◌-◌}
 use lib.ListN.{length}
 use Rattle.stream.specs.declared.state.State.{State}
-use Rattle.stream.specs.declared.reader.Event.TheVariants.{NoMessage, InPiece, InBuffer}
+use Rattle.stream.specs.Reader.{NoMessage, InPiece, InBuffer}
 use Rattle.stream.specs.Reader.{Read, step_of}
 use Rattle.stream.proofs.Gathering.{gather-wanted, gather-part, gather-whole}
 use Rattle.stream.proofs.reader.gather.Goals as goal

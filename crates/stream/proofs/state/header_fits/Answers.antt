@@ -5,4 +5,4 @@ use Rattle.stream.proofs.state.header_fits.Goals as goal
 
 pub returns : goal.returns
 unfolding header_fits
-returns c = rw (c.both-3.ensures, c.both-2.ensures, c.both.ensures, c.byte_fits-third.ensures, c.byte_fits-second.ensures, c.byte_fits-first.ensures)
+returns c = rw (c.byte_fits-third.ensures, c.byte_fits-second.ensures, c.byte_fits-first.ensures)

@@ -1,9 +1,8 @@
 -- `stream::state::header_of` meets its contract.
 -- Assumes nothing.
-use mathlib.Core.Path.{refl}
-use Rattle.stream.specs.State.{header_words}
+use Rattle.stream.specs.State.{none_begun, header_words}
 use Rattle.stream.proofs.state.header_of.Goals as goal
 
 pub returns : goal.returns
-unfolding header_words
-returns c = refl
+unfolding none_begun header_words
+returns c = rw (c.start.ensures, c.from.ensures, c.from-2.ensures, c.from-3.ensures)

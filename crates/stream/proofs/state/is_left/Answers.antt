@@ -6,12 +6,12 @@ use Rattle.stream.proofs.state.is_left.Goals as goal
 
 pub returns-then-s-ne0 : goal.returns-then-s-ne0
 unfolding is_left
-returns-then-s-ne0 c = rw (ne_eqb c.args.s.stopped 0 c.if-s-ne0.true, c.both-then-s-ne0.ensures, c.both.ensures, c.no_header.ensures, c.no_message.ensures)
+returns-then-s-ne0 c = rw (ne_eqb c.args.s.stopped 0 c.if-s-ne0.true, c.no_header.ensures, c.no_message.ensures)
 
 pub returns-then-s-eq0 : goal.returns-then-s-eq0
 unfolding is_left
-returns-then-s-eq0 c = rw (eq-eqb c.args.s.stopped 0 c.if-s-ne0.false, eq-eqb c.args.s.length 0 c.if-s-eq0.true, c.both-then-s-eq0.ensures, c.header_fits.ensures)
+returns-then-s-eq0 c = rw (eq-eqb c.args.s.stopped 0 c.if-s-ne0.false, eq-eqb c.args.s.length 0 c.if-s-eq0.true, c.header_fits.ensures)
 
 pub returns : goal.returns
 unfolding is_left
-returns c = rw (eq-eqb c.args.s.stopped 0 c.if-s-ne0.false, ne_eqb c.args.s.length 0 c.if-s-eq0.false, c.both-2.ensures, c.no_header-2.ensures, c.message_fits.ensures)
+returns c = rw (eq-eqb c.args.s.stopped 0 c.if-s-ne0.false, ne_eqb c.args.s.length 0 c.if-s-eq0.false, c.no_header-2.ensures, c.message_fits.ensures)
