@@ -12,7 +12,7 @@ use borrow.Author.Tests.{leb-true}
 use Rattle.lists.specs.Truth.{both_hold}
 use Rattle.lists.specs.Walk.{all, found}
 use Rattle.lists.specs.FoundLaws.{found_below}
-use Rattle.lists.specs.declared.Found.TheVariants.{At, Nothing}
+use Rattle.std.specs.Prelude.{Some, None}
 use Rattle.records.specs.Empty.{no_open}
 use Rattle.records.specs.Held.{sessions_of, trees_of, opens_of}
 use Rattle.records.specs.declared.Open.{Open}
@@ -46,7 +46,7 @@ sound-listed t k e =
     open-listed (trees_of t) (opens_of t) k h.1
 
 -- the place found is one of the array, and its record the one in use there
-module _ (p : Open → Bool) (w : List ℕ) (k : ℕ) (e : At k ≡ found p (opens_in w)) where
+module _ (p : Open → Bool) (w : List ℕ) (k : ℕ) (e : Some k ≡ found p (opens_in w)) where
   pub place_inside : k < 64
   place_inside =
       let below : k < length (opens_in w) = found_below p (opens_in w) k (sym e) in
@@ -67,11 +67,11 @@ module _ (t : Tables) (fid : ℕ) where
   ask-unsound e = rw e
 
   module _ (ok : sound t ≡ true) where
-    pub ask-nobody : Nothing ≡ found (λ o. eqb o.fid fid) (opens_of t) → ask_unchanged t fid ≡ refused 6 t
+    pub ask-nobody : None ≡ found (λ o. eqb o.fid fid) (opens_of t) → ask_unchanged t fid ≡ refused 6 t
     unfolding ask_unchanged unchanged_at
     ask-nobody e = rw (ok, ← e)
 
-    pub ask-answered : (k : ℕ) → At k ≡ found (λ o. eqb o.fid fid) (opens_of t)
+    pub ask-answered : (k : ℕ) → Some k ≡ found (λ o. eqb o.fid fid) (opens_of t)
         → ask_unchanged t fid ≡ done (cond (is_unchanged t (get_or (opens_of t) k no_open)) 1 0) t
     unfolding ask_unchanged unchanged_at
     ask-answered k e = rw (ok, ← e)

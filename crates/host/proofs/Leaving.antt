@@ -17,7 +17,10 @@ use Rattle.soundness.specs.Sound.{sound, sound_records, within_room, file_ok}
 use Rattle.removal.specs.Filter.{Numbered}
 use Rattle.tables.specs.Words.{word, part, tables_of, in_use_fit}
 use Rattle.host.specs.declared.answer.Returned.{Returned}
-use Rattle.host.specs.declared.answer.Row.{Row}
+use Rattle.std.proofs.Common.{Result}
+use Rattle.std.specs.Prelude.{Ok, Err}
+use Rattle.host.specs.declared.answer.HostRefusal.{HostRefusal}
+use Rattle.host.specs.Outcome.{row_number}
 use Rattle.host.specs.declared.ending.One.{One}
 use Rattle.host.specs.HostCall.{refused, done, drop_connection, end_one}
 use Rattle.host.specs.OnWords.{on_words, Left}
@@ -30,9 +33,9 @@ first_word w from n h =
 
 -- ---- how a call ends
 
-pub left-refused : (w : List ℕ) (n : ℕ) (a : Returned) → a ≡ refused n (tables_of w) → Left a w w (record { number = n; id = 0 })
+pub left-refused : (w : List ℕ) (why : HostRefusal) (a : Returned) → a ≡ refused (row_number why) (tables_of w) → Left a w w (Err why)
 unfolding refused
-left-refused w n a e =
+left-refused w why a e =
     record {
       row = rw e;
       given = rw e;
@@ -42,7 +45,7 @@ left-refused w n a e =
     }
 
 pub left-done : (w v : List ℕ) (id : ℕ) (a : Returned) (t : Tables) → a ≡ done id t → tables_of v ≡ t → (in_use_fit w ≡ true → in_use_fit v ≡ true)
-    → Left a w v (record { number = 0; id = id })
+    → Left a w v (Ok id)
 unfolding done
 left-done w v id a t e held fit =
     record {
@@ -67,7 +70,7 @@ pub on-sound : (w : List ℕ) (a : Returned) → (in_use_fit w && sound (tables_
 unfolding on_words
 on-sound w a e = rw (both_hold (in_use_fit w) (sound (tables_of w)) e).0
 
-pub left-same : (a b : Returned) (w v : List ℕ) (r : Row) → b ≡ a → Left a w v r → Left b w v r
+pub left-same : (a b : Returned) (w v : List ℕ) (r : Result ℕ HostRefusal) → b ≡ a → Left a w v r → Left b w v r
 left-same a b w v r e l = rw e l
 
 -- ---- what sound tables are known for

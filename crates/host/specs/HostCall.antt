@@ -1,10 +1,8 @@
 -- The host calls (document 01, "What a call returns"; document 02, CR 6): adding a session, a tree or an open, loading a file, dropping a
 -- connection, setting the catalogue, asking whether a file has changed (CR 8), ending one session, tree or open by its number. Each refusal is tested in document 01's order 2, 4, 7, 6, 8, 9, 5; a refusal changes nothing, and the number
 -- beside it is 0. Assumes nothing.
-use Rattle.std.specs.Prelude.{ℕ, ◌-◌, ◌*◌, Bool, cond, not, ◌&&◌, ◌||◌, List, [], ◌∷◌, ◌++◌, map, length, replicate, get_or, leb, ltb, eqb}
+use Rattle.std.specs.Prelude.{ℕ, ◌-◌, ◌*◌, Bool, cond, not, ◌&&◌, ◌||◌, List, [], ◌∷◌, ◌++◌, map, length, replicate, get_or, leb, ltb, eqb, Option, Some, None}
 use Rattle.lists.specs.Walk.{any, found}
-use Rattle.lists.specs.declared.Found.{Found}
-use Rattle.lists.specs.declared.Found.TheVariants.{At, Nothing}
 use Rattle.lists.specs.Put.{put}
 use Rattle.records.specs.declared.Session.{Session}
 use Rattle.records.specs.declared.Tree.{Tree}
@@ -137,9 +135,9 @@ unfoldable pub is_unchanged : Tables → Open → Bool
 is_unchanged t o = o.read && (eqb o.seen (changes_of t o.file) && ltb (changes_of t o.file) LARGEST)
 
 -- 1 for "unchanged", 0 for "changed"; so the 0 beside a refusal never says "unchanged"
-unfoldable pub unchanged_at : Tables → Found → Returned
-unchanged_at t (At k) = done (cond (is_unchanged t (get_or (opens_of t) k no_open)) 1 0) t
-unchanged_at t Nothing = refused 6 t
+unfoldable pub unchanged_at : Tables → Option ℕ → Returned
+unchanged_at t (Some k) = done (cond (is_unchanged t (get_or (opens_of t) k no_open)) 1 0) t
+unchanged_at t None = refused 6 t
 
 -- "6 for an unknown FID, after 4"
 unfoldable pub ask_unchanged : Tables → ℕ → Returned

@@ -1,2 +1,3 @@
 pub mod HostCall
+pub mod Outcome
 pub mod OnWords

@@ -6,8 +6,10 @@ use Rattle.tables.specs.Words.{word, name_array, name_limits, table_fits, tables
 use Rattle.tables.specs.Written.{Holds}
 use Rattle.soundness.specs.Sound.{sound}
 use Rattle.host.specs.declared.answer.Returned.{Returned}
-use Rattle.host.specs.declared.answer.Row.{Row}
+use Rattle.std.proofs.Common.{Result}
+use Rattle.host.specs.declared.answer.HostRefusal.{HostRefusal}
 use Rattle.host.specs.HostCall.{refused, load_file, load_memory, set_catalogue}
+use Rattle.host.specs.Outcome.{number_in, id_in}
 
 unfoldable pub on_words : List ℕ → Returned → Returned
 on_words w a = cond (in_use_fit w) a (refused 4 (tables_of w))
@@ -29,17 +31,18 @@ set_on_sound w given =
 unfoldable pub set_on_words : List ℕ → List ℕ → Returned
 set_on_words w given = on_words w (set_on_sound w given)
 
--- the row and the answer of a call that writes no word
-unfoldable pub row_of : Returned → Row
-row_of a = record { number = a.number; id = a.id }
+-- the row, and the number given out or the answer, of a call that answers a
+pub record Gives (a : Returned) (r : Result ℕ HostRefusal) : Type 0 where
+  pub row : number_in r ≡ a.number
+  pub given : id_in r ≡ a.id
 
 -- what a call that answers a leaves, where the words were `before`: the row and the number given out, words of the tables after the
 -- call, every word as it was where it is refused, and words in use that fit where they did
-pub record Left (a : Returned) (before after : List ℕ) (r : Row) : Type 0 where
-  pub row : r.number ≡ a.number
-  pub given : r.id ≡ a.id
+pub record Left (a : Returned) (before after : List ℕ) (r : Result ℕ HostRefusal) : Type 0 where
+  pub row : number_in r ≡ a.number
+  pub given : id_in r ≡ a.id
   pub tables : tables_of after ≡ a.tables
-  pub stays : (r.number ≡ 0 → ⊥) → after ≡ before
+  pub stays : (number_in r ≡ 0 → ⊥) → after ≡ before
   pub fit : in_use_fit before ≡ true → in_use_fit after ≡ true
 
 -- a table with one record more, behind those in use; words in use that fit stay so

@@ -6,7 +6,7 @@ ghost use Rattle.soundness.specs.Sound.{sound};
 ghost use Rattle.host.specs.HostCall.{is_there, gone_with, end_one};
 ghost use Rattle.host.specs.OnWords.{on_words, Left};
 
-use crate::answer::{DONE, NO_SUCH, NOT_SOUND, Row};
+use crate::answer::{Given, HostRefusal};
 use numbers::column_words::{has_open, has_session, has_tree};
 use removal::Gone;
 use removal::sweep::remove_named;
@@ -32,7 +32,7 @@ fn is_there(words: &[u64], one: One) -> bool
     }
 }
 
-// What goes.
+// What goes. By the name that the definition has, and not `From`, whose clause would have to cite it.
 fn gone_with(one: One) -> Gone
     ensures { result ≡ gone_with one }
 {
@@ -44,32 +44,23 @@ fn gone_with(one: One) -> Gone
 }
 
 // One record ended in sound tables.
-fn end_sound(words: &mut [u64], one: One) -> Row
+fn end_sound(words: &mut [u64], one: One) -> Given
     requires { (length words.old ≡ 1605) × (sound (tables_of words.old) ≡ true) }
     ensures { Left (end_one (tables_of words.old) one) words.old words.new result }
 {
     if !is_there(words, one) {
-        return Row {
-            number: NO_SUCH,
-            id: 0,
-        };
+        return Err(HostRefusal::NoSuch);
     }
     remove_named(words, gone_with(one));
-    Row {
-        number: DONE,
-        id: 0,
-    }
+    Ok(0)
 }
 
 // One session, tree or open ended; no number is given out.
-pub fn end_one(words: &mut [u64; 1605], one: One) -> Row
+pub fn end_one(words: &mut [u64; 1605], one: One) -> Given
     ensures { Left (on_words words.old (end_one (tables_of words.old) one)) words.old words.new result }
 {
     if !is_sound(words) {
-        return Row {
-            number: NOT_SOUND,
-            id: 0,
-        };
+        return Err(HostRefusal::NotSound);
     }
     end_sound(words, one)
 }

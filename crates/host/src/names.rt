@@ -4,42 +4,33 @@ ghost use Rattle.std.specs.Prelude.{◌≡◌, true, length};
 ghost use Rattle.tables.specs.Words.{tables_of};
 ghost use Rattle.tables.specs.PartLaws.{lent};
 ghost use Rattle.soundness.specs.Sound.{sound};
+ghost use Rattle.host.specs.Outcome.{number_in};
 ghost use Rattle.host.specs.OnWords.{set_on_sound, set_on_words, Left};
 
-use crate::answer::{DONE, NOT_SOUND, OUT_OF_RANGE, Row};
+use crate::answer::{Given, HostRefusal};
 use catalogue::rules::catalogue_ok;
 use soundness::whole::is_sound;
-use tables::copy::copy_words;
 
 // A catalogue for sound tables: all its words, those of names not in use too.
-fn set_sound(words: &mut [u64], given: &[u64]) -> Row
+fn set_sound(words: &mut [u64], given: &[u64]) -> Given
     requires { (length words.old ≡ 1605) × ((sound (tables_of words.old) ≡ true) × (length given.now ≡ 225)) }
     ensures left { Left (set_on_sound words.old given.now) words.old words.new result }
-    ensures words_after { result.number ≡ 0 → words.new ≡ lent words.old 1380 225 given.now }
+    ensures words_after { number_in result ≡ 0 → words.new ≡ lent words.old 1380 225 given.now }
 {
     if !catalogue_ok(given) {
-        return Row {
-            number: OUT_OF_RANGE,
-            id: 0,
-        };
+        return Err(HostRefusal::OutOfRange);
     }
-    copy_words(&mut words[1380..1605], given);
-    Row {
-        number: DONE,
-        id: 0,
-    }
+    words[1380..1605].copy_from_slice(given);
+    Ok(0)
 }
 
 // A catalogue in place of the old one; no number is given out.
-pub fn set_catalogue(words: &mut [u64; 1605], given: &[u64; 225]) -> Row
+pub fn set_catalogue(words: &mut [u64; 1605], given: &[u64; 225]) -> Given
     ensures left { Left (set_on_words words.old given.now) words.old words.new result }
-    ensures words_after { result.number ≡ 0 → words.new ≡ lent words.old 1380 225 given.now }
+    ensures words_after { number_in result ≡ 0 → words.new ≡ lent words.old 1380 225 given.now }
 {
     if !is_sound(words) {
-        return Row {
-            number: NOT_SOUND,
-            id: 0,
-        };
+        return Err(HostRefusal::NotSound);
     }
     set_sound(words, given)
 }

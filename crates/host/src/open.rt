@@ -7,12 +7,12 @@ ghost use Rattle.soundness.specs.Sound.{sound};
 ghost use Rattle.host.specs.HostCall.{add_open};
 ghost use Rattle.host.specs.OnWords.{on_words, Left, Appended};
 
-use crate::answer::{DONE, EXCEEDS_RIGHT, FULL, NO_SUCH, NOT_SOUND, OUT_OF_RANGE, Row};
+use crate::answer::{Given, HostRefusal};
+use crate::append::append;
 use numbers::column_words::free_fid;
 use records::Open;
 use soundness::tree_words::{some_tree_holds, some_tree_is};
 use soundness::whole::is_sound;
-use tables::open::put_open;
 
 // "opens by the host deny nothing" (document 02, CR 6).
 const DENY_NONE: u8 = 4;
@@ -22,33 +22,22 @@ pub fn append_open(words: &mut [u64], o: Open)
     requires { (length words.old ≡ 577) × (word words.old 0 < 64) }
     ensures { Appended open_array open_limits 64 no_open words.old words.new o }
 {
-    let count = words[0] as usize;
-    put_open(words, count, o);
-    words[0] = (count + 1) as u64;
+    append(words, o);
 }
 
 // An open in sound tables.
-fn add_sound(words: &mut [u64], uid: u16, tid: u16, process: u32, file: u8, access: u8) -> Row
+fn add_sound(words: &mut [u64], uid: u16, tid: u16, process: u32, file: u8, access: u8) -> Given
     requires { (length words.old ≡ 1605) × (sound (tables_of words.old) ≡ true) }
     ensures { Left (add_open (tables_of words.old) uid tid process file access) words.old words.new result }
 {
     if 15 < file {
-        return Row {
-            number: OUT_OF_RANGE,
-            id: 0,
-        };
+        return Err(HostRefusal::OutOfRange);
     }
     if 2 < access {
-        return Row {
-            number: OUT_OF_RANGE,
-            id: 0,
-        };
+        return Err(HostRefusal::OutOfRange);
     }
     if !some_tree_is(&words[33..130], tid, uid) {
-        return Row {
-            number: NO_SUCH,
-            id: 0,
-        };
+        return Err(HostRefusal::NoSuch);
     }
     let fid = free_fid(&words[130..707]);
     let o = Open {
@@ -63,22 +52,13 @@ fn add_sound(words: &mut [u64], uid: u16, tid: u16, process: u32, file: u8, acce
         seen: 0,
     };
     if !some_tree_holds(&words[33..130], o) {
-        return Row {
-            number: EXCEEDS_RIGHT,
-            id: 0,
-        };
+        return Err(HostRefusal::ExceedsRight);
     }
     if 64 <= words[130] {
-        return Row {
-            number: FULL,
-            id: 0,
-        };
+        return Err(HostRefusal::Full);
     }
     append_open(&mut words[130..707], o);
-    Row {
-        number: DONE,
-        id: fid,
-    }
+    Ok(fid)
 }
 
 // An open of a file through a tree of a session; the number given out is its FID.
@@ -89,14 +69,11 @@ pub fn add_open(
     process: u32,
     file: u8,
     access: u8,
-) -> Row
+) -> Given
     ensures { Left (on_words words.old (add_open (tables_of words.old) uid tid process file access)) words.old words.new result }
 {
     if !is_sound(words) {
-        return Row {
-            number: NOT_SOUND,
-            id: 0,
-        };
+        return Err(HostRefusal::NotSound);
     }
     add_sound(words, uid, tid, process, file, access)
 }

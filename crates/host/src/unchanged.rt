@@ -6,30 +6,20 @@ ghost use Rattle.tables.specs.Words.{word, tables_of};
 ghost use Rattle.tables.specs.Written.{opens_in};
 ghost use Rattle.soundness.specs.Sound.{sound};
 ghost use Rattle.host.specs.HostCall.{is_unchanged, ask_unchanged};
-ghost use Rattle.host.specs.OnWords.{on_words, row_of};
+ghost use Rattle.host.specs.OnWords.{on_words, Gives};
 
-use crate::answer::{DONE, NO_SUCH, NOT_SOUND, Row};
-use lists::Found;
+use crate::answer::{Given, HostRefusal};
 use records::Open;
 use soundness::whole::is_sound;
 use tables::file::{LARGEST, changes_at};
 use tables::open::open_at;
 
 // Where the open of that FID stands.
-fn find_fid(words: &[u64], fid: u16) -> Found
+fn find_fid(words: &[u64], fid: u16) -> Option<usize>
     requires { (length words.now ≡ 577) × (word words.now 0 ≤ 64) }
     ensures { result ≡ found (λ o. eqb o.fid fid) (opens_in words.now) }
 {
-    let count = words[0] as usize;
-    let mut i: usize = 0;
-    while i < count {
-        let o = open_at(words, i);
-        if o.fid == fid {
-            return Found::At(i);
-        }
-        i += 1;
-    }
-    Found::Nothing
+    (0..words[0] as usize).position(|i| open_at(words, i).fid == fid)
 }
 
 // "unchanged" exactly if the open has read, the numbers are equal and below the largest.
@@ -48,43 +38,31 @@ fn is_unchanged(words: &[u64], o: Open) -> bool
 }
 
 // The answer beside 0: 1 for "unchanged", 0 for "changed".
-fn answer_of(unchanged: bool) -> Row
-    ensures { (result.number ≡ 0) × (result.id ≡ cond unchanged 1 0) }
+fn answer_of(unchanged: bool) -> u16
+    ensures { result ≡ cond unchanged 1 0 }
 {
-    Row {
-        number: DONE,
-        id: unchanged as u16,
-    }
+    u16::from(unchanged)
 }
 
 // The question on sound tables: "6 for an unknown FID".
-fn ask_sound(words: &[u64], fid: u16) -> Row
+fn ask_sound(words: &[u64], fid: u16) -> Given
     requires { (length words.now ≡ 1605) × (sound (tables_of words.now) ≡ true) }
-    ensures { result ≡ row_of (ask_unchanged (tables_of words.now) fid) }
+    ensures { Gives (ask_unchanged (tables_of words.now) fid) result }
 {
-    let at = find_fid(&words[130..707], fid);
-    match at {
-        Found::At(i) => {
-            let o = open_at(&words[130..707], i);
-            answer_of(is_unchanged(words, o))
-        }
-        Found::Nothing => Row {
-            number: NO_SUCH,
-            id: 0,
-        },
-    }
+    let Some(i) = find_fid(&words[130..707], fid) else {
+        return Err(HostRefusal::NoSuch);
+    };
+    let o = open_at(&words[130..707], i);
+    Ok(answer_of(is_unchanged(words, o)))
 }
 
 // Whether an open has read and its file was not changed since, as far as the change numbers tell: beside 0 stands 1 for "unchanged", or 0 for "changed", which a
 // write of equal bytes gives too, and a number at its largest.
-pub fn ask_unchanged(words: &[u64; 1605], fid: u16) -> Row
-    ensures { result ≡ row_of (on_words words.now (ask_unchanged (tables_of words.now) fid)) }
+pub fn ask_unchanged(words: &[u64; 1605], fid: u16) -> Given
+    ensures { Gives (on_words words.now (ask_unchanged (tables_of words.now) fid)) result }
 {
     if !is_sound(words) {
-        return Row {
-            number: NOT_SOUND,
-            id: 0,
-        };
+        return Err(HostRefusal::NotSound);
     }
     ask_sound(words, fid)
 }

@@ -1,5 +1,6 @@
 -- `host::connection::drop_connection` meets its contract: words that are not those of sound tables are refused, and the call on sound tables does the rest.
 -- Assumes nothing.
+use Rattle.host.specs.declared.answer.HostRefusal.TheVariants.{NotSound}
 use borrow.Author.Rules.{rules}
 use mathlib.Core.Path.{sym, ◌∙◌}
 use Rattle.lists.specs.Truth.{both_hold}
@@ -15,7 +16,7 @@ returns-then-not-is_sound c =
     let args = c.args in
     let is-sound = c.is_sound in
     let w = args.words.now in
-    left-refused w 4 (on_words w (drop_connection (tables_of w) args.connection)) (on-unsound w (drop_connection (tables_of w) args.connection) (sym is-sound.ensures ∙ c.if-not-is_sound.true) (connection-unsound (tables_of w) args.connection))
+    left-refused w NotSound (on_words w (drop_connection (tables_of w) args.connection)) (on-unsound w (drop_connection (tables_of w) args.connection) (sym is-sound.ensures ∙ c.if-not-is_sound.true) (connection-unsound (tables_of w) args.connection))
 
 pub drop_sound-requires : goal.drop_sound-requires
 drop_sound-requires c =

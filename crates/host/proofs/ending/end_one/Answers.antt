@@ -1,5 +1,6 @@
 -- `host::ending::end_one` meets its contract: words that are not those of sound tables are refused, and the call on sound tables does the rest.
 -- Assumes nothing.
+use Rattle.host.specs.declared.answer.HostRefusal.TheVariants.{NotSound}
 use borrow.Author.Rules.{rules}
 use mathlib.Core.Path.{sym, ◌∙◌}
 use Rattle.lists.specs.Truth.{both_hold}
@@ -15,7 +16,7 @@ returns-then-not-is_sound c =
     let args = c.args in
     let is-sound = c.is_sound in
     let w = args.words.now in
-    left-refused w 4 (on_words w (end_one (tables_of w) args.one)) (on-unsound w (end_one (tables_of w) args.one) (sym is-sound.ensures ∙ c.if-not-is_sound.true) (one-unsound (tables_of w) args.one))
+    left-refused w NotSound (on_words w (end_one (tables_of w) args.one)) (on-unsound w (end_one (tables_of w) args.one) (sym is-sound.ensures ∙ c.if-not-is_sound.true) (one-unsound (tables_of w) args.one))
 
 pub end_sound-requires : goal.end_sound-requires
 end_sound-requires c =

@@ -1,5 +1,6 @@
 -- `host::ending::end_sound` meets its contract: 6 for a number that no record has; otherwise sound tables lose what it names.
 -- Assumes nothing.
+use Rattle.host.specs.declared.answer.HostRefusal.TheVariants.{NoSuch}
 use mathlib.Core.Path.{sym, ap, ◌∙◌}
 use Rattle.tables.specs.Words.{tables_of}
 use Rattle.removal.specs.Removal.{remove}
@@ -12,7 +13,7 @@ pub returns-then-not-is_there : goal.returns-then-not-is_there
 unfolding end_one
 returns-then-not-is_there c =
     let w = c.args.words.now in
-    left-refused w 6 _ (rw (c.requires.1, (sym c.is_there.ensures ∙ c.if-not-is_there.true)))
+    left-refused w NoSuch _ (rw (c.requires.1, (sym c.is_there.ensures ∙ c.if-not-is_there.true)))
 
 pub remove_named-requires : goal.remove_named-requires
 remove_named-requires c = (c.requires.0, sound-numbered (tables_of c.args.words.now) c.requires.1)

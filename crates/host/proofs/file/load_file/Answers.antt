@@ -1,5 +1,6 @@
 -- `host::file::load_file` meets its contract: a wrong room is refused first, then words that are not those of sound tables, and the load into sound tables does the rest.
 -- Assumes nothing.
+use Rattle.host.specs.declared.answer.HostRefusal.TheVariants.{NotSound, WrongRoom}
 use borrow.Author.Rules.{rules}
 use mathlib.Core.Path.{sym, ◌∙◌}
 use Rattle.lists.specs.Truth.{both_hold}
@@ -16,7 +17,7 @@ returns-then-memory-ne-MEMORY c =
     let args = c.args in
     let w = args.words.now in
     let e = load-wrong-room w args.file args.contents.now args.memory.now c.if-memory-ne-MEMORY.true in
-    record { left = left-refused w 2 (load_on_words w args.file args.contents.now args.memory.now) e.0; memory_after = sym e.1 }
+    record { left = left-refused w WrongRoom (load_on_words w args.file args.contents.now args.memory.now) e.0; memory_after = sym e.1 }
 
 pub returns-then-not-is_sound : goal.returns-then-not-is_sound
 returns-then-not-is_sound c =
@@ -24,7 +25,7 @@ returns-then-not-is_sound c =
     let is-sound = c.is_sound in
     let w = args.words.now in
     let e = load-unsound w args.file args.contents.now args.memory.now c.if-memory-ne-MEMORY.false (sym is-sound.ensures ∙ c.if-not-is_sound.true) in
-    record { left = left-refused w 4 (load_on_words w args.file args.contents.now args.memory.now) e.0; memory_after = sym e.1 }
+    record { left = left-refused w NotSound (load_on_words w args.file args.contents.now args.memory.now) e.0; memory_after = sym e.1 }
 
 pub load_sound-requires : goal.load_sound-requires
 load_sound-requires c =

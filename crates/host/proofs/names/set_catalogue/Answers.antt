@@ -1,5 +1,6 @@
 -- `host::names::set_catalogue` meets its contract: words that are not those of sound tables are refused, and the call on sound tables does the rest.
 -- Assumes nothing.
+use Rattle.host.specs.declared.answer.HostRefusal.TheVariants.{NotSound}
 use borrow.Author.Rules.{rules}
 use mathlib.Core.Path.{◌≡◌, sym, ◌∙◌}
 use Prim.Native.Nat.{ℕ}
@@ -18,7 +19,7 @@ returns-then-not-is_sound c =
     let w = c.args.words.now in
     let given = c.args.given.now in
     let unsound = sym c.is_sound.ensures ∙ c.if-not-is_sound.true in
-    record { left = left-refused w 4 (set_on_words w given) (on-unsound w (set_on_sound w given) unsound (catalogue-unsound w given)); words_after = λ e. let q : ◌≡◌ {A = ℕ} 4 0 = e in absurd (let z : ⊥ = omega arith in z) }
+    record { left = left-refused w NotSound (set_on_words w given) (on-unsound w (set_on_sound w given) unsound (catalogue-unsound w given)); words_after = λ e. let q : ◌≡◌ {A = ℕ} 4 0 = e in absurd (let z : ⊥ = omega arith in z) }
 
 pub set_sound-requires : goal.set_sound-requires
 set_sound-requires c =

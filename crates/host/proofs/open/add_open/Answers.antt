@@ -1,5 +1,6 @@
 -- `host::open::add_open` meets its contract: words that are not those of sound tables are refused, and the call on sound tables does the rest.
 -- Assumes nothing.
+use Rattle.host.specs.declared.answer.HostRefusal.TheVariants.{NotSound}
 use borrow.Author.Rules.{rules}
 use mathlib.Core.Path.{sym, ◌∙◌}
 use Rattle.lists.specs.Truth.{both_hold}
@@ -16,7 +17,7 @@ returns-then-not-is_sound c =
     let args = c.args in
     let is-sound = c.is_sound in
     let w = args.words.now in
-    left-refused w 4 (on_words w (add_open (tables_of w) args.uid args.tid args.process args.file args.access)) (on-unsound w (add_open (tables_of w) args.uid args.tid args.process args.file args.access) (sym is-sound.ensures ∙ c.if-not-is_sound.true) (open-unsound (tables_of w) args.uid args.tid args.process args.file args.access))
+    left-refused w NotSound (on_words w (add_open (tables_of w) args.uid args.tid args.process args.file args.access)) (on-unsound w (add_open (tables_of w) args.uid args.tid args.process args.file args.access) (sym is-sound.ensures ∙ c.if-not-is_sound.true) (open-unsound (tables_of w) args.uid args.tid args.process args.file args.access))
 
 pub add_sound-requires : goal.add_sound-requires
 add_sound-requires c =

@@ -1,5 +1,6 @@
 -- `host::open::add_sound` meets its contract: the refusals are tested in the definition's order, and one record is put behind those in use.
 -- Assumes nothing.
+use Rattle.host.specs.declared.answer.HostRefusal.TheVariants.{ExceedsRight, Full, NoSuch, OutOfRange}
 use mathlib.Core.Path.{◌≡◌, sym, ap, ◌∙◌}
 use Prim.Native.Nat.{◌≤◌, ◌<◌}
 use native.Mathlib.Omega.{arith}
@@ -25,13 +26,13 @@ pub returns-then-file-gt15 : goal.returns-then-file-gt15
 returns-then-file-gt15 c =
     let args = c.args in
     let w = args.words.now in
-    left-refused w 7 (add_open (tables_of w) args.uid args.tid args.process args.file args.access) (open-file (tables_of w) args.uid args.tid args.process args.file args.access c.requires.1 c.if-file-gt15.true)
+    left-refused w OutOfRange (add_open (tables_of w) args.uid args.tid args.process args.file args.access) (open-file (tables_of w) args.uid args.tid args.process args.file args.access c.requires.1 c.if-file-gt15.true)
 
 pub returns-then-access-gt2 : goal.returns-then-access-gt2
 returns-then-access-gt2 c =
     let args = c.args in
     let w = args.words.now in
-    left-refused w 7 (add_open (tables_of w) args.uid args.tid args.process args.file args.access) (open-access (tables_of w) args.uid args.tid args.process args.file args.access c.requires.1 c.if-file-gt15.false c.if-access-gt2.true)
+    left-refused w OutOfRange (add_open (tables_of w) args.uid args.tid args.process args.file args.access) (open-access (tables_of w) args.uid args.tid args.process args.file args.access c.requires.1 c.if-file-gt15.false c.if-access-gt2.true)
 
 pub returns-then-not-some_tree_is : goal.returns-then-not-some_tree_is
 returns-then-not-some_tree_is c =
@@ -39,7 +40,7 @@ returns-then-not-some_tree_is c =
     let some-tree-is = c.some_tree_is in
     let w = args.words.now in
     let known : any (is_tree args.tid args.uid) (trees_of (tables_of w)) ≡ false = ap (any (is_tree args.tid args.uid)) (trees-in w) ∙ sym some-tree-is.ensures ∙ c.if-not-some_tree_is.true in
-    left-refused w 6 (add_open (tables_of w) args.uid args.tid args.process args.file args.access) (open-orphan (tables_of w) args.uid args.tid args.process args.file args.access c.requires.1 c.if-file-gt15.false c.if-access-gt2.false known)
+    left-refused w NoSuch (add_open (tables_of w) args.uid args.tid args.process args.file args.access) (open-orphan (tables_of w) args.uid args.tid args.process args.file args.access c.requires.1 c.if-file-gt15.false c.if-access-gt2.false known)
 
 pub returns-then-not-some_tree_holds : goal.returns-then-not-some_tree_holds
 returns-then-not-some_tree_holds c =
@@ -52,7 +53,7 @@ returns-then-not-some_tree_holds c =
     let free : free-fid.result ≡ smallest_free (map fid_of (opens_of (tables_of w))) = free-fid.ensures ∙ ap (λ (l : List Open). smallest_free (map fid_of l)) (sym (opens_in_lem w)) in
     let x = open_by (tables_of w) args.uid args.tid args.process args.file args.access free-fid.result in
     let held : any (holds_open x) (trees_of (tables_of w)) ≡ false = ap (any (holds_open x)) (trees-in w) ∙ sym some-tree-holds.ensures ∙ c.if-not-some_tree_holds.true in
-    left-refused w 8 (add_open (tables_of w) args.uid args.tid args.process args.file args.access) (open-exceeds (tables_of w) args.uid args.tid args.process args.file args.access c.requires.1 c.if-file-gt15.false c.if-access-gt2.false known free-fid.result free held)
+    left-refused w ExceedsRight (add_open (tables_of w) args.uid args.tid args.process args.file args.access) (open-exceeds (tables_of w) args.uid args.tid args.process args.file args.access c.requires.1 c.if-file-gt15.false c.if-access-gt2.false known free-fid.result free held)
 
 pub returns-then-words-ge64 : goal.returns-then-words-ge64
 returns-then-words-ge64 c =
@@ -66,7 +67,7 @@ returns-then-words-ge64 c =
     let x = open_by (tables_of w) args.uid args.tid args.process args.file args.access free-fid.result in
     let held : any (holds_open x) (trees_of (tables_of w)) ≡ true = ap (any (holds_open x)) (trees-in w) ∙ sym some-tree-holds.ensures ∙ c.if-not-some_tree_holds.false in
     let many : 64 ≤ (tables_of w).nopens = rw (opens-count w) c.if-words-ge64.true in
-    left-refused w 5 (add_open (tables_of w) args.uid args.tid args.process args.file args.access) (open_full (tables_of w) args.uid args.tid args.process args.file args.access c.requires.1 c.if-file-gt15.false c.if-access-gt2.false known free-fid.result free held many)
+    left-refused w Full (add_open (tables_of w) args.uid args.tid args.process args.file args.access) (open_full (tables_of w) args.uid args.tid args.process args.file args.access c.requires.1 c.if-file-gt15.false c.if-access-gt2.false known free-fid.result free held many)
 
 pub append_open-requires : goal.append_open-requires
 append_open-requires c =

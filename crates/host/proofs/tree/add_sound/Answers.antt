@@ -1,5 +1,7 @@
 -- `host::tree::add_sound` meets its contract: the refusals are tested in the definition's order, and one record is put behind those in use.
 -- Assumes nothing.
+use Rattle.tables.specs.Words.{tree_array}
+use Rattle.host.specs.declared.answer.HostRefusal.TheVariants.{Full, NoSuch, OutOfRange}
 use mathlib.Core.Path.{◌≡◌, sym, ap, ◌∙◌}
 use Prim.Native.Nat.{◌≤◌, ◌<◌}
 use native.Mathlib.Omega.{arith}
@@ -23,7 +25,7 @@ pub returns-then-right-gt1 : goal.returns-then-right-gt1
 returns-then-right-gt1 c =
     let args = c.args in
     let w = args.words.now in
-    left-refused w 7 (add_tree (tables_of w) args.uid args.right) (tree-range (tables_of w) args.uid args.right c.requires.1 c.if-right-gt1.true)
+    left-refused w OutOfRange (add_tree (tables_of w) args.uid args.right) (tree-range (tables_of w) args.uid args.right c.requires.1 c.if-right-gt1.true)
 
 pub returns-then-not-has_session : goal.returns-then-not-has_session
 returns-then-not-has_session c =
@@ -31,7 +33,7 @@ returns-then-not-has_session c =
     let has-session = c.has_session in
     let w = args.words.now in
     let known : contains args.uid (map uid_of (sessions_of (tables_of w))) ≡ false = ap (λ (l : List Session). contains args.uid (map uid_of l)) (sessions-in w) ∙ sym has-session.ensures ∙ c.if-not-has_session.true in
-    left-refused w 6 (add_tree (tables_of w) args.uid args.right) (tree-orphan (tables_of w) args.uid args.right c.requires.1 c.if-right-gt1.false known)
+    left-refused w NoSuch (add_tree (tables_of w) args.uid args.right) (tree-orphan (tables_of w) args.uid args.right c.requires.1 c.if-right-gt1.false known)
 
 pub returns-then-words-ge32 : goal.returns-then-words-ge32
 returns-then-words-ge32 c =
@@ -40,29 +42,30 @@ returns-then-words-ge32 c =
     let w = args.words.now in
     let known : contains args.uid (map uid_of (sessions_of (tables_of w))) ≡ true = ap (λ (l : List Session). contains args.uid (map uid_of l)) (sessions-in w) ∙ sym has-session.ensures ∙ c.if-not-has_session.false in
     let many : 32 ≤ (tables_of w).ntrees = rw (trees-count w) c.if-words-ge32.true in
-    left-refused w 5 (add_tree (tables_of w) args.uid args.right) (tree-full (tables_of w) args.uid args.right c.requires.1 c.if-right-gt1.false known many)
+    left-refused w Full (add_tree (tables_of w) args.uid args.right) (tree-full (tables_of w) args.uid args.right c.requires.1 c.if-right-gt1.false known many)
 
-pub append_tree-requires : goal.append_tree-requires
-append_tree-requires c =
+pub append-requires : goal.append-requires
+append-requires c =
     let w = c.args.words.now in
     let full : length w ≡ 1605 = c.requires.0 in
     let room : word (part w 33 97) 0 < 32 = rw (first_word w 33 97 (omega arith)) c.if-words-ge32.false in
     (length_part w 33 97 (omega arith), room)
 
 pub returns : goal.returns
+unfolding tree_array
 returns c =
     let args = c.args in
     let pre = c.requires in
-    let append-tree = c.append_tree in
+    let added = c.append in
     let has-session = c.has_session in
     let free-tid = c.free_tid-tid in
     let w = args.words.now in
     let full : length w ≡ 1605 = pre.0 in
-    let e = append-tree.new.words in
-    let long : length e ≡ 97 = append-tree.auto.words ∙ length_part w 33 97 (omega arith) in
+    let e = added.new.words in
+    let long : length e ≡ 97 = added.auto.words ∙ length_part w 33 97 (omega arith) in
     let known : contains args.uid (map uid_of (sessions_of (tables_of w))) ≡ true = ap (λ (l : List Session). contains args.uid (map uid_of l)) (sessions-in w) ∙ sym has-session.ensures ∙ c.if-not-has_session.false in
     let room : (tables_of w).ntrees < 32 = rw (trees-count w) c.if-words-ge32.false in
     let free : free-tid.result ≡ smallest_free (map tid_of (trees_of (tables_of w))) = free-tid.ensures ∙ ap (λ (l : List Tree). smallest_free (map tid_of l)) (sym (trees-in w)) in
     let x : Tree = record { tid = free-tid.result; uid = args.uid; right = args.right } in
-    let a = trees-appended w e full x long append-tree.ensures in
+    let a = trees-appended w e full x long added.ensures in
     left-done w (lent w 33 97 e) free-tid.result (add_tree (tables_of w) args.uid args.right) (with_trees (tables_of w) (trees_of (tables_of w) ++ (x ∷ []))) (tree-added (tables_of w) args.uid args.right pre.1 c.if-right-gt1.false known free-tid.result room free) a.0 a.1

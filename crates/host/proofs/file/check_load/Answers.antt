@@ -1,4 +1,4 @@
--- `host::file::load_number` meets its contract: the refusals are tested in the definition's order.
+-- `host::file::check_load` meets its contract: the refusals are tested in the definition's order.
 -- Assumes nothing.
 use borrow.Author.Tests.{lt-ltb, le-ltb}
 use mathlib.Core.Path.{◌≡◌, sym, ap, ◌∙◌}
@@ -10,7 +10,7 @@ use Rattle.tables.specs.PartLaws.{length_part}
 use Rattle.tables.specs.WholeLaws.{opens_in_lem}
 use Rattle.soundness.specs.SoundLaws.{sound-room}
 use Rattle.host.specs.HostCall.{is_of, load_number}
-use Rattle.host.proofs.file.load_number.Goals as goal
+use Rattle.host.proofs.file.check_load.Goals as goal
 
 pub returns-then-file-gt15 : goal.returns-then-file-gt15
 unfolding load_number
