@@ -1,10 +1,8 @@
 -- What one command does (document 01, "Refusals on the wire" for the order, "Locks, reads and writes" for the rest; document 02, CR 3, CR 6 and CR 8). It takes
 -- the caller's numbers, the command's fields and its bytes, never its place, and gives a refusal or the new state with what
 -- its reply block says. Assumes nothing.
-use Rattle.std.specs.Prelude.{ℕ, min, max, ◌+◌, ◌-◌, ◌/◌, ◌%◌, Bool, cond, not, ◌&&◌, ◌||◌, List, [], ◌∷◌, ◌++◌, length, take, drop, get_or, leb, ltb, eqb}
+use Rattle.std.specs.Prelude.{ℕ, min, max, ◌+◌, ◌-◌, ◌/◌, ◌%◌, Bool, cond, not, ◌&&◌, ◌||◌, List, [], ◌∷◌, ◌++◌, length, take, drop, get_or, leb, ltb, eqb, Option, Some, None, Ok, Err}
 use Rattle.lists.specs.Walk.{any, found}
-use Rattle.lists.specs.declared.Found.{Found}
-use Rattle.lists.specs.declared.Found.TheVariants.{At, Nothing}
 use Rattle.records.specs.declared.Session.{Session}
 use Rattle.records.specs.declared.Open.{Open}
 use Rattle.records.specs.declared.Lock.{Lock}
@@ -19,8 +17,8 @@ use Rattle.locks.specs.declared.types.Ask.{Ask}
 use Rattle.locks.specs.declared.types.LockRange.{LockRange}
 use Rattle.locks.specs.declared.types.Request.{Request}
 use Rattle.locks.specs.declared.types.Locking.{Locking}
-use Rattle.locks.specs.declared.types.Outcome.{Outcome}
-use Rattle.locks.specs.declared.types.Outcome.TheVariants.{Done, Malformed as BadRanges, NoSuchLock as NoLock, PassesEnd as PastEnd, Conflict as InWay, NoRecord as NoRoom}
+use Rattle.locks.specs.Outcome.{Outcome}
+use Rattle.locks.specs.declared.types.LockRefusal.TheVariants.{Malformed as BadRanges, NoSuchLock as NoLock, PassesEnd as PastEnd, Conflict as InWay, NoRecord as NoRoom}
 use Rattle.locks.specs.declared.types.Purpose.{Purpose}
 use Rattle.locks.specs.declared.types.Purpose.TheVariants.{Read as Reading, Write as Writing}
 use Rattle.numbers.specs.NewOpen.{open_with}
@@ -77,9 +75,9 @@ with_tree c t next = with_session c t (cond (any (is_tree c.tid c.uid) (trees_of
 unfoldable pub is_open : Caller → ℕ → Open → Bool
 is_open c fid o = eqb o.fid fid && (eqb o.uid c.uid && eqb o.tid c.tid)
 
-unfoldable pub open_at : Found → List Open → (Open → Given) → Given
-open_at (At k) opens next = next (get_or opens k no_open)
-open_at Nothing opens next = refused NoOpen
+unfoldable pub open_at : Option ℕ → List Open → (Open → Given) → Given
+open_at (Some k) opens next = next (get_or opens k no_open)
+open_at None opens next = refused NoOpen
 
 unfoldable pub with_open : Caller → Tables → ℕ → (Open → Given) → Given
 with_open c t fid next = with_tree c t (open_at (found (is_open c fid) (opens_of t)) (opens_of t) next)
@@ -119,12 +117,12 @@ with_lock_list t locks count =
     }
 
 unfoldable pub locking_end : Outcome → Tables → List ℕ → Locking → Given
-locking_end Done t memory l = done (with_lock_list t l.locks l.count) memory locked
-locking_end BadRanges t memory l = refused NotSentence
-locking_end NoLock t memory l = refused NoSuchLock
-locking_end PastEnd t memory l = refused PassesEnd
-locking_end (InWay h) t memory l = refused (LockNotGranted h)
-locking_end NoRoom t memory l = refused NoRecord
+locking_end (Ok _) t memory l = done (with_lock_list t l.locks l.count) memory locked
+locking_end (Err BadRanges) t memory l = refused NotSentence
+locking_end (Err NoLock) t memory l = refused NoSuchLock
+locking_end (Err PastEnd) t memory l = refused PassesEnd
+locking_end (Err (InWay h)) t memory l = refused (LockNotGranted h)
+locking_end (Err NoRoom) t memory l = refused NoRecord
 
 unfoldable pub locking_after : Tables → List ℕ → Locking → Given
 locking_after t memory l = locking_end l.outcome t memory l
@@ -144,11 +142,11 @@ unfoldable pub ask_by : Caller → ℕ → ℕ → ℕ → Purpose → Ask
 ask_by c fid offset count purpose = record { fid = fid; process = c.process; offset = offset; length = count; purpose = purpose }
 
 -- document 02, CR 2: "Locks, reads and writes pass it up"
-unfoldable pub unless_barred : Tables → Found → Given → Given
-unless_barred t (At place) next = refused (FileLockConflict (holder_at (locks_of t) place))
-unless_barred t Nothing next = next
+unfoldable pub unless_barred : Tables → Option ℕ → Given → Given
+unless_barred t (Some place) next = refused (FileLockConflict (holder_at (locks_of t) place))
+unless_barred t None next = next
 
-unfoldable pub barring : Tables → Ask → Found
+unfoldable pub barring : Tables → Ask → Option ℕ
 barring t q = found (answers (file_of (opens_of t)) q) (locks_of t)
 
 -- "1/5 is a read on access 1". "Each open remembers the number at its last granted read" (document 02, CR 8)
@@ -247,9 +245,9 @@ open_file c t memory f file =
     (opened_said f.full (open_by c t f file).fid (size_of t file) f.access))))
     (refused NoAccess)
 
-unfoldable pub open_named : Caller → Tables → List ℕ → OpenFields → Found → Given
-open_named c t memory f (At k) = open_file c t memory f (get_or (names_of t) k no_name).file
-open_named c t memory f Nothing = refused NoSuchFile
+unfoldable pub open_named : Caller → Tables → List ℕ → OpenFields → Option ℕ → Given
+open_named c t memory f (Some k) = open_file c t memory f (get_or (names_of t) k no_name).file
+open_named c t memory f None = refused NoSuchFile
 
 unfoldable pub do_open : Caller → Tables → List ℕ → OpenFields → List ℕ → Given
 do_open c t memory f name =

@@ -1,36 +1,48 @@
 -- What the code hands on, as what a command gives. Assumes nothing.
-use Rattle.std.specs.Prelude.{◌≡◌, ℕ, ◌+◌, Bool, true, List, take, drop, leb}
+use Rattle.std.specs.Prelude.{◌≡◌, ℕ, ◌+◌, Bool, true, List, take, drop, leb, Result, Ok, Err}
 use Rattle.records.specs.declared.Tables.{Tables}
-use Rattle.message.specs.Command.{locked, logged_off, read, wrote, plain, core_read, core_wrote, opened, Given, refused, done}
+use Rattle.message.specs.Command.{Said, locked, logged_off, read, wrote, plain, core_read, core_wrote, opened, Given, refused, done}
 use Rattle.message.specs.Reply.{reply_block, refused_block}
-use Rattle.message.specs.declared.link.Link.{Link}
+use Rattle.chain.specs.Next.{Next}
 use Rattle.message.specs.declared.answer.Answer.{Answer}
-use Rattle.message.specs.declared.answer.Answer.TheVariants.{Refused, Locked, LoggedOff, Read, Wrote, Plain, CoreRead, CoreWrote, Opened}
+use Rattle.message.specs.declared.answer.Answer.TheVariants.{Locked, LoggedOff, Read, Wrote, Plain, CoreRead, CoreWrote, Opened}
 use Rattle.message.specs.declared.answer.Performed.{Performed}
+use Rattle.message.specs.declared.refusal.Refusal.{Refusal}
 
--- an answer with the tables and the file memory left: a READ's bytes stand in the file memory
-unfoldable pub given_of : Answer → Tables → List ℕ → Given
-given_of (Refused why) t memory = refused why
-given_of Locked t memory = done t memory locked
-given_of LoggedOff t memory = done t memory logged_off
-given_of (Read place count) t memory = done t memory (read (take count (drop place memory)))
-given_of (Wrote count) t memory = done t memory (wrote count)
-given_of Plain t memory = done t memory plain
-given_of (CoreRead place count) t memory = done t memory (core_read (take count (drop place memory)))
-given_of (CoreWrote count) t memory = done t memory (core_wrote count)
-given_of (Opened fid size access results) t memory = done t memory (opened fid size access results)
+-- what a command answers, done or refused
+abbrev pub Answered : Type 0
+Answered = Result Answer Refusal
+
+-- what the reply block of a command done says: a READ's bytes stand in the file memory
+unfoldable pub said_of : Answer → List ℕ → Said
+said_of Locked memory = locked
+said_of LoggedOff memory = logged_off
+said_of (Read place count) memory = read (take count (drop place memory))
+said_of (Wrote count) memory = wrote count
+said_of Plain memory = plain
+said_of (CoreRead place count) memory = core_read (take count (drop place memory))
+said_of (CoreWrote count) memory = core_wrote count
+said_of (Opened fid size access results) memory = opened fid size access results
+
+-- an answer with the tables and the file memory left
+unfoldable pub given_of : Answered → Tables → List ℕ → Given
+given_of (Err why) t memory = refused why
+given_of (Ok a) t memory = done t memory (said_of a memory)
 
 -- a READ's bytes lie in the file memory
-unfoldable pub inside : Answer → Bool
-inside (Refused why) = true
-inside Locked = true
-inside LoggedOff = true
-inside (Read place count) = leb (place + count) 65536
-inside (Wrote count) = true
-inside Plain = true
-inside (CoreRead place count) = leb (place + count) 65536
-inside (CoreWrote count) = true
-inside (Opened fid size access results) = true
+unfoldable pub bytes_inside : Answer → Bool
+bytes_inside Locked = true
+bytes_inside LoggedOff = true
+bytes_inside (Read place count) = leb (place + count) 65536
+bytes_inside (Wrote count) = true
+bytes_inside Plain = true
+bytes_inside (CoreRead place count) = leb (place + count) 65536
+bytes_inside (CoreWrote count) = true
+bytes_inside (Opened fid size access results) = true
+
+unfoldable pub inside : Answered → Bool
+inside (Err why) = true
+inside (Ok a) = bytes_inside a
 
 -- the tables and the file memory after a command: "A command refused changes no table and no file byte"
 unfoldable pub tables_after : Given → Tables → Tables
@@ -49,25 +61,21 @@ pub record Gives (given : Given) (t : Tables) (memory : List ℕ) (p : Performed
   pub within : inside p.answer ≡ true
 
 -- the reply block of an answer
-unfoldable pub block_of : Answer → List ℕ → ℕ → Link → List ℕ
-block_of (Refused why) memory place link = refused_block
-block_of Locked memory place link = reply_block locked place link
-block_of LoggedOff memory place link = reply_block logged_off place link
-block_of (Read at count) memory place link = reply_block (read (take count (drop at memory))) place link
-block_of (Wrote count) memory place link = reply_block (wrote count) place link
-block_of Plain memory place link = reply_block plain place link
-block_of (CoreRead at count) memory place link = reply_block (core_read (take count (drop at memory))) place link
-block_of (CoreWrote count) memory place link = reply_block (core_wrote count) place link
-block_of (Opened fid size access results) memory place link = reply_block (opened fid size access results) place link
+unfoldable pub block_of : Answered → List ℕ → ℕ → Next → List ℕ
+block_of (Err why) memory place link = refused_block
+block_of (Ok a) memory place link = reply_block (said_of a memory) place link
 
 -- its length
-unfoldable pub answer_size : Answer → ℕ
-answer_size (Refused why) = 3
-answer_size Locked = 7
-answer_size LoggedOff = 7
-answer_size (Read at count) = 27 + count
-answer_size (Wrote count) = 15
-answer_size Plain = 3
-answer_size (CoreRead at count) = 16 + count
-answer_size (CoreWrote count) = 5
-answer_size (Opened fid size access results) = 33
+unfoldable pub done_size : Answer → ℕ
+done_size Locked = 7
+done_size LoggedOff = 7
+done_size (Read at count) = 27 + count
+done_size (Wrote count) = 15
+done_size Plain = 3
+done_size (CoreRead at count) = 16 + count
+done_size (CoreWrote count) = 5
+done_size (Opened fid size access results) = 33
+
+unfoldable pub answer_size : Answered → ℕ
+answer_size (Err why) = 3
+answer_size (Ok a) = done_size a

@@ -1,4 +1,5 @@
 pub mod Caller
+pub mod HeldBy
 pub mod Refusal
 pub mod Contents
 pub mod Sharing

@@ -1,6 +1,5 @@
 -- What a message gives: demand 2's definition. Assumes nothing.
-use Rattle.std.specs.Prelude.{ℕ, ◌+◌, Bool, cond, not, ◌||◌, List, [], ◌∷◌, ◌++◌, length, take, drop, ltb, eqb}
-use Rattle.std.proofs.Math.Option.{Option, none, some}
+use Rattle.std.specs.Prelude.{ℕ, ◌+◌, Bool, cond, not, ◌||◌, List, [], ◌∷◌, ◌++◌, length, take, drop, ltb, eqb, Option, None, Some, None as Nobody, None as no_link}
 use Rattle.lists.specs.Put.{put}
 use Rattle.records.specs.declared.Tables.{Tables}
 use Rattle.soundness.specs.Sound.{sound}
@@ -12,13 +11,11 @@ use Rattle.message.specs.Caller.{caller_of}
 use Rattle.message.specs.declared.caller.Caller.{Caller}
 use Rattle.message.specs.Refusal.{success, forms_of, holder_of}
 use Rattle.message.specs.declared.refusal.Forms.{Forms}
-use Rattle.message.specs.declared.refusal.HeldBy.{HeldBy}
-use Rattle.message.specs.declared.refusal.HeldBy.TheVariants.{Nobody}
+use Rattle.message.specs.HeldBy.{HeldBy}
 use Rattle.message.specs.Command.{Given, refused, done, perform}
 use Rattle.message.specs.JustOpened.{NOBODY, opened_by, body_meant}
 use Rattle.message.specs.Reply.{reply_header, reply_block, refused_block, reply_size}
-use Rattle.message.specs.declared.link.Link.{Link}
-use Rattle.message.specs.declared.link.Link.TheVariants.{None as no_link, Next as next}
+use Rattle.chain.specs.Next.{Next, Follow}
 use Rattle.message.specs.declared.refusal.Refusal.TheVariants.{NotServed, NotSentence}
 
 -- a block's byte area, and a WRITE_ANDX's data, as parts of the message; of another command's block nobody looks at the latter
@@ -41,9 +38,9 @@ unfoldable pub after : List ℕ → Ran → Ran
 after bytes r = record { forms = r.forms; holder = r.holder; tables = r.tables; memory = r.memory; blocks = bytes ++ r.blocks }
 
 -- "AndX names the next block written": the block after this one, where there is one
-unfoldable pub link_to : List Block → ℕ → Link
+unfoldable pub link_to : List Block → ℕ → Next
 link_to [] place = no_link
-link_to (b ∷ bs) place = next b.command place
+link_to (b ∷ bs) place = Follow b.command place
 
 -- "command by command": "Commands before it in the chain stand; those after it aren't begun." Blocks stand end to end, the
 -- first of these at `place`.
@@ -68,8 +65,8 @@ unfoldable pub only_status : Forms → Tables → List ℕ → Ran
 only_status why t memory = record { forms = why; holder = Nobody; tables = t; memory = memory; blocks = refused_block }
 
 unfoldable pub run_chain : Caller → List ℕ → Option (List Block) → Tables → List ℕ → Ran
-run_chain c s none t memory = only_status (forms_of NotSentence) t memory
-run_chain c s (some bs) t memory = run c s NOBODY bs FIRST t memory
+run_chain c s None t memory = only_status (forms_of NotSentence) t memory
+run_chain c s (Some bs) t memory = run c s NOBODY bs FIRST t memory
 
 -- a message fit to be answered: "2/22 and 2/1 come before anything is carried out"
 unfoldable pub answered : ℕ → List ℕ → Tables → List ℕ → Ran

@@ -1,13 +1,12 @@
 -- The class and code of each refusal (document 01, "Refusals on the wire (class/code, decimal)"; document 02, CR 6), beside it its NTSTATUS (document 02, CR 7), and the
 -- holder that a conflict names (document 02, CR 2).
 -- Assumes nothing.
-use Rattle.std.specs.Prelude.{ℕ}
+use Rattle.std.specs.Prelude.{ℕ, None as Nobody, Some as held_by}
 use Rattle.message.specs.declared.refusal.Refusal.{Refusal}
 use Rattle.message.specs.declared.refusal.Refusal.TheVariants.{NotServed, NotSentence, NoSession, NoTree, NoOpen, NoAccess, LockType, NoSuchLock, PassesEnd, LockNotGranted, FileLockConflict, NoRecord, NoSpace, OpenMode, BadAccess, NoSuchFile, BadShare, NoFids}
 use Rattle.message.specs.declared.refusal.Status.{Status}
 use Rattle.message.specs.declared.refusal.Forms.{Forms}
-use Rattle.message.specs.declared.refusal.HeldBy.{HeldBy}
-use Rattle.message.specs.declared.refusal.HeldBy.TheVariants.{Nobody, Holder as held_by}
+use Rattle.message.specs.HeldBy.{HeldBy}
 
 -- an SMBSTATUS: class and code, 0/0 where everything was done
 unfoldable pub status : ℕ → ℕ → Status

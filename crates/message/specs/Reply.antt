@@ -1,11 +1,10 @@
 -- The bytes of a reply (document 01, "Header" and "Reply blocks"; document 02, CR 3, CR 6 and CR 7). Assumes nothing.
-use Rattle.std.specs.Prelude.{ℕ, ◌+◌, ◌*◌, ◌/◌, ◌%◌, Bool, cond, List, [], ◌∷◌, ◌++◌, length, take, drop, replicate, eqb}
+use Rattle.std.specs.Prelude.{ℕ, ◌+◌, ◌*◌, ◌/◌, ◌%◌, Bool, cond, List, [], ◌∷◌, ◌++◌, length, take, drop, replicate, eqb, None as none, Some}
 use Rattle.wire.specs.LittleEndian.{byte_at}
 use Rattle.message.specs.declared.refusal.Status.{Status}
 use Rattle.message.specs.declared.refusal.Forms.{Forms}
 use Rattle.message.specs.Command.{Said, locked, logged_off, read, wrote, plain, core_read, core_wrote, opened}
-use Rattle.message.specs.declared.link.Link.{Link}
-use Rattle.message.specs.declared.link.Link.TheVariants.{None as none, Next as next}
+use Rattle.chain.specs.Next.{Next}
 
 -- a number in two bytes, the lower first
 unfoldable pub two : ℕ → List ℕ
@@ -36,16 +35,16 @@ reply_header s f =
     ++ (replicate 10 0 ++ take 8 (drop 24 s))))
 
 -- "with none it is FF 00 00 00"
-unfoldable pub link_words : Link → List ℕ
+unfoldable pub link_words : Next → List ℕ
 link_words none = 0xFF ∷ 0 ∷ 0 ∷ 0 ∷ []
-link_words (next command place) = command ∷ 0 ∷ two place
+link_words (Some next) = next.command ∷ 0 ∷ two next.at
 
 -- "LOCKING and LOGOFF: 2 words. READ: 12 words: AndX, 0xFFFF, 0, 0, length, data offset, ten zero bytes; the bytes are the
 -- data. WRITE: 6 words: AndX, count, 0xFFFF, four zero bytes. Others: 0 words." The block stands at `place`; a READ's data
 -- stand behind its 27 bytes before them. The core READ (source document 000): 5 words: count, eight zero bytes; the bytes are a data block, 0x01,
 -- length, data. The core WRITE: 1 word, the count. LOCK_BYTE_RANGE and UNLOCK_BYTE_RANGE are among the others. OPEN_ANDX
 -- (source document 001): 15 words: AndX, FID 2, attributes 2 and time 4, size 4, access 2, resource type 2 and pipe status 2, OpenResults 2, reserved 6.
-unfoldable pub reply_block : Said → ℕ → Link → List ℕ
+unfoldable pub reply_block : Said → ℕ → Next → List ℕ
 reply_block locked place link = 2 ∷ (link_words link ++ (0 ∷ 0 ∷ []))
 reply_block logged_off place link = 2 ∷ (link_words link ++ (0 ∷ 0 ∷ []))
 reply_block (read bytes) place link =

@@ -4,5 +4,4 @@
 
 pub mod answer;
 pub mod caller;
-pub mod link;
 pub mod refusal;

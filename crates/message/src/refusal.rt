@@ -29,7 +29,7 @@ pub enum Refusal {
     NoFids,
 }
 
-// An SMBSTATUS: 0/0 where everything was done.
+// An SMBSTATUS: 0/0 where everything was done. Numbers of the wire, which `forms_of` has for each refusal.
 #[derive(Clone, Copy)]
 pub struct Status {
     pub class: u8,
@@ -43,15 +43,8 @@ pub struct Forms {
     pub nt: u32,
 }
 
-// Who holds the lock in the way, for the host (document 02, CR 2): nobody, unless a command was refused for
-// conflict.
-#[derive(Clone, Copy)]
-pub enum HeldBy {
-    Nobody,
-    Holder(Holder),
-}
-
 // A status in both forms beside each other.
+#[tactic(auto, unfolding(crate::specs::Refusal::status))]
 pub fn both_forms(class: u8, code: u16, nt: u32) -> Forms
     ensures { result ≡ forms class code nt }
 {
@@ -60,6 +53,7 @@ pub fn both_forms(class: u8, code: u16, nt: u32) -> Forms
 }
 
 // The list: document 01's class and code of each refusal, and beside it document 02's NTSTATUS.
+#[tactic(auto, unfolding(crate::specs::Refusal::forms_of, crate::specs::Refusal::status))]
 pub fn forms_of(why: Refusal) -> Forms
     ensures { result ≡ forms_of why }
 {
@@ -86,12 +80,12 @@ pub fn forms_of(why: Refusal) -> Forms
 }
 
 // The holder that a refusal names.
-pub fn holder_of(why: Refusal) -> HeldBy
+#[tactic(auto, unfolding(crate::specs::Refusal::holder_of))]
+pub fn holder_of(why: Refusal) -> Option<Holder>
     ensures { result ≡ holder_of why }
 {
     match why {
-        Refusal::LockNotGranted(h) => HeldBy::Holder(h),
-        Refusal::FileLockConflict(h) => HeldBy::Holder(h),
-        _ => HeldBy::Nobody,
+        Refusal::LockNotGranted(h) | Refusal::FileLockConflict(h) => Some(h),
+        _ => None,
     }
 }

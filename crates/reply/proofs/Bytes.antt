@@ -5,7 +5,7 @@ use native.Mathlib.Omega.{arith}
 use mathlib.Core.List.{List, [], ◌∷◌, ◌++◌}
 use Rattle.lists.specs.Put.{put}
 use Rattle.message.specs.Reply.{two, four, link_words}
-use Rattle.message.specs.declared.link.Link.{Link}
+use Rattle.chain.specs.Next.{Next}
 use Rattle.reply.specs.Links.{link_command, link_place, link-parts}
 
 -- a write of equal bytes
@@ -31,7 +31,7 @@ unfolding four
 four_bytes n {upper} u e0 e1 e2 e3 = (λ i. two_bytes n e0 e1 i ++ two_bytes upper e2 e3 i) ∙ (λ i. two n ++ two (u i))
 
 -- the AndX words: the command, a zero byte, and the place in two bytes
-pub link-bytes : (link : Link) {command place low high : ℕ} → command ≡ link_command link → place ≡ link_place link
+pub link-bytes : (link : Next) {command place low high : ℕ} → command ≡ link_command link → place ≡ link_place link
     → low ≡ place % 256 → high ≡ place / 256 % 256 → command ∷ 0 ∷ low ∷ high ∷ [] ≡ link_words link
 link-bytes link {command} {place} c p l h =
     (λ i. command ∷ 0 ∷ two_bytes place l h i) ∙ (λ i. c i ∷ 0 ∷ two (p i)) ∙ sym (link-parts link)

@@ -5,44 +5,41 @@ ghost use Rattle.std.specs.Prelude.{◌≡◌, ◌+◌, ◌≤◌, true, [], ◌
 ghost use Rattle.lists.specs.Put.{put};
 ghost use Rattle.message.specs.Command.{read};
 ghost use Rattle.message.specs.Reply.{two, link_words, refused_block, reply_block};
-ghost use Rattle.message.specs.Given.{inside, block_of, answer_size};
+ghost use Rattle.message.specs.Given.{said_of, bytes_inside, inside, block_of, done_size, answer_size};
 ghost use Rattle.reply.specs.Fronts.{read_start, read_extent, core_front, open_start, open_codes};
 ghost use Rattle.reply.specs.Links.{link_for, link_command, link_place};
 
 use crate::little_endian::{high, low};
-use chain::block::Next;
+use chain::block::{Follower, Next};
 use message::answer::Answer;
-use message::link::Link;
+use message::refusal::Refusal;
 use wire::fill::lay;
 
 // "AndX names the next block written", which stands at `place`.
-pub fn link_to(next: Next, place: usize) -> Link
+#[tactic(auto, unfolding(crate::specs::Links::link_for))]
+pub fn link_to(next: Next, place: usize) -> Next
     ensures { result ≡ link_for next place }
 {
-    match next {
-        Next::End => Link::None,
-        Next::Follow(command, _) => Link::Next(command, place),
-    }
+    next.map(|follower| Follower {
+        command: follower.command,
+        at: place,
+    })
 }
 
 // AndXCommand: "with none it is FF 00 00 00".
-fn link_command(link: Link) -> u8
+#[tactic(auto, unfolding(crate::specs::Links::link_command))]
+fn link_command(link: Next) -> u8
     ensures { result ≡ link_command link }
 {
-    match link {
-        Link::None => 0xff,
-        Link::Next(command, _) => command,
-    }
+    link.map_or(0xff, |follower| follower.command)
 }
 
 // AndXOffset.
-fn link_place(link: Link) -> usize
+#[tactic(auto, unfolding(crate::specs::Links::link_place))]
+fn link_place(link: Next) -> usize
     ensures { result ≡ link_place link }
 {
-    match link {
-        Link::None => 0,
-        Link::Next(_, place) => place,
-    }
+    link.map_or(0, |follower| follower.at)
 }
 
 // A READ's data stand behind WordCount, 12 words and ByteCount.
@@ -51,13 +48,13 @@ const READ_DATA: usize = 27;
 // A core READ's data stand behind WordCount, 5 words, ByteCount, and the mark and length of its data block.
 const CORE_READ_DATA: usize = 16;
 
-// How long the block of an answer is.
-pub fn block_size(a: Answer) -> usize
-    requires { inside a ≡ true }
-    ensures { result ≡ answer_size a }
+// How long the block of a command done is.
+#[tactic(auto, unfolding(message::specs::Given::done_size))]
+fn done_size(a: Answer) -> usize
+    requires { bytes_inside a ≡ true }
+    ensures { result ≡ done_size a }
 {
     match a {
-        Answer::Refused(_) => 3,
         Answer::Locked => 7,
         Answer::LoggedOff => 7,
         Answer::Read(_, count) => READ_DATA + count,
@@ -69,17 +66,29 @@ pub fn block_size(a: Answer) -> usize
     }
 }
 
+// How long the block of an answer is.
+#[tactic(auto, unfolding(message::specs::Given::inside, message::specs::Given::answer_size))]
+pub fn block_size(answered: Result<Answer, Refusal>) -> usize
+    requires { inside answered ≡ true }
+    ensures { result ≡ answer_size answered }
+{
+    match answered {
+        Ok(a) => done_size(a),
+        Err(_) => 3,
+    }
+}
+
 // "A refused command or message gives WordCount 0 and ByteCount 0"; "Others: 0 words".
+#[tactic(auto, unfolding(message::specs::Reply::refused_block))]
 fn write_bare(room: &mut [u8])
     requires { 3 ≤ length room.old }
     ensures { room.new ≡ put room.old 0 refused_block }
 {
-    let bare = [0, 0, 0];
-    lay(&bare, room);
+    lay(&[0; 3], room);
 }
 
 // "LOCKING and LOGOFF: 2 words."
-fn write_linked(link: Link, room: &mut [u8])
+fn write_linked(link: Next, room: &mut [u8])
     requires { 7 ≤ length room.old }
     ensures { room.new ≡ put room.old 0 (2 ∷ (link_words link ++ (0 ∷ 0 ∷ []))) }
 {
@@ -90,7 +99,7 @@ fn write_linked(link: Link, room: &mut [u8])
 }
 
 // "WRITE: 6 words: AndX, count, 0xFFFF, four zero bytes."
-fn write_wrote(count: u16, link: Link, room: &mut [u8])
+fn write_wrote(count: u16, link: Next, room: &mut [u8])
     requires { 15 ≤ length room.old }
     ensures { room.new ≡ put room.old 0 (6 ∷ (link_words link ++ (two count ++ (two 0xFFFF ++ (replicate 4 0 ++ (0 ∷ 0 ∷ [])))))) }
 {
@@ -98,7 +107,7 @@ fn write_wrote(count: u16, link: Link, room: &mut [u8])
     let next = link_place(link);
     let p0 = low(next);
     let p1 = high(next);
-    let n = count as usize;
+    let n = usize::from(count);
     let n0 = low(n);
     let n1 = high(n);
     let written = [6, andx, 0, p0, p1, n0, n1, 0xff, 0xff, 0, 0, 0, 0, 0, 0];
@@ -106,7 +115,7 @@ fn write_wrote(count: u16, link: Link, room: &mut [u8])
 }
 
 // "READ: 12 words: AndX, 0xFFFF, 0, 0"
-fn write_read_start(link: Link, room: &mut [u8])
+fn write_read_start(link: Next, room: &mut [u8])
     requires { 11 ≤ length room.old }
     ensures { room.new ≡ put room.old 0 (read_start link) }
 {
@@ -134,7 +143,7 @@ fn write_extent(count: usize, place: usize, room: &mut [u8])
 }
 
 // "the bytes are the data", copied straight from the file memory.
-fn write_read(at: usize, count: usize, place: usize, link: Link, memory: &[u8], room: &mut [u8])
+fn write_read(at: usize, count: usize, place: usize, link: Next, memory: &[u8], room: &mut [u8])
     requires memory_len { length memory.now ≡ 65536 }
     requires count_bound { at + count ≤ 65536 }
     requires count_in_bounds { 27 + count ≤ length room.old }
@@ -179,13 +188,13 @@ fn write_core_wrote(count: u16, room: &mut [u8])
     requires { 5 ≤ length room.old }
     ensures { room.new ≡ put room.old 0 (1 ∷ (two count ++ (0 ∷ 0 ∷ []))) }
 {
-    let n = count as usize;
+    let n = usize::from(count);
     let written = [1, low(n), high(n), 0, 0];
     lay(&written, room);
 }
 
 // OPEN_ANDX (source document 001): 15 words: AndX, FID, six zero bytes.
-fn write_open_start(fid: u16, link: Link, room: &mut [u8])
+fn write_open_start(fid: u16, link: Next, room: &mut [u8])
     requires { 13 ≤ length room.old }
     ensures { room.new ≡ put room.old 0 (open_start fid link) }
 {
@@ -193,7 +202,7 @@ fn write_open_start(fid: u16, link: Link, room: &mut [u8])
     let next = link_place(link);
     let p0 = low(next);
     let p1 = high(next);
-    let n = fid as usize;
+    let n = usize::from(fid);
     let f0 = low(n);
     let f1 = high(n);
     let start = [15, andx, 0, p0, p1, f0, f1, 0, 0, 0, 0, 0, 0];
@@ -215,26 +224,24 @@ fn write_open_codes(size: usize, access: u8, results: u8, room: &mut [u8])
 }
 
 // Behind both six zero bytes, and ByteCount 0.
-fn write_opened(fid: u16, size: usize, access: u8, results: u8, link: Link, room: &mut [u8])
+fn write_opened(fid: u16, size: usize, access: u8, results: u8, link: Next, room: &mut [u8])
     requires { 33 ≤ length room.old }
     ensures { room.new ≡ put room.old 0 ((open_start fid link ++ open_codes size access results) ++ replicate 8 0) }
 {
     write_open_start(fid, link, room);
     write_open_codes(size, access, results, &mut room[13..]);
-    let zeros = [0, 0, 0, 0, 0, 0, 0, 0];
-    lay(&zeros, &mut room[25..]);
+    lay(&[0; 8], &mut room[25..]);
 }
 
-// The block of an answer, at the front of the room left for it.
-pub fn write_block(a: Answer, place: usize, link: Link, memory: &[u8], room: &mut [u8])
+// The block of a command done.
+fn write_done(a: Answer, place: usize, link: Next, memory: &[u8], room: &mut [u8])
     requires memory_len { length memory.now ≡ 65536 }
-    requires a_value { inside a ≡ true }
-    requires a_in_bounds { answer_size a ≤ length room.old }
+    requires a_value { bytes_inside a ≡ true }
+    requires a_in_bounds { done_size a ≤ length room.old }
     requires place_bound { place ≤ 12292 }
-    ensures { room.new ≡ put room.old 0 (block_of a memory.now place link) }
+    ensures { room.new ≡ put room.old 0 (reply_block (said_of a memory.now) place link) }
 {
     match a {
-        Answer::Refused(_) => write_bare(room),
         Answer::Locked => write_linked(link, room),
         Answer::LoggedOff => write_linked(link, room),
         Answer::Read(at, count) => write_read(at, count, place, link, memory, room),
@@ -245,5 +252,26 @@ pub fn write_block(a: Answer, place: usize, link: Link, memory: &[u8], room: &mu
         Answer::Opened(fid, size, access, results) => write_opened(
             fid, size, access, results, link, room,
         ),
+    }
+}
+
+// The block of an answer, at the front of the room left for it.
+#[tactic(auto, unfolding(message::specs::Given::inside, message::specs::Given::answer_size, message::specs::Given::block_of))]
+pub fn write_block(
+    answered: Result<Answer, Refusal>,
+    place: usize,
+    link: Next,
+    memory: &[u8],
+    room: &mut [u8],
+)
+    requires memory_len { length memory.now ≡ 65536 }
+    requires a_value { inside answered ≡ true }
+    requires a_in_bounds { answer_size answered ≤ length room.old }
+    requires place_bound { place ≤ 12292 }
+    ensures { room.new ≡ put room.old 0 (block_of answered memory.now place link) }
+{
+    match answered {
+        Ok(a) => write_done(a, place, link, memory, room),
+        Err(_) => write_bare(room),
     }
 }

@@ -20,6 +20,7 @@ fn reply_flags(flags: u8) -> u8
 }
 
 // Whether Flags2 bit 0x4000 is set in a request: bit 0x40 of the byte at 11.
+#[tactic(auto, unfolding(message::specs::Reply::nt_bit))]
 fn nt_asked(s: &[u8]) -> bool
     ensures { result ≡ nt_bit s.now }
 {
@@ -27,15 +28,15 @@ fn nt_asked(s: &[u8]) -> bool
 }
 
 // "With the bit set in a request, the reply .. carries" the NTSTATUS; else "SMBSTATUS is class, 0, code", as one number.
+#[tactic(auto, unfolding(message::specs::Reply::status_number, message::specs::Reply::smb_number))]
 fn status_number(s: &[u8], forms: Forms) -> u32
     ensures { result ≡ status_number s.now forms }
 {
     if nt_asked(s) {
-        return forms.nt;
+        forms.nt
+    } else {
+        u32::from(forms.status.class) + 65536 * u32::from(forms.status.code)
     }
-    let class = forms.status.class as u32;
-    let code = forms.status.code as u32;
-    class + 65536 * code
 }
 
 // "A reply copies Command"; Status, "little-endian".

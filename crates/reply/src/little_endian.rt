@@ -1,4 +1,5 @@
-// A number's two bytes ("little-endian").
+// A number's two bytes ("little-endian"). They are cut from a usize, of which a field may hold the lower half alone: `to_le_bytes` would give
+// eight bytes, and of a u16 it would ask for a bound first.
 
 ghost use Rattle.std.specs.Prelude.{◌≡◌, ◌/◌, ◌%◌};
 

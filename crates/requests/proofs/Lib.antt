@@ -1,1 +1,1 @@
-pub mod Unformed
+pub mod Raised

@@ -1,6 +1,6 @@
 -- Where a block's bytes and a write's data stand in the message: what the reader says of a block that it yields.
 -- Assumes nothing.
-use Rattle.std.specs.Prelude.{◌≡◌, ℕ, ◌+◌, ◌-◌, ◌*◌, ◌≤◌, min, Bool, true, false, ◌&&◌, ◌||◌, List, [], ◌∷◌, length, take, drop, ◌==◌, nat_le}
+use Rattle.std.specs.Prelude.{◌≡◌, ℕ, ◌+◌, ◌-◌, ◌*◌, ◌≤◌, min, Bool, true, false, ◌&&◌, ◌||◌, List, [], ◌∷◌, length, take, drop, ◌==◌, nat_le, Some as Whole, None as Malformed}
 use Rattle.std.proofs.Math.Path.{refl}
 use Rattle.std.proofs.Common.{ap, ◌∙◌, length-drop, take-take, drop-drop}
 use native.Mathlib.Omega.{arith}
@@ -13,10 +13,9 @@ use Rattle.chain.specs.ParseLaws.{shaped-words, locking-inside, write-inside, op
 use Rattle.locks.specs.Wire.{range_size}
 use Rattle.chain.specs.declared.block.Body.{Body}
 use Rattle.chain.specs.declared.block.Body.TheVariants.{Locking, Read, Write, Close, Logoff, TreeDisconnect, ProcessExit, CoreRead, CoreWrite, LockByteRange, UnlockByteRange, Open}
-use Rattle.chain.specs.declared.block.Next.{Next}
+use Rattle.chain.specs.Next.{Next}
 use Rattle.chain.specs.declared.block.Block.{Block}
 use Rattle.chain.specs.declared.block.WriteFields.{WriteFields}
-use Rattle.chain.specs.declared.block.Parsed.TheVariants.{Whole, Malformed}
 use Rattle.invariants.specs.BlockTests.{core-write-exact}
 use Rattle.message.specs.Command.{name_asked}
 use Rattle.message.specs.JustOpened.{body_meant}

@@ -1,13 +1,11 @@
 -- OPEN_ANDX in its parts: what an open by name says and adds, the file of a name, and the words of the opens with one more. Assumes nothing.
-use Rattle.std.specs.Prelude.{◌≡◌, ℕ, ◌+◌, ◌<◌, ◌≤◌, min, Bool, true, false, cond, List, [], ◌∷◌, ◌++◌, length, get_or, drop, nat_le, slice_index_or}
-use Rattle.std.specs.Prelude.{refl}
+use Rattle.std.specs.Prelude.{◌≡◌, ℕ, ◌+◌, ◌<◌, ◌≤◌, min, Bool, true, false, cond, List, [], ◌∷◌, ◌++◌, length, get_or, drop, nat_le, slice_index_or, refl, Some, Ok}
 use Rattle.std.proofs.Math.Path.{sym}
 use Rattle.std.proofs.Common.{ap, ◌∙◌, get_or-take, get_or-drop, leb-true}
 use native.Mathlib.Omega.{arith}
 use Rattle.std.proofs.Math.ListN.{length-take}
 use Rattle.lists.specs.Walk.{found}
 use Rattle.lists.specs.FoundLaws.{found_below}
-use Rattle.lists.specs.declared.Found.TheVariants.{At}
 use Rattle.records.specs.declared.Open.{Open}
 use Rattle.records.specs.declared.Tables.{Tables}
 use Rattle.records.specs.Empty.{no_open, no_name}
@@ -25,7 +23,7 @@ use Rattle.message.specs.declared.refusal.Refusal.TheVariants.{NoFids}
 use Rattle.message.specs.declared.answer.Answer.{Answer}
 use Rattle.message.specs.declared.answer.Answer.TheVariants.{Opened}
 use Rattle.message.specs.Command.{Given, refused, done, opened, opened_said}
-use Rattle.message.specs.Given.{given_of, inside}
+use Rattle.message.specs.Given.{said_of, bytes_inside, given_of}
 use Rattle.invariants.specs.Sound.{Good, named-file}
 
 -- ---- what is said
@@ -34,22 +32,26 @@ use Rattle.invariants.specs.Sound.{Good, named-file}
 unfoldable pub open_told : OpenFields → ℕ → ℕ → Answer
 open_told f fid size = cond f.full (Opened fid size f.access 1) (Opened fid 0 0 0)
 
-told-case : (full : Bool) (fid size access : ℕ) (t : Tables) (m : List ℕ)
-    → given_of (cond full (Opened fid size access 1) (Opened fid 0 0 0)) t m ≡ done t m (cond full (opened fid size access 1) (opened fid 0 0 0))
-unfolding given_of
-told-case true fid size access t m = refl
-told-case false fid size access t m = refl
+told-case : (full : Bool) (fid size access : ℕ) (m : List ℕ)
+    → said_of (cond full (Opened fid size access 1) (Opened fid 0 0 0)) m ≡ cond full (opened fid size access 1) (opened fid 0 0 0)
+unfolding said_of
+told-case true fid size access m = refl
+told-case false fid size access m = refl
 
-pub told-given : (f : OpenFields) (fid size : ℕ) (t : Tables) (m : List ℕ) → given_of (open_told f fid size) t m ≡ done t m (opened_said f.full fid size f.access)
+pub told-said : (f : OpenFields) (fid size : ℕ) (m : List ℕ) → said_of (open_told f fid size) m ≡ opened_said f.full fid size f.access
 unfolding open_told opened_said
-told-given f fid size t m = told-case f.full fid size f.access t m
+told-said f fid size m = told-case f.full fid size f.access m
 
-inside-case : (full : Bool) (fid size access : ℕ) → inside (cond full (Opened fid size access 1) (Opened fid 0 0 0)) ≡ true
-unfolding inside
+pub told-given : (f : OpenFields) (fid size : ℕ) (t : Tables) (m : List ℕ) → given_of (Ok (open_told f fid size)) t m ≡ done t m (opened_said f.full fid size f.access)
+unfolding given_of
+told-given f fid size t m = ap (done t m) (told-said f fid size m)
+
+inside-case : (full : Bool) (fid size access : ℕ) → bytes_inside (cond full (Opened fid size access 1) (Opened fid 0 0 0)) ≡ true
+unfolding bytes_inside
 inside-case true fid size access = refl
 inside-case false fid size access = refl
 
-pub told-inside : (f : OpenFields) (fid size : ℕ) → inside (open_told f fid size) ≡ true
+pub told-inside : (f : OpenFields) (fid size : ℕ) → bytes_inside (open_told f fid size) ≡ true
 unfolding open_told
 told-inside f fid size = inside-case f.full fid size f.access
 
@@ -83,7 +85,7 @@ opens-more w e full o long a = (
 
 -- ---- the file of a name
 
-module _ (w name : List ℕ) (k : ℕ) (e : found (is_named name) (names_in (part w 1380 225)) ≡ At k) where
+module _ (w name : List ℕ) (k : ℕ) (e : found (is_named name) (names_in (part w 1380 225)) ≡ Some k) where
   listed : k < length (names_in (part w 1380 225))
   listed = found_below (is_named name) (names_in (part w 1380 225)) k e
 

@@ -1,6 +1,6 @@
 -- Where the bytes that a read yields stand in the file memory: "It yields the file's bytes in the range below its size."
 -- Assumes nothing.
-use Rattle.std.specs.Prelude.{◌≡◌, ℕ, zero, suc, ◌+◌, ◌-◌, ◌*◌, ◌<◌, ◌≤◌, min, Bool, true, false, cond, List, [], ◌∷◌, length, take, drop, nat_le}
+use Rattle.std.specs.Prelude.{◌≡◌, ℕ, zero, suc, ◌+◌, ◌-◌, ◌*◌, ◌<◌, ◌≤◌, min, Bool, true, false, cond, List, [], ◌∷◌, length, take, drop, nat_le, Ok}
 use Rattle.std.proofs.Math.Path.{refl}
 use Rattle.std.proofs.Common.{sym, ap, arith, length-take, drop_of_length-le, take_all, take-take, drop-drop, leb-true, leb-false, le-leb}
 use Rattle.std.proofs.Math.Decide.{dec_le}
@@ -11,7 +11,7 @@ use Rattle.message.specs.declared.answer.Answer.{Answer}
 use Rattle.message.specs.declared.answer.Answer.TheVariants.{Read}
 use Rattle.message.specs.Contents.{size_of, contents, read_bytes}
 use Rattle.message.specs.Command.{done, read}
-use Rattle.message.specs.Given.{given_of, inside}
+use Rattle.message.specs.Given.{said_of, bytes_inside, given_of}
 use Rattle.invariants.specs.Sound.{Good, size-most}
 
 unfoldable pub read_part : Tables → ℕ → ℕ → ℕ → Answer
@@ -35,20 +35,20 @@ take_min a b l =
           rw e (take_all a (take b l) short)
     ]
 
--- the bytes there are those that the read yields, whatever tables it leaves
-part-reads : (b : Bool) (t u : Tables) (m : List ℕ) (file offset most : ℕ) → nat_le (size_of t file) offset ≡ b
-    → given_of (cond b (Read 0 0) (Read (file * 4096 + offset) (min most (size_of t file - offset)))) u m ≡ done u m (read (read_bytes t m file offset most))
-unfolding given_of read_bytes contents
-part-reads true t u m file offset most e =
+-- the bytes there are those that the read yields
+part-reads : (b : Bool) (t : Tables) (m : List ℕ) (file offset most : ℕ) → nat_le (size_of t file) offset ≡ b
+    → said_of (cond b (Read 0 0) (Read (file * 4096 + offset) (min most (size_of t file - offset)))) m ≡ read (read_bytes t m file offset most)
+unfolding said_of read_bytes contents
+part-reads true t m file offset most e =
     let past : size_of t file ≤ offset = leb-true (size_of t file) offset e in
     let short : length (take (size_of t file) (drop (file * 4096) m)) ≤ offset = rw length-take (omega arith) in
     rw (drop_of_length-le (take (size_of t file) (drop (file * 4096) m)) short, take-nil most)
-part-reads false t u m file offset most e =
+part-reads false t m file offset most e =
     rw (drop-take offset (size_of t file) (drop (file * 4096) m), drop-drop offset (file * 4096) m, take_min most (size_of t file - offset) (drop (file * 4096 + offset) m))
 
 part-inside : (b : Bool) (t : Tables) (file offset most : ℕ) → Good t → file ≤ 15 → nat_le (size_of t file) offset ≡ b
-    → inside (cond b (Read 0 0) (Read (file * 4096 + offset) (min most (size_of t file - offset)))) ≡ true
-unfolding inside
+    → bytes_inside (cond b (Read 0 0) (Read (file * 4096 + offset) (min most (size_of t file - offset)))) ≡ true
+unfolding bytes_inside
 part-inside true t file offset most g h e = refl
 part-inside false t file offset most g h e =
     let low : offset < size_of t file = leb-false (size_of t file) offset e in
@@ -56,10 +56,14 @@ part-inside false t file offset most g h e =
     le-leb (file * 4096 + offset + min most (size_of t file - offset)) 65536 (omega arith)
 
 module _ (t : Tables) (file offset most : ℕ) where
-  pub part-given : (u : Tables) (m : List ℕ) → given_of (read_part t file offset most) u m ≡ done u m (read (read_bytes t m file offset most))
+  pub part-said : (m : List ℕ) → said_of (read_part t file offset most) m ≡ read (read_bytes t m file offset most)
   unfolding read_part
-  part-given u m = part-reads (nat_le (size_of t file) offset) t u m file offset most refl
+  part-said m = part-reads (nat_le (size_of t file) offset) t m file offset most refl
 
-  pub part-within : Good t → file ≤ 15 → inside (read_part t file offset most) ≡ true
+  pub part-given : (u : Tables) (m : List ℕ) → given_of (Ok (read_part t file offset most)) u m ≡ done u m (read (read_bytes t m file offset most))
+  unfolding given_of
+  part-given u m = ap (done u m) (part-said m)
+
+  pub part-within : Good t → file ≤ 15 → bytes_inside (read_part t file offset most) ≡ true
   unfolding read_part
   part-within g h = part-inside (nat_le (size_of t file) offset) t file offset most g h refl

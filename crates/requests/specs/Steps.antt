@@ -1,7 +1,6 @@
 -- What LOCKING, READ, WRITE and a core WRITE of count 0 do once it is known who asks: the parts of message/specs/Command.antt's definitions, and that these
 -- are those. Assumes nothing.
-use Rattle.std.specs.Prelude.{◌≡◌, ℕ, cond, List, ◌==◌, nat_lt}
-use Rattle.std.specs.Prelude.{refl}
+use Rattle.std.specs.Prelude.{◌≡◌, ℕ, cond, List, ◌==◌, nat_lt, refl}
 use Rattle.std.proofs.Common.{ap, ◌∙◌}
 use Rattle.records.specs.declared.Open.{Open}
 use Rattle.records.specs.declared.Tables.{Tables}

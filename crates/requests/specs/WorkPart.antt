@@ -1,5 +1,5 @@
 -- What a block asks for, and that this is what its command does. Assumes nothing.
-use Rattle.std.specs.Prelude.{◌≡◌, ℕ, ◌+◌, ◌≤◌, Bool, true, false, cond, List, length, take, drop, ◌==◌}
+use Rattle.std.specs.Prelude.{◌≡◌, ℕ, ◌+◌, ◌≤◌, Bool, true, false, cond, List, length, take, drop, ◌==◌, Some as Whole}
 use Rattle.std.proofs.Math.Path.{refl}
 use Rattle.std.proofs.Common.{arith}
 use Rattle.records.specs.declared.Tables.{Tables}
@@ -11,7 +11,6 @@ use Rattle.chain.specs.declared.block.OpenFields.{OpenFields}
 use Rattle.chain.specs.declared.block.Body.{Body}
 use Rattle.chain.specs.declared.block.Body.TheVariants.{Locking as LockingBody, Read as ReadBody, Write as WriteBody, Close as CloseBody, Logoff as LogoffBody, TreeDisconnect as DisconnectBody, ProcessExit as ExitBody, CoreRead, CoreWrite, LockByteRange, UnlockByteRange, Open as OpenBody}
 use Rattle.chain.specs.declared.block.Block.{Block}
-use Rattle.chain.specs.declared.block.Parsed.TheVariants.{Whole}
 use Rattle.message.specs.declared.caller.Caller.{Caller}
 use Rattle.message.specs.Command.{Given, do_locking, do_read, do_write, do_set_size, do_range, do_core_write, name_asked, do_open, perform}
 use Rattle.message.specs.JustOpened.{fid_meant, body_meant}

@@ -8,7 +8,7 @@ ghost use Rattle.message.specs.Command.{perform};
 ghost use Rattle.invariants.specs.Sound.{Good};
 ghost use Rattle.requests.specs.Leaves.{Leaves, performed};
 
-use crate::who::{NamedOpen, reach_open, session_named, tree_named};
+use crate::who::{reach_open, reach_session, reach_tree};
 use message::answer::Answer;
 use message::caller::Caller;
 use message::refusal::Refusal;
@@ -16,63 +16,49 @@ use removal::Gone;
 use removal::sweep::remove_named;
 
 // "CLOSE removes the open and its locks."
-pub(crate) fn do_close(c: Caller, words: &mut [u64], fid: u16) -> Answer
+pub(crate) fn do_close(c: Caller, words: &mut [u64], fid: u16) -> Result<Answer, Refusal>
     requires words_len { length words.old ≡ 1605 }
     requires good { Good (tables_of words.old) }
     ensures leaves { Leaves (λ m. perform c (tables_of words.old) m (Close fid) [] []) (tables_of words.old) (performed result (tables_of words.new)) }
     ensures words_after { in_use_fit words.old ≡ true → in_use_fit words.new ≡ true }
 {
-    let at = reach_open(c, words, fid);
-    match at {
-        NamedOpen::Open(_, _) => {
-            remove_named(words, Gone::Open(fid));
-            Answer::Plain
-        }
-        NamedOpen::Refused(why) => Answer::Refused(why),
-    }
+    reach_open(c, words, fid)?;
+    remove_named(words, Gone::Open(fid));
+    Ok(Answer::Plain)
 }
 
 // "LOGOFF the session and its trees".
-pub(crate) fn do_logoff(c: Caller, words: &mut [u64]) -> Answer
+pub(crate) fn do_logoff(c: Caller, words: &mut [u64]) -> Result<Answer, Refusal>
     requires words_len { length words.old ≡ 1605 }
     requires good { Good (tables_of words.old) }
     ensures leaves { Leaves (λ m. perform c (tables_of words.old) m Logoff [] []) (tables_of words.old) (performed result (tables_of words.new)) }
     ensures words_after { in_use_fit words.old ≡ true → in_use_fit words.new ≡ true }
 {
-    if !session_named(c, &words[0..33]) {
-        return Answer::Refused(Refusal::NoSession);
-    }
+    reach_session(c, words)?;
     remove_named(words, Gone::Session(c.uid));
-    Answer::LoggedOff
+    Ok(Answer::LoggedOff)
 }
 
 // "TREE_DISCONNECT removes the tree and its opens".
-pub(crate) fn do_disconnect(c: Caller, words: &mut [u64]) -> Answer
+pub(crate) fn do_disconnect(c: Caller, words: &mut [u64]) -> Result<Answer, Refusal>
     requires words_len { length words.old ≡ 1605 }
     requires good { Good (tables_of words.old) }
     ensures leaves { Leaves (λ m. perform c (tables_of words.old) m TreeDisconnect [] []) (tables_of words.old) (performed result (tables_of words.new)) }
     ensures words_after { in_use_fit words.old ≡ true → in_use_fit words.new ≡ true }
 {
-    if !session_named(c, &words[0..33]) {
-        return Answer::Refused(Refusal::NoSession);
-    }
-    if !tree_named(c, &words[33..130]) {
-        return Answer::Refused(Refusal::NoTree);
-    }
+    reach_tree(c, words)?;
     remove_named(words, Gone::Tree(c.tid));
-    Answer::Plain
+    Ok(Answer::Plain)
 }
 
 // "PROCESS_EXIT the opens of that UID and process".
-pub(crate) fn do_exit(c: Caller, words: &mut [u64]) -> Answer
+pub(crate) fn do_exit(c: Caller, words: &mut [u64]) -> Result<Answer, Refusal>
     requires words_len { length words.old ≡ 1605 }
     requires good { Good (tables_of words.old) }
     ensures leaves { Leaves (λ m. perform c (tables_of words.old) m ProcessExit [] []) (tables_of words.old) (performed result (tables_of words.new)) }
     ensures words_after { in_use_fit words.old ≡ true → in_use_fit words.new ≡ true }
 {
-    if !session_named(c, &words[0..33]) {
-        return Answer::Refused(Refusal::NoSession);
-    }
+    reach_session(c, words)?;
     remove_named(words, Gone::Process(c.uid, c.process));
-    Answer::Plain
+    Ok(Answer::Plain)
 }

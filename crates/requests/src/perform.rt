@@ -1,10 +1,9 @@
 // One block of a chain carried out.
 
-ghost use Rattle.std.specs.Prelude.{◌≡◌, ◌+◌, ◌≤◌, true, length, take, drop};
+ghost use Rattle.std.specs.Prelude.{◌≡◌, ◌+◌, ◌≤◌, true, length, take, drop, Some as Whole};
 ghost use Rattle.tables.specs.Words.{tables_of, in_use_fit};
 ghost use Rattle.chain.specs.Layout.{byte_area, byte_count};
 ghost use Rattle.chain.specs.Parse.{parse};
-ghost use Rattle.chain.specs.declared.block.Parsed.TheVariants.{Whole};
 ghost use Rattle.message.specs.Command.{do_locking, do_write, name_asked, do_open, perform};
 ghost use Rattle.message.specs.Given.{Gives};
 ghost use Rattle.message.specs.JustOpened.{body_meant};
@@ -25,6 +24,7 @@ use crate::writing::do_write;
 use chain::block::{Block, LockingFields, OpenFields, WriteFields};
 use message::answer::Answer;
 use message::caller::Caller;
+use message::refusal::Refusal;
 
 // A LOCKING block has 8 words: its bytes start 3 + 2 * 8 places behind its own start.
 const AREA: usize = 19;
@@ -37,7 +37,7 @@ fn locking_block(
     s: &[u8],
     at: usize,
     size: usize,
-) -> Answer
+) -> Result<Answer, Refusal>
     requires words_len { length words.old ≡ 1605 }
     requires good { Good (tables_of words.old) }
     requires locking_part { LockingPart s.now at size }
@@ -60,7 +60,7 @@ fn opening_block(
     s: &[u8],
     at: usize,
     size: usize,
-) -> Answer
+) -> Result<Answer, Refusal>
     requires words_len { length words.old ≡ 1605 }
     requires good { Good (tables_of words.old) }
     requires opening_part { OpeningPart s.now at size }
@@ -80,7 +80,7 @@ fn writing_block(
     s: &[u8],
     memory: &mut [u8],
     core: bool,
-) -> Answer
+) -> Result<Answer, Refusal>
     requires words_len { length words.old ≡ 1605 }
     requires good { Good (tables_of words.old) }
     requires memory_len { length memory.old ≡ 65536 }
@@ -90,7 +90,8 @@ fn writing_block(
 {
     let from = f.from;
     let to = from + f.count as usize;
-    in_form(core, do_write(c, words, f, &s[from..to], memory))
+    let answer = do_write(c, words, f, &s[from..to], memory)?;
+    Ok(in_form(core, answer))
 }
 
 // The block `b` of the message `s`; `just` is what FID 0xFFFF means in it (document 02, CR 6).
@@ -101,7 +102,7 @@ pub fn perform_block(
     b: Block,
     just: u16,
     memory: &mut [u8],
-) -> Answer
+) -> Result<Answer, Refusal>
     requires words_len { length words.old ≡ 1605 }
     requires good { Good (tables_of words.old) }
     requires memory_len { length memory.old ≡ 65536 }
@@ -109,10 +110,11 @@ pub fn perform_block(
     ensures gives { Gives (perform c (tables_of words.old) memory.old (body_meant just b.body) (area_of s.now b) (data_of s.now b)) (tables_of words.old) memory.old (performed result (tables_of words.new)) memory.new }
     ensures words_after { in_use_fit words.old ≡ true → in_use_fit words.new ≡ true }
 {
-    let body = b.body;
-    let work = work_of(just, body);
-    match work {
-        Work::Read(f, core) => in_form(core, do_read(c, words, f)),
+    match work_of(just, b.body) {
+        Work::Read(f, core) => {
+            let answer = do_read(c, words, f)?;
+            Ok(in_form(core, answer))
+        }
         Work::Write(f, core) => writing_block(c, words, f, s, memory, core),
         Work::Locking(f) => locking_block(c, words, f, s, b.at, b.length),
         Work::Close(fid) => do_close(c, words, fid),

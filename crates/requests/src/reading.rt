@@ -11,20 +11,19 @@ ghost use Rattle.requests.specs.Reach.{Stands};
 ghost use Rattle.requests.specs.ReadPart.{read_part};
 ghost use Rattle.requests.specs.Steps.{read_open};
 
-use crate::barred::{ask_of, file_size, first_bar, refuse_for};
-use crate::who::{NamedOpen, reach_open};
+use crate::barred::{ask_of, file_size, pass_locks};
+use crate::who::reach_open;
 use chain::block::ReadFields;
-use lists::Found;
 use locks::types::Purpose;
 use message::answer::Answer;
 use message::caller::Caller;
 use message::refusal::Refusal;
-use numbers::number::at_most;
 use records::Open;
 use tables::file::changes_at;
 use tables::open::put_open;
 
 // "It yields the file's bytes in the range below its size": where they stand in the file memory, and how many.
+#[tactic(auto, unfolding(crate::specs::ReadPart::read_part))]
 fn read_part(words: &[u64], file: u8, offset: u64, max: u16) -> Answer
     requires words_len { length words.now ≡ 1605 }
     requires good { Good (tables_of words.now) }
@@ -38,7 +37,7 @@ fn read_part(words: &[u64], file: u8, offset: u64, max: u16) -> Answer
     }
     let start = file as usize * 4096;
     let place = start + at;
-    let count = at_most(max as usize, size - at);
+    let count = (max as usize).min(size - at);
     Answer::Read(place, count)
 }
 
@@ -52,21 +51,21 @@ fn remember(words: &mut [u64], o: Open, place: usize)
 {
     let seen = changes_at(&words[1348..1380], o.file as usize);
     let noted = Open {
-        fid: o.fid,
-        uid: o.uid,
-        tid: o.tid,
-        process: o.process,
-        file: o.file,
-        access: o.access,
-        sharing: o.sharing,
         read: true,
         seen,
+        ..o
     };
     put_open(&mut words[130..707], place, noted);
 }
 
 // A read on an open that the caller may use: "1/5 is a read on access 1", then 1/33.
-fn read_open(c: Caller, words: &mut [u64], f: ReadFields, o: Open, place: usize) -> Answer
+fn read_open(
+    c: Caller,
+    words: &mut [u64],
+    f: ReadFields,
+    o: Open,
+    place: usize,
+) -> Result<Answer, Refusal>
     requires words_len { length words.old ≡ 1605 }
     requires good { Good (tables_of words.old) }
     requires stands { Stands (tables_of words.old) f.fid o place }
@@ -74,30 +73,22 @@ fn read_open(c: Caller, words: &mut [u64], f: ReadFields, o: Open, place: usize)
     ensures words_after { in_use_fit words.old ≡ true → in_use_fit words.new ≡ true }
 {
     if o.access == 1 {
-        return Answer::Refused(Refusal::NoAccess);
+        return Err(Refusal::NoAccess);
     }
     let q = ask_of(c, f.fid, f.offset, f.max as u64, Purpose::Read);
-    let bar = first_bar(words, q);
-    match bar {
-        Found::At(k) => refuse_for(words, k),
-        Found::Nothing => {
-            let answer = read_part(words, o.file, f.offset, f.max);
-            remember(words, o, place);
-            answer
-        }
-    }
+    pass_locks(words, q)?;
+    let answer = read_part(words, o.file, f.offset, f.max);
+    remember(words, o, place);
+    Ok(answer)
 }
 
 // A READ block.
-pub(crate) fn do_read(c: Caller, words: &mut [u64], f: ReadFields) -> Answer
+pub(crate) fn do_read(c: Caller, words: &mut [u64], f: ReadFields) -> Result<Answer, Refusal>
     requires words_len { length words.old ≡ 1605 }
     requires good { Good (tables_of words.old) }
     ensures leaves { Leaves (λ m. do_read c (tables_of words.old) m f) (tables_of words.old) (performed result (tables_of words.new)) }
     ensures words_after { in_use_fit words.old ≡ true → in_use_fit words.new ≡ true }
 {
-    let at = reach_open(c, words, f.fid);
-    match at {
-        NamedOpen::Open(o, place) => read_open(c, words, f, o, place),
-        NamedOpen::Refused(why) => Answer::Refused(why),
-    }
+    let (o, place) = reach_open(c, words, f.fid)?;
+    read_open(c, words, f, o, place)
 }

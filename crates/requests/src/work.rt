@@ -23,30 +23,30 @@ pub(crate) enum Work {
 }
 
 // "A core WRITE of count 0 sets the file's size to the offset".
+#[tactic(auto, unfolding(crate::specs::WorkPart::core_work))]
 fn core_work(f: WriteFields) -> Work
     ensures { result ≡ core_work f }
 {
     if f.count == 0 {
-        return Work::SetSize(f);
+        Work::SetSize(f)
+    } else {
+        Work::Write(f, true)
     }
-    Work::Write(f, true)
 }
 
 // What a READ asks for where FID 0xFFFF means `just`, "the file just opened".
+#[tactic(auto, unfolding(crate::specs::WorkPart::read_meant, message::specs::JustOpened::fid_meant))]
 fn read_meant(just: u16, f: ReadFields) -> ReadFields
     ensures { result ≡ read_meant just f }
 {
     if f.fid != 0xffff {
         return f;
     }
-    ReadFields {
-        fid: just,
-        offset: f.offset,
-        max: f.max,
-    }
+    ReadFields { fid: just, ..f }
 }
 
 // LOCK_BYTE_RANGE locks one range, and UNLOCK_BYTE_RANGE unlocks one.
+#[tactic(auto, unfolding(crate::specs::WorkPart::work_of, crate::specs::WorkPart::read_meant, message::specs::JustOpened::body_meant))]
 pub(crate) fn work_of(just: u16, body: Body) -> Work
     ensures { result ≡ work_of (body_meant just body) }
 {

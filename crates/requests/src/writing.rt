@@ -11,17 +11,16 @@ ghost use Rattle.invariants.specs.Sound.{Good};
 ghost use Rattle.requests.specs.Leaves.{performed};
 ghost use Rattle.requests.specs.Steps.{write_open, write_free};
 
-use crate::barred::{ask_of, file_size, first_bar, refuse_for};
-use crate::who::{NamedOpen, reach_open};
+use crate::barred::{ask_of, file_size, pass_locks};
+use crate::who::reach_open;
 use chain::block::WriteFields;
-use lists::Found;
 use locks::types::Purpose;
 use message::answer::Answer;
 use message::caller::Caller;
 use message::refusal::Refusal;
 use records::Open;
 use tables::file::put_change;
-use wire::fill::{clear, lay};
+use wire::fill::lay;
 
 // "write would end past 4,096", and "Length 0 writes nothing .. and is done at any offset".
 fn ends_past(offset: u64, count: u16) -> bool
@@ -41,10 +40,9 @@ fn clear_gap(room: &mut [u8], from: usize, to: usize)
     requires { to ≤ length room.old }
     ensures { room.new ≡ put room.old from (replicate (to - from) 0) }
 {
-    if to <= from {
-        return;
+    if from < to {
+        room[from..to].fill(0);
     }
-    clear(&mut room[from..to]);
 }
 
 // Zeros from the file's size up to a place in it, where that lies further on.
@@ -77,13 +75,6 @@ fn write_bytes(words: &[u64], file: u8, offset: usize, source: &[u8], memory: &m
     lay(source, &mut memory[at..]);
 }
 
-// The larger of two numbers.
-fn larger(a: usize, b: usize) -> usize
-    ensures { result ≡ max a b }
-{
-    if a < b { b } else { a }
-}
-
 // A file changed: its size set, its change number raised (document 02, CR 8).
 pub(crate) fn change_file(words: &mut [u64], file: u8, size: usize)
     requires words_len { length words.old ≡ 1605 }
@@ -102,7 +93,7 @@ fn raise_size(words: &mut [u64], file: u8, end: usize)
     ensures words_after { tables_of words.new ≡ with_change (tables_of words.old) file (max (size_of (tables_of words.old) file) end) }
     ensures words_after_2 { in_use_fit words.old ≡ true → in_use_fit words.new ≡ true }
 {
-    let size = larger(file_size(words, file), end);
+    let size = file_size(words, file).max(end);
     change_file(words, file, size);
 }
 
@@ -113,7 +104,7 @@ fn write_free(
     file: u8,
     source: &[u8],
     memory: &mut [u8],
-) -> Answer
+) -> Result<Answer, Refusal>
     requires words_len { length words.old ≡ 1605 }
     requires good { Good (tables_of words.old) }
     requires file_bound { file ≤ 15 }
@@ -123,15 +114,15 @@ fn write_free(
     ensures words_after { in_use_fit words.old ≡ true → in_use_fit words.new ≡ true }
 {
     if ends_past(f.offset, f.count) {
-        return Answer::Refused(Refusal::NoSpace);
+        return Err(Refusal::NoSpace);
     }
     if f.count == 0 {
-        return Answer::Wrote(0);
+        return Ok(Answer::Wrote(0));
     }
     let at = f.offset as usize;
     write_bytes(words, file, at, source, memory);
     raise_size(words, file, at + f.count as usize);
-    Answer::Wrote(f.count)
+    Ok(Answer::Wrote(f.count))
 }
 
 // A write on an open that the caller may use: "or a write on access 0", then 1/33.
@@ -142,7 +133,7 @@ fn write_open(
     o: Open,
     source: &[u8],
     memory: &mut [u8],
-) -> Answer
+) -> Result<Answer, Refusal>
     requires words_len { length words.old ≡ 1605 }
     requires good { Good (tables_of words.old) }
     requires file_bound { o.file ≤ 15 }
@@ -152,14 +143,11 @@ fn write_open(
     ensures words_after { in_use_fit words.old ≡ true → in_use_fit words.new ≡ true }
 {
     if o.access == 0 {
-        return Answer::Refused(Refusal::NoAccess);
+        return Err(Refusal::NoAccess);
     }
     let q = ask_of(c, f.fid, f.offset, f.count as u64, Purpose::Write);
-    let bar = first_bar(words, q);
-    match bar {
-        Found::At(place) => refuse_for(words, place),
-        Found::Nothing => write_free(words, f, o.file, source, memory),
-    }
+    pass_locks(words, q)?;
+    write_free(words, f, o.file, source, memory)
 }
 
 // A WRITE block, and its data.
@@ -169,7 +157,7 @@ pub(crate) fn do_write(
     f: WriteFields,
     source: &[u8],
     memory: &mut [u8],
-) -> Answer
+) -> Result<Answer, Refusal>
     requires words_len { length words.old ≡ 1605 }
     requires good { Good (tables_of words.old) }
     requires memory_len { length memory.old ≡ 65536 }
@@ -177,9 +165,6 @@ pub(crate) fn do_write(
     ensures gives { Gives (do_write c (tables_of words.old) memory.old f source.now) (tables_of words.old) memory.old (performed result (tables_of words.new)) memory.new }
     ensures words_after { in_use_fit words.old ≡ true → in_use_fit words.new ≡ true }
 {
-    let at = reach_open(c, words, f.fid);
-    match at {
-        NamedOpen::Open(o, _) => write_open(c, words, f, o, source, memory),
-        NamedOpen::Refused(why) => Answer::Refused(why),
-    }
+    let (o, _) = reach_open(c, words, f.fid)?;
+    write_open(c, words, f, o, source, memory)
 }

@@ -1,2 +1,0 @@
-pub mod Unrefused
-pub mod Unopened

@@ -1,6 +1,6 @@
 -- The loop over a chain: how far it is, and what a turn does. Assumes nothing.
 use Rattle.std.proofs.Math.Path.{◌≡◌, sym, ap}
-use Rattle.std.specs.Prelude.{refl, ℕ, ◌+◌, ◌≤◌, true, take, drop}
+use Rattle.std.specs.Prelude.{refl, ℕ, ◌+◌, ◌≤◌, true, take, drop, Ok, Err, None as End, Some as Whole, None as Nobody}
 use Rattle.std.proofs.Common.{◌∙◌, arith}
 use mathlib.Core.List.{List, [], ◌∷◌, ◌++◌, append_assoc, append-nil}
 use Rattle.std.proofs.Math.ListN.{length, length-append}
@@ -8,32 +8,27 @@ use Rattle.lists.specs.Put.{put}
 use Rattle.lists.specs.PutLaws.{put-nothing, put_then, length-put}
 use Rattle.records.specs.declared.Tables.{Tables}
 use Rattle.chain.specs.Parse.{parse}
-use Rattle.chain.specs.declared.block.Next.{Next}
-use Rattle.chain.specs.declared.block.Next.TheVariants.{End, Follow}
+use Rattle.chain.specs.Next.{Next, Follow, same-command, same-place}
 use Rattle.chain.specs.declared.block.Block.{Block}
-use Rattle.chain.specs.declared.block.Parsed.TheVariants.{Whole}
 use Rattle.invariants.specs.BlockParse.{block_at, parse-complete}
 use Rattle.invariants.specs.Chained.{Chained, chained-end, chained_more}
 use Rattle.message.specs.declared.caller.Caller.{Caller}
 use Rattle.message.specs.declared.refusal.Forms.{Forms}
 use Rattle.message.specs.Refusal.{success, forms_of, holder_of}
-use Rattle.message.specs.declared.refusal.HeldBy.{HeldBy}
-use Rattle.message.specs.declared.refusal.HeldBy.TheVariants.{Nobody}
+use Rattle.message.specs.HeldBy.{HeldBy}
 use Rattle.message.specs.declared.refusal.Refusal.{Refusal}
 use Rattle.message.specs.Command.{Said, locked, logged_off, read, wrote, plain, core_read, core_wrote, opened, Given, refused, done, perform}
-use Rattle.message.specs.declared.link.Link.{Link}
-use Rattle.message.specs.declared.link.Link.TheVariants.{Next as next}
 use Rattle.message.specs.Reply.{reply_block, refused_block, reply_size}
 use Rattle.message.specs.JustOpened.{NOBODY, opened_by, body_meant}
 use Rattle.message.specs.Message.{area_of, data_of, Ran, after, link_to, after_given, run}
-use Rattle.message.specs.Given.{given_of, inside, tables_after, memory_after, block_of, answer_size}
+use Rattle.message.specs.Given.{Answered, said_of, given_of, inside, tables_after, memory_after, block_of, answer_size}
 use Rattle.message.specs.declared.answer.Answer.{Answer}
-use Rattle.message.specs.declared.answer.Answer.TheVariants.{Refused, Locked, LoggedOff, Read, Wrote, Plain, CoreRead, CoreWrote, Opened}
+use Rattle.message.specs.declared.answer.Answer.TheVariants.{Locked, LoggedOff, Read, Wrote, Plain, CoreRead, CoreWrote, Opened}
 use Rattle.invariants.specs.Sound.{Good, keeps-good, perform-keeps}
 use Rattle.invariants.specs.ReplySize.{length-block}
 use Rattle.reply.specs.Links.{link_for}
-use Rattle.reply.specs.BlockLaws.{length-yielded, read-inside, core-inside}
-use Rattle.server.specs.Step.{forms_after, holder_left, goes_on, just_opened}
+use Rattle.reply.specs.BlockLaws.{length-said}
+use Rattle.server.specs.Step.{forms_after, holder_left, goes_on, fid_opened, just_opened}
 
 -- ---- a chain at its first block
 
@@ -47,7 +42,7 @@ pub record Head (s : List ℕ) (command at : ℕ) (bs : List Block) (b : Block) 
   pub follows : (c a : ℕ) → b.next ≡ Follow c a → Chained s c a behind
   pub link : (place : ℕ) → link_to behind place ≡ link_for b.next place
 
-chained-link : {s : List ℕ} {c a : ℕ} {bs : List Block} → Chained s c a bs → (place : ℕ) → link_to bs place ≡ next c place
+chained-link : {s : List ℕ} {c a : ℕ} {bs : List Block} → Chained s c a bs → (place : ℕ) → link_to bs place ≡ Follow c place
 unfolding link_to block_at
 chained-link (chained-end h l) place = refl
 chained-link (chained_more h l r) place = refl
@@ -73,17 +68,29 @@ head {s} (chained_more {command} {at} {c = c'} {a = a'} {rest} h l r) b e =
       stands = refl;
       same = refl;
       ends = λ q. let z : ◌≡◌ {A = ℕ} 0 1 = cc in absurd (omega arith);
-      follows = λ c a q. let x : c' ≡ c = cc in let y : a' ≡ a = cc in rw (← x, ← y) r;
+      follows = λ c a q. rw (← (same-command q), ← (same-place q)) r;
       link = λ place. chained-link r place;
     })
 
 -- ---- an answer, as what the definition says of it
 
+-- an OPEN_ANDX alone says that a file was opened
+said-opens : (x : Answer) (memory : List ℕ) → fid_opened x ≡ opened_by (said_of x memory)
+unfolding fid_opened opened_by said_of
+said-opens Locked memory = refl
+said-opens LoggedOff memory = refl
+said-opens (Read place count) memory = refl
+said-opens (Wrote count) memory = refl
+said-opens Plain memory = refl
+said-opens (CoreRead place count) memory = refl
+said-opens (CoreWrote count) memory = refl
+said-opens (Opened fid size access results) memory = refl
+
 -- what an answer that is no refusal says
-record Says (a : Answer) (memory : List ℕ) : Type 0 where
+record Says (a : Answered) (memory : List ℕ) : Type 0 where
   pub said : Said
   pub given : (t : Tables) → given_of a t memory ≡ done t memory said
-  pub block : (place : ℕ) (link : Link) → block_of a memory place link ≡ reply_block said place link
+  pub block : (place : ℕ) (link : Next) → block_of a memory place link ≡ reply_block said place link
   pub size : answer_size a ≡ reply_size said
   pub forms-is : forms_after a ≡ success
   pub nobody : holder_left a ≡ Nobody
@@ -178,50 +185,23 @@ finished-length {first} {whole} f enough = ap length f.room-is ∙ length-put fi
 -- ---- a turn of the loop: the head block is parsed, performed, and its reply block written
 
 -- a refusal, or what is said
-data Kind (a : Answer) (memory : List ℕ) : Type 0 where
-  was-refused : (why : Refusal) → a ≡ Refused why → Kind a memory
+data Kind (a : Answered) (memory : List ℕ) : Type 0 where
+  was-refused : (why : Refusal) → a ≡ Err why → Kind a memory
   was-done : Says a memory → Kind a memory
 
-kind : (a : Answer) (memory : List ℕ) → inside a ≡ true → length memory ≡ 65536 → Kind a memory
-unfolding given_of block_of answer_size reply_size forms_after holder_left goes_on just_opened opened_by inside
-kind (Refused why) memory i m = was-refused why refl
-kind Locked memory i m = was-done (record { said = locked; given = λ t. refl; block = λ p l. refl; size = refl; forms-is = refl; nobody = refl; next-is = λ n. refl; opens = refl })
-kind LoggedOff memory i m = was-done (record { said = logged_off; given = λ t. refl; block = λ p l. refl; size = refl; forms-is = refl; nobody = refl; next-is = λ n. refl; opens = refl })
-kind (Read place count) memory i m =
+kind : (a : Answered) (memory : List ℕ) → inside a ≡ true → length memory ≡ 65536 → Kind a memory
+unfolding given_of block_of answer_size forms_after holder_left goes_on just_opened inside
+kind (Err why) memory i m = was-refused why refl
+kind (Ok x) memory i m =
     was-done (record {
-      said = read (take count (drop place memory));
+      said = said_of x memory;
       given = λ t. refl;
       block = λ p l. refl;
-      size = ap (λ (n : ℕ). 27 + n) (sym (length-yielded memory place count (let h = read-inside (Read place count) place count refl i in omega arith)));
+      size = sym (length-said x memory i m);
       forms-is = refl;
       nobody = refl;
       next-is = λ n. refl;
-      opens = refl;
-    })
-kind (Wrote count) memory i m = was-done (record { said = wrote count; given = λ t. refl; block = λ p l. refl; size = refl; forms-is = refl; nobody = refl; next-is = λ n. refl; opens = refl })
-kind Plain memory i m = was-done (record { said = plain; given = λ t. refl; block = λ p l. refl; size = refl; forms-is = refl; nobody = refl; next-is = λ n. refl; opens = refl })
-kind (CoreRead place count) memory i m =
-    was-done (record {
-      said = core_read (take count (drop place memory));
-      given = λ t. refl;
-      block = λ p l. refl;
-      size = ap (λ (n : ℕ). 16 + n) (sym (length-yielded memory place count (let h = core-inside (CoreRead place count) place count refl i in omega arith)));
-      forms-is = refl;
-      nobody = refl;
-      next-is = λ n. refl;
-      opens = refl;
-    })
-kind (CoreWrote count) memory i m = was-done (record { said = core_wrote count; given = λ t. refl; block = λ p l. refl; size = refl; forms-is = refl; nobody = refl; next-is = λ n. refl; opens = refl })
-kind (Opened fid size access results) memory i m =
-    was-done (record {
-      said = opened fid size access results;
-      given = λ t. refl;
-      block = λ p l. refl;
-      size = refl;
-      forms-is = refl;
-      nobody = refl;
-      next-is = λ n. refl;
-      opens = refl;
+      opens = said-opens x memory;
     })
 
 module _ {c : Caller} {s first : List ℕ} {whole : Ran} {command at place just : ℕ} {t : Tables} {memory room : List ℕ} (g : Going c s first whole command at place just t memory room) (b : Block) (e : parse s command at ≡ Whole b) where
@@ -241,7 +221,7 @@ module _ {c : Caller} {s first : List ℕ} {whole : Ran} {command at place just 
         the-whole
         ∙ ap (after g.written)
         (run-done c s just b here.behind place t memory t' memory' said d
-        ∙ ap (λ (l : Link). after (reply_block said place l) (run c s (opened_by said) here.behind (place + reply_size said) t' memory')) (here.link (place + reply_size said)))
+        ∙ ap (λ (l : Next). after (reply_block said place l) (run c s (opened_by said) here.behind (place + reply_size said) t' memory')) (here.link (place + reply_size said)))
         ∙ after-after g.written block (run c s (opened_by said) here.behind (place + reply_size said) t' memory')
 
     done-good : Good t'
@@ -259,14 +239,14 @@ module _ {c : Caller} {s first : List ℕ} {whole : Ran} {command at place just 
     unfolding after
     refused-whole = the-whole ∙ ap (after g.written) (run-refused c s just b here.behind place t memory why d)
 
-  module _ (a : Answer) (t' : Tables) (memory' : List ℕ) (meaning : perform c t memory (body_meant just b.body) (area_of s b) (data_of s b) ≡ given_of a t' memory')
+  module _ (a : Answered) (t' : Tables) (memory' : List ℕ) (meaning : perform c t memory (body_meant just b.body) (area_of s b) (data_of s b) ≡ given_of a t' memory')
       (tables-left : t' ≡ tables_after (perform c t memory (body_meant just b.body) (area_of s b) (data_of s b)) t)
       (memory-left : memory' ≡ memory_after (perform c t memory (body_meant just b.body) (area_of s b) (data_of s b)) memory) (within : inside a ≡ true) (size : length memory' ≡ 65536) where
     fits-kind : Kind a memory' → place + answer_size a ≤ 32 + length whole.blocks
     unfolding given_of answer_size refused_block after
     fits-kind (was-refused why f) =
         let p = g.place_is in
-        let r : perform c t memory (body_meant just b.body) (area_of s b) (data_of s b) ≡ refused why = meaning ∙ ap (λ (x : Answer). given_of x t' memory') f in
+        let r : perform c t memory (body_meant just b.body) (area_of s b) (data_of s b) ≡ refused why = meaning ∙ ap (λ (x : Answered). given_of x t' memory') f in
         let w : length whole.blocks ≡ length (g.written ++ refused_block) = ap (λ (x : Ran). length x.blocks) (refused-whole why r) in
         let l = length-append g.written refused_block in
         rw f (omega arith)
@@ -299,16 +279,16 @@ module _ {c : Caller} {s first : List ℕ} {whole : Ran} {command at place just 
       unfolding given_of block_of answer_size refused_block after forms_after holder_left tables_after memory_after run
       end-kind (was-refused why f) stop =
           let p = g.place_is in
-          let r : perform c t memory (body_meant just b.body) (area_of s b) (data_of s b) ≡ refused why = meaning ∙ ap (λ (x : Answer). given_of x t' memory') f in
+          let r : perform c t memory (body_meant just b.body) (area_of s b) (data_of s b) ≡ refused why = meaning ∙ ap (λ (x : Answered). given_of x t' memory') f in
           let w = refused-whole why r in
           let q : place + answer_size a ≡ 32 + length (g.written ++ refused_block) =
-          ap (λ (x : Answer). place + answer_size x) f ∙ (let l = length-append g.written refused_block in omega arith) in
+          ap (λ (x : Answered). place + answer_size x) f ∙ (let l = length-append g.written refused_block in omega arith) in
           record {
             forms-is = ap forms_after f ∙ sym (ap (λ (x : Ran). x.forms) w);
             holder-is = ap holder_left f ∙ sym (ap (λ (x : Ran). x.holder) w);
             tables-are = tables-left ∙ ap (λ (x : Given). tables_after x t) r ∙ sym (ap (λ (x : Ran). x.tables) w);
             memory-is = memory-left ∙ ap (λ (x : Given). memory_after x memory) r ∙ sym (ap (λ (x : Ran). x.memory) w);
-            room-is = room-then refused_block (ap (λ (x : Answer). block_of x memory' place (link_for b.next (place + answer_size a))) f) ∙ sym (ap (λ (x : Ran). put first 32 x.blocks) w);
+            room-is = room-then refused_block (ap (λ (x : Answered). block_of x memory' place (link_for b.next (place + answer_size a))) f) ∙ sym (ap (λ (x : Ran). put first 32 x.blocks) w);
             place_is = q ∙ sym (ap (λ (x : Ran). 32 + length x.blocks) w);
           }
       end-kind (was-done k) stop =
@@ -331,7 +311,7 @@ module _ {c : Caller} {s first : List ℕ} {whole : Ran} {command at place just 
       more-kind : Kind a memory' → (c₁ a₁ : ℕ) → goes_on a b.next ≡ Follow c₁ a₁ → Going c s first whole c₁ a₁ (place + answer_size a) (just_opened a) t' memory' room'
       unfolding goes_on
       more-kind (was-refused why f) c₁ a₁ stop =
-          let z : End ≡ Follow c₁ a₁ = sym (ap (λ (x : Answer). goes_on x b.next) f) ∙ stop in
+          let z : End ≡ Follow c₁ a₁ = sym (ap (λ (x : Answered). goes_on x b.next) f) ∙ stop in
           let n : ◌≡◌ {A = ℕ} 0 1 = cc in
           absurd (omega arith)
       more-kind (was-done k) c₁ a₁ stop =

@@ -1,8 +1,7 @@
 -- From a message's reading to the loop, and from its end to what the call gives. Assumes nothing.
-use Rattle.std.specs.Prelude.{◌≡◌, refl, ℕ, ◌+◌, ◌-◌, ◌≤◌, ◌<◌, true, false, List, ◌++◌, length, take, drop}
+use Rattle.std.specs.Prelude.{◌≡◌, refl, ℕ, ◌+◌, ◌-◌, ◌≤◌, ◌<◌, true, false, List, ◌++◌, length, take, drop, Option, None, Some, Ok, Err, None as End, Some as Whole, None as Nobody}
 use Rattle.std.proofs.Common.{sym, ap, ◌∙◌, arith, length-append}
 use Rattle.std.proofs.lemmas.Bool.{false≢true}
-use Rattle.std.proofs.Math.Option.{Option, none, some}
 use Rattle.lists.specs.Put.{put}
 use Rattle.lists.specs.PutLaws.{put-before, put-part}
 use Rattle.records.specs.declared.Tables.{Tables}
@@ -14,10 +13,8 @@ use Rattle.chain.proofs.ParseLaws.{placed}
 use Rattle.chain.specs.Request.{request_named, is_served}
 use Rattle.chain.specs.RequestLaws.{by-request}
 use Rattle.chain.specs.declared.command.ServedRequest.{ServedRequest}
-use Rattle.chain.specs.declared.block.Next.{Next}
-use Rattle.chain.specs.declared.block.Next.TheVariants.{End, Follow}
+use Rattle.chain.specs.Next.{Next, Follow}
 use Rattle.chain.specs.declared.block.Block.{Block}
-use Rattle.chain.specs.declared.block.Parsed.TheVariants.{Whole}
 use Rattle.invariants.specs.BlockParse.{parse-complete}
 use Rattle.invariants.specs.Chained.{Chained, chained-end, chained_more, read-chained}
 use Rattle.message.specs.declared.caller.Caller.{Caller}
@@ -25,20 +22,16 @@ use Rattle.message.specs.Caller.{caller_of}
 use Rattle.message.specs.Refusal.{forms_of}
 use Rattle.message.specs.declared.refusal.Refusal.TheVariants.{NotServed, NotSentence}
 use Rattle.message.specs.declared.refusal.Forms.{Forms}
-use Rattle.message.specs.declared.refusal.HeldBy.{HeldBy}
-use Rattle.message.specs.declared.refusal.HeldBy.TheVariants.{Nobody}
+use Rattle.message.specs.HeldBy.{HeldBy}
 use Rattle.message.specs.Reply.{reply_header, refused_block}
 use Rattle.message.specs.Command.{perform}
-use Rattle.message.specs.declared.answer.Answer.{Answer}
-use Rattle.message.specs.declared.answer.Answer.TheVariants.{Refused, Locked, LoggedOff, Read, Wrote, Plain, CoreRead, CoreWrote, Opened}
 use Rattle.message.specs.declared.answer.Performed.{Performed}
-use Rattle.message.specs.Given.{Gives, inside, block_of, answer_size}
+use Rattle.message.specs.Given.{Answered, Gives, inside, block_of, answer_size}
 use Rattle.message.specs.JustOpened.{NOBODY, body_meant}
 use Rattle.message.specs.Message.{area_of, data_of, Ran, only_status, run_chain, served, answered, reply_of, Taken, replied}
 use Rattle.invariants.specs.Sound.{Good}
 use Rattle.invariants.specs.ReplySize.{length-header}
 use Rattle.invariants.specs.ReplyRoom.{chain-room}
-use Rattle.message.specs.declared.link.Link.{Link}
 use Rattle.tables.specs.Words.{in_use_fit}
 use Rattle.reply.specs.Links.{link_for}
 use Rattle.reply.specs.BlockLaws.{length-of-block}
@@ -52,24 +45,17 @@ first-stands {s} (chained-end {command} {at} h l) = ap is_whole (parse-complete 
 first-stands {s} (chained_more {command} {at} h l r) = ap is_whole (parse-complete s at h l)
 
 -- what is gone on with is what follows
-goes-next : (a : Answer) (n : Next) (command at : ℕ) → goes_on a n ≡ Follow command at → n ≡ Follow command at
+goes-next : (a : Answered) (n : Next) (command at : ℕ) → goes_on a n ≡ Follow command at → n ≡ Follow command at
 unfolding goes_on
-goes-next (Refused why) n command at e = let z : ◌≡◌ {A = ℕ} 0 1 = cc in absurd (omega arith)
-goes-next Locked n command at e = e
-goes-next LoggedOff n command at e = e
-goes-next (Read place count) n command at e = e
-goes-next (Wrote count) n command at e = e
-goes-next Plain n command at e = e
-goes-next (CoreRead place count) n command at e = e
-goes-next (CoreWrote count) n command at e = e
-goes-next (Opened fid size access results) n command at e = e
+goes-next (Err why) n command at e = let z : ◌≡◌ {A = ℕ} 0 1 = cc in absurd (omega arith)
+goes-next (Ok a) n command at e = e
 
 -- the loop's start
 start_of : (c : Caller) (s room : List ℕ) (o : Option (List Block)) → blocks s ≡ o → readable o ≡ true → (t : Tables) (memory : List ℕ) → Good t → length memory ≡ 65536
     → Going c s room (run_chain c s o t memory) (header_command s) FIRST FIRST NOBODY t memory room
 unfolding run_chain readable blocks
-start_of c s room none e r t memory g m = let z : ◌≡◌ {A = ℕ} 0 1 = cc in absurd (omega arith)
-start_of c s room (some bs) e r t memory g m = going_start c s room t memory (read-chained s (header_command s) FIRST bs e) g m
+start_of c s room None e r t memory g m = let z : ◌≡◌ {A = ℕ} 0 1 = cc in absurd (omega arith)
+start_of c s room (Some bs) e r t memory g m = going_start c s room t memory (read-chained s (header_command s) FIRST bs e) g m
 
 -- the whole fits the room
 pub run_fits : (c : Caller) (s : List ℕ) (t : Tables) (memory : List ℕ) → Good t → length s ≤ 8192 → 32 + length (run_chain c s (blocks s) t memory).blocks ≤ 12292
@@ -131,7 +117,7 @@ module _ {c : Caller} {s first : List ℕ} {t₀ : Tables} {memory₀ : List ℕ
             }
 
     -- fewer bytes are left at the next block
-    pub turn-falls : (a : Answer) (command' at' : ℕ) → goes_on a b.next ≡ Follow command' at' → length s - at' < length s - at
+    pub turn-falls : (a : Answered) (command' at' : ℕ) → goes_on a b.next ≡ Follow command' at' → length s - at' < length s - at
     turn-falls a command' at' more =
         let inside = (placed s at b command e).inside in
         let ahead = (placed s at b command e).ahead command' at' (goes-next a b.next command' at' more) in
@@ -143,13 +129,13 @@ pub record Kept (before after : List ℕ) : Type 0 where
   pub fit : in_use_fit before ≡ true → in_use_fit after ≡ true
 
 -- a block written at the front of the room left stands behind the others
-pub block-laid : (room e memory : List ℕ) (place : ℕ) (a : Answer) (link : Link) (n : Next) (size : ℕ) → size ≡ answer_size a → link ≡ link_for n (place + size)
+pub block-laid : (room e memory : List ℕ) (place : ℕ) (a : Answered) (link : Next) (n : Next) (size : ℕ) → size ≡ answer_size a → link ≡ link_for n (place + size)
     → e ≡ put (take (length room - place) (drop place room)) 0 (block_of a memory place link) → inside a ≡ true → length memory ≡ 65536 → place + answer_size a ≤ length room
     → take place room ++ (e ++ drop (length room - place) (drop place room)) ≡ put room place (block_of a memory place (link_for n (place + answer_size a)))
 block-laid room e memory place a link n size s l h i m fits =
     let k : length (block_of a memory place link) ≡ answer_size a = length-of-block a memory place link i m in
     put-part room (block_of a memory place link) e place (length room) (omega arith) (omega arith) h
-    ∙ ap (λ (x : Link). put room place (block_of a memory place x)) (l ∙ ap (λ (x : ℕ). link_for n (place + x)) s)
+    ∙ ap (λ (x : Next). put room place (block_of a memory place x)) (l ∙ ap (λ (x : ℕ). link_for n (place + x)) s)
 
 -- a message refused as a whole
 pub refused-finished : (room : List ℕ) (why : Forms) (t : Tables) (memory : List ℕ) → Finished room (only_status why t memory) why Nobody 35 t memory (put room 32 refused_block)
@@ -177,7 +163,7 @@ finish s room whole why who place t memory before after f e long enough =
 pub served-named : (command : ℕ) → is_served (request_named command) ≡ served command
 unfolding is_served served
 served-named command =
-    by-request (λ (request : ServedRequest) (n : ℕ). is_served request ≡ served n) command refl refl refl refl refl refl refl refl refl refl refl refl
+    by-request (λ (request : Option ServedRequest) (n : ℕ). is_served request ≡ served n) command refl refl refl refl refl refl refl refl refl refl refl refl
     (λ u. rw (u.no-locking, u.no_read, u.no_write, u.no-close, u.no-logoff, u.no-tree-disconnect, u.no-process-exit, u.no-core-read, u.no-core-write, u.no-lock-byte-range, u.no-unlock-byte-range, u.no-open))
 
 pub answered-not-served : (connection : ℕ) (s : List ℕ) (t : Tables) (memory : List ℕ) → served (header_command s) ≡ false
@@ -187,8 +173,8 @@ answered-not-served connection s t memory e = rw e
 
 none_of : (c : Caller) (s : List ℕ) (o : Option (List Block)) (t : Tables) (memory : List ℕ) → readable o ≡ false → run_chain c s o t memory ≡ only_status (forms_of NotSentence) t memory
 unfolding run_chain readable
-none_of c s none t memory e = refl
-none_of c s (some bs) t memory e = absurd (false≢true (sym e))
+none_of c s None t memory e = refl
+none_of c s (Some bs) t memory e = absurd (false≢true (sym e))
 
 pub answered-none : (connection : ℕ) (s : List ℕ) (t : Tables) (memory : List ℕ) → served (header_command s) ≡ true → readable (blocks_from s (header_command s) FIRST) ≡ false
     → answered connection s t memory ≡ only_status (forms_of NotSentence) t memory

@@ -1,7 +1,7 @@
 // Taking a message: the numbers 2, 4 and 1 in that order, then 2/22 and 2/1 before anything is carried out,
 // then the chain, command by command.
 
-ghost use Rattle.std.specs.Prelude.{◌≡◌, true, ◌≤◌, length};
+ghost use Rattle.std.specs.Prelude.{◌≡◌, true, ◌≤◌, length, Ok};
 ghost use Rattle.message.specs.Caller.{caller_of};
 ghost use Rattle.records.specs.declared.Tables.{Tables};
 ghost use Rattle.message.specs.Refusal.{forms_of};
@@ -9,54 +9,55 @@ ghost use Rattle.message.specs.Message.{only_status, answered, replied};
 ghost use Rattle.invariants.specs.Sound.{Good};
 ghost use Rattle.tables.specs.Words.{tables_of, in_use_fit};
 ghost use Rattle.boundary.specs.Boundary.{message_taken};
-ghost use Rattle.server.specs.TakenOf.{taken_of, refusal};
+ghost use Rattle.server.specs.TakenOf.{row_number, number_in, taken_of};
 
 use crate::run::run_chain;
 use chain::command::is_served;
 use chain::header::{COMMAND, FIRST, PID_HIGH, PID_LOW, SHORTEST, TID, UID, is_dropped};
 use chain::reader::is_sentence;
-use host::answer::{DONE, NOT_SOUND, WRONG_ROOM};
 use host::file::MEMORY;
-use message::answer::Answer;
+use locks::types::Holder;
 use message::caller::Caller;
-use message::link::Link;
-use message::refusal::{HeldBy, Refusal, forms_of};
+use message::refusal::{Refusal, forms_of};
 use reply::block::write_block;
 use reply::header::write_header;
 use soundness::whole::is_sound;
 
-// Row 1 of document 01's table "What a call returns"; `host::answer` has the others.
-pub const DROPPED: u8 = 1;
-
 // "reply room 12,292": every reply fits.
 const ROOM: usize = 12292;
 
-// The row, the reply's length (0 where none was written), and beside it the holder (document 02, CR 2). The tables are left
-// in the words.
+// Rows 2 and 4 stand in `host::answer::HostRefusal` too: a host call never gives row 1, a message none of 5 to 9, so that each type has just what its
+// call can give.
+// Why a call takes no message: rows 1, 2 and 4 of document 01's table "What a call returns", by number. Nothing is written.
 #[derive(Clone, Copy)]
-pub struct Taken {
-    pub number: u8,
-    pub length: usize,
-    pub holder: HeldBy,
+pub enum CallRefusal {
+    Dropped = 1,
+    WrongRoom = 2,
+    NotSound = 4,
 }
 
-// A refusal by number: nothing is written.
-fn refuse_call(number: u8) -> Taken
-    ensures { result ≡ refusal number }
-{
-    Taken {
-        number,
-        length: 0,
-        holder: HeldBy::Nobody,
+impl CallRefusal {
+    // The number of its row.
+    pub fn number(self) -> u8
+        ensures { result ≡ row_number self }
+    {
+        self as u8
     }
+}
+
+// Row 0: the reply's length, and beside it the holder (document 02, CR 2). The tables are left in the words.
+#[derive(Clone, Copy)]
+pub struct Taken {
+    pub length: usize,
+    pub holder: Option<Holder>,
 }
 
 // Who sends the message.
 fn caller_of(connection: u32, s: &[u8]) -> Caller
     ensures { result ≡ caller_of connection s.now }
 {
-    let high = wire::le16_at(s, PID_HIGH) as u32;
-    let low = wire::le16_at(s, PID_LOW) as u32;
+    let high = u32::from(wire::le16_at(s, PID_HIGH));
+    let low = u32::from(wire::le16_at(s, PID_LOW));
     let process = 65536 * high + low;
     Caller {
         connection,
@@ -71,20 +72,13 @@ fn refuse_message(s: &[u8], why: Refusal, memory: &[u8], room: &mut [u8]) -> Tak
     requires in_bounds { 35 ≤ length s.now }
     requires memory_len { length memory.now ≡ 65536 }
     requires in_bounds_2 { 12292 ≤ length room.old }
-    ensures { (t : Tables) → taken_of result t memory.now room.new ≡ replied s.now room.old (only_status (forms_of why) t memory.now) }
+    ensures { (t : Tables) → taken_of (Ok result) t memory.now room.new ≡ replied s.now room.old (only_status (forms_of why) t memory.now) }
 {
-    write_block(
-        Answer::Refused(why),
-        FIRST,
-        Link::None,
-        memory,
-        &mut room[FIRST..],
-    );
+    write_block(Err(why), FIRST, None, memory, &mut room[FIRST..]);
     write_header(s, forms_of(why), room);
     Taken {
-        number: DONE,
         length: SHORTEST,
-        holder: HeldBy::Nobody,
+        holder: None,
     }
 }
 
@@ -102,7 +96,7 @@ fn answer_message(
     requires s_len_bound { length s.now ≤ 8192 }
     requires memory_len { length memory.old ≡ 65536 }
     requires in_bounds_2 { 12292 ≤ length room.old }
-    ensures room_after { taken_of result (tables_of words.new) memory.new room.new ≡ replied s.now room.old (answered connection s.now (tables_of words.old) memory.old) }
+    ensures room_after { taken_of (Ok result) (tables_of words.new) memory.new room.new ≡ replied s.now room.old (answered connection s.now (tables_of words.old) memory.old) }
     ensures words_after { in_use_fit words.old ≡ true → in_use_fit words.new ≡ true }
 {
     let command = wire::byte_at(s, COMMAND);
@@ -114,11 +108,9 @@ fn answer_message(
     }
     let ended = run_chain(caller_of(connection, s), s, words, memory, room);
     write_header(s, ended.forms, room);
-    let holder = ended.holder;
     Taken {
-        number: DONE,
         length: ended.length,
-        holder,
+        holder: ended.holder,
     }
 }
 
@@ -130,22 +122,22 @@ pub fn take_message(
     words: &mut [u64; 1605],
     memory: &mut [u8],
     room: &mut [u8],
-) -> Taken
+) -> Result<Taken, CallRefusal>
     ensures room_after { taken_of result (tables_of words.new) memory.new room.new ≡ message_taken connection s.now words.old memory.old room.old }
-    ensures words_unchanged { (result.number ≡ 0 → ⊥) → words.new ≡ words.old }
+    ensures words_unchanged { (number_in result ≡ 0 → ⊥) → words.new ≡ words.old }
     ensures words_after { in_use_fit words.old ≡ true → in_use_fit words.new ≡ true }
 {
     if room.len() < ROOM {
-        return refuse_call(WRONG_ROOM);
+        return Err(CallRefusal::WrongRoom);
     }
     if memory.len() != MEMORY {
-        return refuse_call(WRONG_ROOM);
+        return Err(CallRefusal::WrongRoom);
     }
     if !is_sound(words) {
-        return refuse_call(NOT_SOUND);
+        return Err(CallRefusal::NotSound);
     }
     if is_dropped(s) {
-        return refuse_call(DROPPED);
+        return Err(CallRefusal::Dropped);
     }
-    answer_message(connection, s, words, memory, room)
+    Ok(answer_message(connection, s, words, memory, room))
 }

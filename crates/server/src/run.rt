@@ -15,9 +15,10 @@ use crate::step::{NOBODY, forms_after, goes_on, holder_left, opened_by};
 use chain::block::Next;
 use chain::header::{COMMAND, FIRST};
 use chain::parse::fields_at;
+use locks::types::Holder;
 use message::answer::Answer;
 use message::caller::Caller;
-use message::refusal::{Forms, HeldBy};
+use message::refusal::{Forms, Refusal};
 use reply::block::{block_size, link_to, write_block};
 use requests::perform::perform_block;
 
@@ -25,14 +26,20 @@ use requests::perform::perform_block;
 #[derive(Clone, Copy)]
 pub(crate) struct Ended {
     pub forms: Forms,
-    pub holder: HeldBy,
+    pub holder: Option<Holder>,
     pub length: usize,
 }
 
 // The reply block of an answer, written into the room left after the one before; where it ends. The block's
 // link is known before it is written, since a command done is followed by the next one's block, refused or
 // not.
-fn add_block(answer: Answer, next: Next, place: usize, memory: &[u8], room: &mut [u8]) -> usize
+fn add_block(
+    answer: Result<Answer, Refusal>,
+    next: Next,
+    place: usize,
+    memory: &[u8],
+    room: &mut [u8],
+) -> usize
     requires memory_len { length memory.now ≡ 65536 }
     requires answer_value { inside answer ≡ true }
     requires answer_bound { place + answer_size answer ≤ 12292 }
@@ -73,20 +80,21 @@ pub(crate) fn run_chain(
     let mut at: usize = FIRST;
     let mut place: usize = FIRST;
     let mut just = NOBODY;
+    // By what follows each block, which is known behind it alone: no `for`.
     loop {
         let b = fields_at(s, command, at);
         let answer = perform_block(c, words, s, b, just, memory);
         let next = b.next;
         place = add_block(answer, next, place, memory, room);
-        let Next::Follow(then, from) = goes_on(answer, next) else {
+        let Some(follower) = goes_on(answer, next) else {
             return Ended {
                 forms: forms_after(answer),
                 holder: holder_left(answer),
                 length: place,
             };
         };
-        command = then;
-        at = from;
+        command = follower.command;
+        at = follower.at;
         just = opened_by(answer);
     }
 }

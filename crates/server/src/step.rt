@@ -1,50 +1,66 @@
 // What the loop over a chain does after a command.
 
 ghost use Rattle.std.specs.Prelude.{◌≡◌};
-ghost use Rattle.server.specs.Step.{forms_after, holder_left, goes_on, just_opened};
+ghost use Rattle.server.specs.Step.{forms_after, holder_left, goes_on, fid_opened, just_opened};
 
 use chain::block::Next;
+use locks::types::Holder;
 use message::answer::Answer;
-use message::refusal::{Forms, HeldBy, both_forms, forms_of, holder_of};
+use message::refusal::{Forms, Refusal, both_forms, forms_of, holder_of};
 
 // The status, in both forms, that an answer leaves for the header, if it is the last: 0/0 and 0 unless it is a refusal.
-pub(crate) fn forms_after(a: Answer) -> Forms
-    ensures { result ≡ forms_after a }
+#[tactic(auto, unfolding(crate::specs::Step::forms_after))]
+pub(crate) fn forms_after(answered: Result<Answer, Refusal>) -> Forms
+    ensures { result ≡ forms_after answered }
 {
-    match a {
-        Answer::Refused(why) => forms_of(why),
-        _ => both_forms(0, 0, 0),
+    match answered {
+        Ok(_) => both_forms(0, 0, 0),
+        Err(why) => forms_of(why),
     }
 }
 
 // The holder that an answer names, if it is the last: nobody unless it is a refusal for conflict.
-pub(crate) fn holder_left(a: Answer) -> HeldBy
-    ensures { result ≡ holder_left a }
+#[tactic(auto, unfolding(crate::specs::Step::holder_left))]
+pub(crate) fn holder_left(answered: Result<Answer, Refusal>) -> Option<Holder>
+    ensures { result ≡ holder_left answered }
 {
-    match a {
-        Answer::Refused(why) => holder_of(why),
-        _ => HeldBy::Nobody,
+    match answered {
+        Ok(_) => None,
+        Err(why) => holder_of(why),
     }
 }
 
 // What is carried out next: "Commands before it in the chain stand; those after it aren't begun."
-pub(crate) fn goes_on(a: Answer, next: Next) -> Next
-    ensures { result ≡ goes_on a next }
+#[tactic(auto, unfolding(crate::specs::Step::goes_on))]
+pub(crate) fn goes_on(answered: Result<Answer, Refusal>, next: Next) -> Next
+    ensures { result ≡ goes_on answered next }
 {
-    match a {
-        Answer::Refused(_) => Next::End,
-        _ => next,
+    match answered {
+        Ok(_) => next,
+        Err(_) => None,
     }
 }
 
-// What FID 0xFFFF means in the next block: "the file just opened", or nobody's.
+// What FID 0xFFFF means in the next block: "the file just opened", or nobody's. A number and no Option: what the definitions of a chain hand on is 0xFFFF
+// itself, nobody's FID.
 pub(crate) const NOBODY: u16 = 0xffff;
 
-pub(crate) fn opened_by(a: Answer) -> u16
-    ensures { result ≡ just_opened a }
+#[tactic(auto, unfolding(crate::specs::Step::fid_opened))]
+fn fid_opened(a: Answer) -> u16
+    ensures { result ≡ fid_opened a }
 {
     match a {
         Answer::Opened(fid, _, _, _) => fid,
         _ => NOBODY,
+    }
+}
+
+#[tactic(auto, unfolding(crate::specs::Step::just_opened))]
+pub(crate) fn opened_by(answered: Result<Answer, Refusal>) -> u16
+    ensures { result ≡ just_opened answered }
+{
+    match answered {
+        Ok(a) => fid_opened(a),
+        Err(_) => NOBODY,
     }
 }

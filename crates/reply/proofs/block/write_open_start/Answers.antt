@@ -11,5 +11,5 @@ unfolding open_start
 returns c =
     let args = c.args in
     let andx = link-bytes args.link c.link_command-andx.ensures c.link_place-next.ensures c.low-p0.ensures c.high-p1.ensures in
-    let fid = two_bytes args.fid c.low-f0.ensures c.high-f1.ensures in
+    let fid = two_bytes args.fid (rw c.from-n.ensures at c.low-f0.ensures) (rw c.from-n.ensures at c.high-f1.ensures) in
     laid_as args.room.now c.lay.ensures (λ i. 15 ∷ (andx i ++ (fid i ++ replicate 6 0)))

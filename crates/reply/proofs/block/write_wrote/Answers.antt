@@ -11,5 +11,5 @@ unfolding two
 returns c =
     let args = c.args in
     let andx = link-bytes args.link c.link_command-andx.ensures c.link_place-next.ensures c.low-p0.ensures c.high-p1.ensures in
-    let count = two_bytes args.count c.low-n0.ensures c.high-n1.ensures in
+    let count = two_bytes args.count (rw c.from-n.ensures at c.low-n0.ensures) (rw c.from-n.ensures at c.high-n1.ensures) in
     laid_as args.room.now c.lay.ensures (λ i. 6 ∷ (andx i ++ (count i ++ (two 0xFFFF ++ (replicate 4 0 ++ (0 ∷ 0 ∷ []))))))

@@ -6,7 +6,6 @@ use Rattle.records.specs.declared.Lock.{Lock}
 use Rattle.tables.specs.Words.{part, tables_of}
 use Rattle.locks.specs.Request.{holder_at}
 use Rattle.locks.specs.Listed.{listed_below, listed_at}
-use Rattle.message.specs.declared.answer.Answer.TheVariants.{Refused}
 use Rattle.message.specs.declared.refusal.Refusal.TheVariants.{FileLockConflict}
 use Rattle.requests.proofs.barred.refuse_for.Goals as goal
 
@@ -18,5 +17,5 @@ pub returns : goal.returns
 unfolding holder_at tables_of
 returns c =
     let args = c.args in
-    ap (λ (l : Lock). Refused (FileLockConflict (record { lock = l; place = args.place })))
+    ap (λ (l : Lock). FileLockConflict (record { lock = l; place = args.place }))
     (c.lock_at-lock.ensures ∙ sym (listed_at (part args.words.now 707 641) args.place c.requires.place_in_bounds))

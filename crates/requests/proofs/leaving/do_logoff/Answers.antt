@@ -1,22 +1,26 @@
 -- `requests::leaving::do_logoff` meets its contract: the session is asked for first, and goes.
 -- Assumes nothing.
-use mathlib.Core.Path.{refl, ap, sym, ◌∙◌}
+use mathlib.Core.Path.{refl, sym, ap}
+use Rattle.std.specs.Prelude.{Ok}
+use Rattle.requests.proofs.Raised.{raised}
 use Rattle.tables.specs.Words.{tables_of}
 use Rattle.message.specs.declared.answer.Answer.TheVariants.{LoggedOff}
-use Rattle.message.specs.Command.{logged_off, with_session, perform}
-use Rattle.message.specs.Given.{given_of, inside}
+use Rattle.message.specs.Command.{logged_off, perform}
+use Rattle.message.specs.Given.{said_of, bytes_inside}
 use Rattle.requests.specs.Leaves.{performed, gives-refused, gives-done}
 use Rattle.requests.specs.Numbers.{good-numbered}
+use Rattle.requests.specs.Reach.{no-session, some-session}
 use Rattle.requests.proofs.leaving.do_logoff.Goals as goal
 
-pub returns-then-not-session_named : goal.returns-then-not-session_named
-unfolding perform with_session tables_of
-returns-then-not-session_named c =
-    record { leaves = (λ m. gives-refused _ (rw (sym c.session_named.ensures ∙ c.if-not-session_named.true)) refl); words_after = λ h. h }
+pub returns-in_err-reach_session-clause-leaves : goal.returns-in_err-reach_session-clause-leaves
+unfolding perform
+returns-in_err-reach_session-clause-leaves c =
+    λ m. gives-refused _ (no-session c.args.c _ _ _ (sym c.in_err-reach_session.ensures)) (raised _ _ _ c.from_residual.ensures.1)
 
 pub remove_named-requires : goal.remove_named-requires
 remove_named-requires c = (c.requires.words_len, good-numbered (tables_of c.args.words.now) c.requires.good)
 
-pub returns : goal.returns
-unfolding perform with_session given_of inside tables_of
-returns c = record { leaves = (λ m. gives-done LoggedOff _ logged_off (rw (sym c.session_named.ensures ∙ c.if-not-session_named.false)) (ap (performed LoggedOff) c.remove_named.ensures.tables) refl refl); words_after = c.remove_named.ensures.fit }
+pub returns-clause-leaves : goal.returns-clause-leaves
+unfolding perform said_of bytes_inside
+returns-clause-leaves c =
+    λ m. gives-done LoggedOff _ logged_off (some-session c.args.c _ _ _ (sym c.in_ok-reach_session.ensures)) (ap (performed (Ok LoggedOff)) c.remove_named.ensures.tables) refl refl

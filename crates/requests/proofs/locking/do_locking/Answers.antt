@@ -1,21 +1,16 @@
 -- `requests::locking::do_locking` meets its contract: the open is reached first, then the request is made.
 -- Assumes nothing.
-use mathlib.Core.Path.{refl, sym, ◌∙◌}
+use mathlib.Core.Path.{sym}
+use Rattle.requests.proofs.Raised.{raised}
 use Rattle.tables.specs.Words.{tables_of}
-use Rattle.requests.specs.Leaves.{refusal}
 use Rattle.requests.specs.Reach.{not-reached, is-reached}
 use Rattle.requests.specs.Steps.{locking-steps}
 use Rattle.requests.proofs.locking.do_locking.Goals as goal
 
-pub lock_open-requires : goal.lock_open-requires
-lock_open-requires c = c.requires
+pub returns-in_err-reach_open-clause-leaves : goal.returns-in_err-reach_open-clause-leaves
+returns-in_err-reach_open-clause-leaves c =
+    λ m. rw (locking-steps c.args.c (tables_of c.args.words.now) m c.args.f c.args.area.now) (not-reached c.args.c _ c.args.f.fid m _ _ _ (sym c.in_err-reach_open.ensures) (raised _ _ _ c.from_residual.ensures.1))
 
-pub returns-in-Open : goal.returns-in-Open
-returns-in-Open c =
-    let args = c.args in
-    let t = tables_of args.words.now in record { leaves = (λ m. rw (locking-steps args.c t m args.f args.area.now) (is-reached args.c t args.f.fid m _ _ m _ _ (sym c.reach_open-at.ensures ∙ c.in-Open.is) (c.lock_open.ensures.leaves m))); words_after = c.lock_open.ensures.words_after }
-
-pub returns-in-Refused : goal.returns-in-Refused
-returns-in-Refused c =
-    let args = c.args in
-    let t = tables_of args.words.now in record { leaves = (λ m. rw (locking-steps args.c t m args.f args.area.now) (not-reached args.c t args.f.fid m (refusal _ t) _ _ (sym c.reach_open-at.ensures ∙ c.in-Refused.is) refl)); words_after = λ h. h }
+pub returns-clause-leaves : goal.returns-clause-leaves
+returns-clause-leaves c =
+    λ m. rw (locking-steps c.args.c (tables_of c.args.words.now) m c.args.f c.args.area.now) (is-reached c.args.c _ c.args.f.fid m _ _ m _ _ (sym c.in_ok-reach_open.ensures) (c.lock_open.ensures.leaves m))

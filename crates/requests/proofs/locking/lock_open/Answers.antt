@@ -5,10 +5,10 @@ use Rattle.requests.specs.Leaves.{gives-refused}
 use Rattle.requests.specs.Steps.{lock_open}
 use Rattle.requests.proofs.locking.lock_open.Goals as goal
 
-pub returns-then-not-served_type : goal.returns-then-not-served_type
+pub returns-then-not-served_type-clause-leaves : goal.returns-then-not-served_type-clause-leaves
 unfolding lock_open
-returns-then-not-served_type c = record { leaves = (λ m. gives-refused _ (rw (sym c.served_type.ensures ∙ c.if-not-served_type.true)) refl); words_after = λ h. h }
+returns-then-not-served_type-clause-leaves c = λ m. gives-refused _ (rw (sym c.served_type.ensures ∙ c.if-not-served_type.true)) refl
 
-pub returns : goal.returns
+pub returns-clause-leaves : goal.returns-clause-leaves
 unfolding lock_open
-returns c = record { leaves = (λ m. rw (sym c.served_type.ensures ∙ c.if-not-served_type.false, c.lock_answer.ensures) (c.settle-outcome.ensures.leaves m)); words_after = c.settle-outcome.ensures.words_after }
+returns-clause-leaves c = λ m. rw (sym c.served_type.ensures ∙ c.if-not-served_type.false, c.lock_answer.ensures) (c.settle-outcome.ensures.leaves m)

@@ -1,6 +1,6 @@
 -- `requests::opening::add_open` meets its contract: the open is put behind those in use, where there is room.
 -- Assumes nothing.
-use Rattle.std.specs.Prelude.{◌≡◌, ◌<◌, ◌≤◌, [], ◌∷◌, ◌++◌, length}
+use Rattle.std.specs.Prelude.{◌≡◌, ◌<◌, ◌≤◌, [], ◌∷◌, ◌++◌, length, Ok}
 use mathlib.Core.Path.{refl, ap, ◌∙◌}
 use native.Mathlib.Omega.{arith}
 use borrow.Author.Tests.{lt-leb, le-leb}
@@ -10,7 +10,7 @@ use Rattle.tables.specs.PartLaws.{length_part}
 use Rattle.message.specs.Contents.{size_of}
 use Rattle.message.specs.Command.{opened_said}
 use Rattle.requests.specs.Leaves.{performed, gives-refused, gives-done}
-use Rattle.requests.specs.OpenPart.{open_told, told-given, told-inside, open_added, first_word, opens-count, opens-more}
+use Rattle.requests.specs.OpenPart.{open_told, told-said, told-inside, open_added, first_word, opens-count, opens-more}
 use Rattle.requests.proofs.opening.add_open.Goals as goal
 
 pub returns-then-words-ge64 : goal.returns-then-words-ge64
@@ -41,6 +41,6 @@ returns c =
     let more = opens-more w c.append_open.new.words full o long c.append_open.ensures in
     let told = c.open_told.ensures ∙ ap (open_told f o.fid) c.file_size-size.ensures in record {
       leaves = (λ m. gives-done (open_told f o.fid (size_of t o.file)) (with_opens t (opens_of t ++ (o ∷ []))) (opened_said f.full o.fid (size_of t o.file) f.access)
-          (rw (lt-leb 64 t.nopens room)) (λ i. performed (told i) (more.0 i)) (told-given f o.fid (size_of t o.file) (with_opens t (opens_of t ++ (o ∷ []))) m) (told-inside f o.fid (size_of t o.file)));
+          (rw (lt-leb 64 t.nopens room)) (λ i. performed (Ok (told i)) (more.0 i)) (told-said f o.fid (size_of t o.file) m) (told-inside f o.fid (size_of t o.file)));
       words_after = more.1;
     }

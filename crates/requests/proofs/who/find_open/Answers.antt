@@ -1,11 +1,10 @@
 -- `requests::who::find_open` meets its contract: the opens ahead give the same answer as the whole list.
 -- Assumes nothing.
-use Rattle.std.specs.Prelude.{◌≡◌, ℕ, ◌<◌, ◌≤◌, min, List, length, take}
+use Rattle.std.specs.Prelude.{◌≡◌, ℕ, ◌<◌, ◌≤◌, min, List, length, take, Option, Ok}
 use mathlib.Core.Path.{sym, ap, ◌∙◌}
 use native.Mathlib.Omega.{arith}
 use lib.Seq.{get_or-take}
 use Rattle.lists.specs.Walk.{found}
-use Rattle.lists.specs.declared.Found.{Found}
 use Rattle.lists.specs.FoundLaws.{passed_start, passed_here, passed-more, passed_none}
 use Rattle.lists.specs.Stored.{take-most}
 use Rattle.records.specs.Empty.{no_open}
@@ -14,7 +13,6 @@ use Rattle.tables.specs.Words.{word, open_of, open_array}
 use Rattle.tables.specs.Written.{opens_in}
 use Rattle.tables.specs.ArrayLaws.{length-array}
 use Rattle.message.specs.Command.{is_open}
-use Rattle.requests.specs.declared.who.NamedOpen.TheVariants.{Open as Named}
 use Rattle.requests.specs.Reach.{reached_at}
 use Rattle.requests.proofs.who.find_open.Goals as goal
 
@@ -27,7 +25,7 @@ whole : (w : List ℕ) (count : ℕ) → count ≡ min (word w 0) 64 → take co
 whole w count e = rw e (take-most (open_array w) (word w 0) 64 (length-opens w))
 
 pub loop-i-init : goal.loop-i-init
-loop-i-init c = (omega arith, passed_start)
+loop-i-init c = passed_start
 
 pub open_at-o-requires : goal.open_at-o-requires
 open_at-o-requires c =
@@ -44,17 +42,10 @@ returns-then-open_is c =
     let long : length (open_array words) ≡ 64 = length-opens words in
     let few : count ≤ 64 = omega arith in
     let used : loop.i < word words 0 = omega arith in
-    ap (λ (o : Open). Named o loop.i) (c.open_at-o.ensures ∙ sym (get_or-take (word words 0) (open_array words) loop.i no_open used))
-    ∙ ap (λ (x : Found). reached_at x (opens_in words))
-    (passed_here loop.invariant.1 no_open (omega arith) (omega arith) (sym (ap (is_open args.c args.fid) c.open_at-o.ensures) ∙ sym c.open_is.ensures ∙ c.if-open_is.true)
+    ap (λ (o : Open). Ok (o, loop.i)) (c.open_at-o.ensures ∙ sym (get_or-take (word words 0) (open_array words) loop.i no_open used))
+    ∙ ap (λ (x : Option ℕ). reached_at x (opens_in words))
+    (passed_here loop.invariant no_open (omega arith) (omega arith) (sym (ap (is_open args.c args.fid) c.open_at-o.ensures) ∙ sym c.open_is.ensures ∙ c.if-open_is.true)
     ∙ ap (found (is_open args.c args.fid)) (whole words count c.in_use-count.ensures))
-
-pub overflow_add-i : goal.overflow_add-i
-overflow_add-i c =
-    let few : c.in_use-count.result ≤ 64 = omega arith in omega arith
-
-pub loop-i-smaller : goal.loop-i-smaller
-loop-i-smaller c = omega arith
 
 pub loop-i-preserved : goal.loop-i-preserved
 loop-i-preserved c =
@@ -64,12 +55,12 @@ loop-i-preserved c =
     let count = c.in_use-count.result in
     let long : length (open_array words) ≡ 64 = length-opens words in
     let few : count ≤ 64 = omega arith in
-    (omega arith, passed-more loop.invariant.1 no_open (omega arith) (omega arith) (sym (ap (is_open args.c args.fid) c.open_at-o.ensures) ∙ sym c.open_is.ensures ∙ c.if-open_is.false))
+    passed-more loop.invariant no_open (omega arith) (omega arith) (sym (ap (is_open args.c args.fid) c.open_at-o.ensures) ∙ sym c.open_is.ensures ∙ c.if-open_is.false)
 
 pub returns : goal.returns
 unfolding reached_at
 returns c =
     let args = c.args in
     let words = args.words.now in
-    ap (λ (x : Found). reached_at x (opens_in words))
-    (passed_none c.loop-i.invariant.1 c.loop-i-test.false ∙ ap (found (is_open args.c args.fid)) (whole words c.in_use-count.result c.in_use-count.ensures))
+    ap (λ (x : Option ℕ). reached_at x (opens_in words))
+    (passed_none c.loop-i.invariant c.loop-i-test.false ∙ ap (found (is_open args.c args.fid)) (whole words c.in_use-count.result c.in_use-count.ensures))

@@ -1,21 +1,14 @@
--- `requests::who::reach_open` meets its contract: the tests are those of the definition, in its order, each on its own table's words.
+-- `requests::who::reach_open` meets its contract: the tree is reached first, then the open is looked for.
 -- Assumes nothing.
 use mathlib.Core.Path.{sym, ◌∙◌}
 use Rattle.tables.specs.Words.{tables_of}
-use Rattle.requests.specs.Reach.{reached}
+use Rattle.requests.proofs.Raised.{handed_on}
+use Rattle.requests.specs.Reach.{open-no-tree, open-behind}
 use Rattle.requests.proofs.who.reach_open.Goals as goal
 
-pub returns-then-not-session_named : goal.returns-then-not-session_named
-unfolding reached tables_of
-returns-then-not-session_named c =
-    rw (sym c.session_named.ensures ∙ c.if-not-session_named.true)
-
-pub returns-then-not-tree_named : goal.returns-then-not-tree_named
-unfolding reached tables_of
-returns-then-not-tree_named c =
-    rw (sym c.session_named.ensures ∙ c.if-not-session_named.false, sym c.tree_named.ensures ∙ c.if-not-tree_named.true)
+pub returns-in_err-reach_tree : goal.returns-in_err-reach_tree
+returns-in_err-reach_tree c = handed_on _ _ c.from_residual.ensures.1 ∙ sym (open-no-tree c.args.c _ c.args.fid _ (sym c.in_err-reach_tree.ensures))
 
 pub returns : goal.returns
-unfolding reached tables_of
-returns c =
-    rw (sym c.session_named.ensures ∙ c.if-not-session_named.false, sym c.tree_named.ensures ∙ c.if-not-tree_named.false) c.find_open.ensures
+unfolding tables_of
+returns c = c.find_open.ensures ∙ sym (open-behind c.args.c (tables_of c.args.words.now) c.args.fid _ (sym c.in_ok-reach_tree.ensures))

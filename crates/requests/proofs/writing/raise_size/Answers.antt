@@ -9,5 +9,5 @@ use Rattle.requests.proofs.writing.raise_size.Goals as goal
 pub returns : goal.returns
 returns c =
     let args = c.args in
-    let size = c.larger-size.ensures ∙ ap (λ (n : ℕ). max n args.end) c.file_size.ensures in
+    let size = c.max-size.ensures ∙ ap (λ (n : ℕ). max n args.end) c.file_size.ensures in
     record { words_after = c.change_file.ensures.words_after ∙ ap (with_change (tables_of args.words.now) args.file) size; words_after_2 = c.change_file.ensures.words_after_2 }

@@ -7,8 +7,10 @@ pub returns : goal.returns
 unfolding caller_of
 returns c =
     rw (
-      c.le16_at-high.ensures,
-      c.le16_at-low.ensures,
+      c.from-high.ensures,
       c.le16_at.ensures,
+      c.from-low.ensures,
       c.le16_at-2.ensures,
+      c.le16_at-3.ensures,
+      c.le16_at-4.ensures,
     )

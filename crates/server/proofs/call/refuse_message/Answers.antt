@@ -8,7 +8,7 @@ use lib.ListN.{length, length-take, length-drop}
 use Rattle.lists.specs.Put.{put}
 use Rattle.lists.specs.PutLaws.{put-part}
 use Rattle.message.specs.declared.refusal.Forms.{Forms}
-use Rattle.message.specs.declared.refusal.HeldBy.TheVariants.{Nobody}
+use Rattle.std.specs.Prelude.{None as Nobody}
 use Rattle.message.specs.Refusal.{forms_of}
 use Rattle.message.specs.Reply.{reply_header, refused_block}
 use Rattle.message.specs.Given.{inside, block_of, answer_size}
