@@ -1,7 +1,7 @@
 -- The calls as the host makes them, on the words that it lends. A word in use that its field cannot hold is refused with 4 (tables
 -- not sound); otherwise a call is the core's own on the tables that the words hold. A call that is done leaves words that hold the
 -- tables left, and the number given out; one that is refused leaves everything as it was. Assumes nothing.
-use Rattle.std.specs.Prelude.{◌≡◌, ℕ, ◌+◌, ◌*◌, Bool, true, cond, not, ◌&&◌, ◌||◌, List, [], ◌∷◌, length, eqb, ltb}
+use Rattle.std.specs.Prelude.{◌≡◌, ℕ, ◌+◌, ◌*◌, Bool, true, cond, not, ◌&&◌, ◌||◌, List, [], ◌∷◌, length, eqb, ltb, None as Nobody, Some as held_by}
 use Rattle.records.specs.declared.Tables.{Tables}
 use Rattle.soundness.specs.Sound.{sound}
 use Rattle.host.specs.declared.answer.Returned.{Returned}
@@ -9,8 +9,7 @@ use Rattle.host.specs.declared.ending.One.{One}
 use Rattle.host.specs.HostCall.{add_session, add_tree, add_open, load_file, load_memory, drop_connection, ask_unchanged, end_one}
 use Rattle.host.specs.OnWords.{set_on_sound}
 use Rattle.message.specs.Message.{Taken, not_taken, take-message}
-use Rattle.message.specs.declared.refusal.HeldBy.{HeldBy}
-use Rattle.message.specs.declared.refusal.HeldBy.TheVariants.{Nobody, Holder as held_by}
+use Rattle.message.specs.HeldBy.{HeldBy}
 use Rattle.tables.specs.Words.{in_use_fit, tables_of, session_limits, tree_limits, open_limits, lock_limits, name_limits}
 use Rattle.boundary.specs.OutParameter.{on_done}
 

@@ -2,10 +2,10 @@
 -- the buffer and the room after a call are those of `stream`'s definitions. Assumes nothing.
 use Rattle.std.specs.Prelude.{ℕ, List, [], ◌∷◌, get_or}
 use Rattle.stream.specs.declared.state.State.{State}
-use Rattle.stream.specs.declared.reader.Event.{Event}
-use Rattle.stream.specs.declared.reader.Event.TheVariants.{NoMessage, InPiece, InBuffer}
-use Rattle.stream.specs.declared.reader.Step.{Step}
-use Rattle.stream.specs.declared.writer.Written.{Written}
+use Rattle.stream.specs.Reader.{Event}
+use Rattle.stream.specs.Reader.{NoMessage, InPiece, InBuffer}
+use Rattle.stream.specs.Reader.{Step}
+use Rattle.stream.specs.Writer.{Written}
 use Rattle.stream.specs.Reader.{Read, read}
 use Rattle.boundary.specs.OutParameter.{on_done}
 

@@ -2,8 +2,8 @@
 use Rattle.std.specs.Prelude.{◌≡◌, refl, ℕ, List, [], ◌∷◌, length}
 use Rattle.std.proofs.Common.{arith}
 use Rattle.stream.specs.declared.state.State.{State}
-use Rattle.stream.specs.declared.reader.Step.{Step}
-use Rattle.stream.specs.declared.writer.Written.{Written}
+use Rattle.stream.specs.Reader.{Step}
+use Rattle.stream.specs.Writer.{Written}
 use Rattle.boundary.specs.OutParameter.{stands-else, given-done}
 use Rattle.boundary.specs.StreamWords.{state_in, words_of, step_words, step_after, written_after}
 

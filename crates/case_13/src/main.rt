@@ -22,7 +22,11 @@ fn main(rt: HostRuntime) -> io::Result<()> {
         &mut memory,
         &mut room,
     );
+    let (number, written) = match taken {
+        Ok(taken) => (0, taken.length),
+        Err(why) => (why.number(), 0),
+    };
     let mut text = [0u8; 32768];
-    let length = put_answer(&mut text, 0, taken.number, taken.length, &room);
+    let length = put_answer(&mut text, 0, number, written, &room);
     rt.write_all(&text[..length])
 }

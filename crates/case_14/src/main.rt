@@ -21,15 +21,13 @@ fn ask(
         0, 7, 0, 1, 0, 3, 0, 8, 0xff, 0, 0, 0, 1, 0, 0, 0, 0, 0, 0, 0, unlocks, 0, locks, 0, 10, 0,
         7, 0, place, 0, 0, 0, 1, 0, 0, 0,
     ];
-    take_message(CONNECTION, &message, words, memory, room);
+    let _ = take_message(CONNECTION, &message, words, memory, room);
 }
 
 // 128 locks, a byte each.
 fn hold_all(words: &mut [u64; 1605], memory: &mut [u8], room: &mut [u8]) {
-    let mut place: u8 = 0;
-    while place < 128 {
+    for place in 0..128 {
         ask(0, 1, place, words, memory, room);
-        place += 1;
     }
 }
 

@@ -12,8 +12,7 @@ use lib.Dec.{leb, ltb, eqb}
 use borrow.Author.Tests.{eqb-true, lt-ltb, leb-true, leb-false}
 use Rattle.lists.specs.Truth.{decided, fails, holds-second, both_hold}
 use Rattle.lists.specs.Walk.{any, found}
-use Rattle.lists.specs.declared.Found.{Found}
-use Rattle.lists.specs.declared.Found.TheVariants.{At, Nothing}
+use Rattle.std.specs.Prelude.{Option, Some, None}
 use Rattle.lists.specs.Members.{any-one, all-each, in_map}
 use Rattle.records.specs.declared.Tables.{Tables}
 use Rattle.records.specs.Empty.{no_open}
@@ -67,15 +66,15 @@ module _ (t : Tables) (s : sound t ≡ true) where
       omega arith
 
   -- no open has it as its FID
-  unnamed : (f : Found) (k : ℕ) → found (λ o. eqb o.fid k) (opens_of t) ≡ f → 64 < k → f ≡ Nothing
-  unnamed (At j) k e h =
+  unnamed : (f : Option ℕ) (k : ℕ) → found (λ o. eqb o.fid k) (opens_of t) ≡ f → 64 < k → f ≡ None
+  unnamed (Some j) k e h =
       let hit = found-hit (λ o. eqb o.fid k) (opens_of t) j no_open e in
       let its : (get_or (opens_of t) j no_open).fid ≡ k = eqb-true (get_or (opens_of t) j no_open).fid k hit.passes in
       let within = (numbered_within 64 (in_map fid_of hit.listed) (sound-says t s).records.fids).1 in
       absurd (let no : ⊥ = omega arith in no)
-  unnamed Nothing k e h = refl
+  unnamed None k e h = refl
 
-  no-open : (k : ℕ) → 64 < k → found (λ o. eqb o.fid k) (opens_of t) ≡ Nothing
+  no-open : (k : ℕ) → 64 < k → found (λ o. eqb o.fid k) (opens_of t) ≡ None
   no-open k h = unnamed (found (λ o. eqb o.fid k) (opens_of t)) k refl h
 
 -- ---- the calls

@@ -1,17 +1,18 @@
 // The stream's reader and writer as a C program calls them (include/gateway.h): the reader's state is seven words of the host's, any
 // values in them, and what a call gives is four more.
 
-ghost use Rattle.std.specs.Prelude.{◌≡◌};
+ghost use Rattle.std.specs.Prelude.{◌≡◌, Ok};
 ghost use Rattle.stream.specs.State.{none_begun};
 ghost use Rattle.stream.specs.Writer.{write};
+ghost use Rattle.stream.specs.Told.{outcome_event};
 ghost use Rattle.boundary.specs.StreamWords.{state_in, words_of, step_words, piece_read, step_after, written_after};
 
 use host::answer::DONE;
-use stream::reader::{Event, read_piece};
+use stream::reader::{Whole, read_piece};
 use stream::state::{State, start};
 use stream::writer::write_message;
 
-// The state that the words hold; they are its words.
+// The state that the words hold; they are its words. Not `From`: State is of another crate, and so is an array.
 fn state_in(words: &[u64; 7]) -> State
     ensures value { result ≡ state_in words.now }
     ensures words_value { words.now ≡ words_of result }
@@ -37,15 +38,17 @@ fn put_state(s: State, words: &mut [u64; 7])
     ];
 }
 
-// The words of a step: bytes taken, kind of event, place and length of the message.
-fn put_step(taken: usize, event: Event, words: &mut [u64; 4])
-    ensures { words.new ≡ step_words taken event }
+// The words of a step without a refusal: bytes taken, whether a message became whole and where, its place and its length.
+fn put_step(taken: usize, whole: Option<Whole>, words: &mut [u64; 4])
+    ensures { words.new ≡ step_words taken (outcome_event (Ok whole)) }
 {
-    match event {
-        Event::NoMessage => *words = [taken as u64, 0, 0, 0],
-        Event::InPiece(at, size) => *words = [taken as u64, 1, at as u64, size as u64],
-        Event::InBuffer(size) => *words = [taken as u64, 2, 0, size as u64],
-    }
+    *words = match whole {
+        None => [taken as u64, 0, 0, 0],
+        Some(place) => match place {
+            Whole::InPiece(at, size) => [taken as u64, 1, at as u64, size as u64],
+            Whole::InBuffer(size) => [taken as u64, 2, 0, size as u64],
+        },
+    };
 }
 
 // A reader that has read nothing, whatever the words were.
@@ -72,13 +75,13 @@ pub fn gateway_stream_read(
     let before = state_in(state);
     let s = read_piece(before, buffer, piece);
     put_state(s.state, state);
-    let number = s.number;
-    if number != DONE {
-        return number;
+    match s.outcome {
+        Ok(whole) => {
+            put_step(s.taken, whole, step);
+            DONE
+        }
+        Err(refusal) => refusal.number(),
     }
-    let event = s.event;
-    put_step(s.taken, event, step);
-    DONE
 }
 
 // A message behind its session header at the start of the room; the length of both goes to written.
@@ -87,11 +90,11 @@ pub fn gateway_stream_write(message: &[u8], room: &mut [u8], written: &mut usize
     ensures room_after { room.new ≡ (write message.now room.old).room }
     ensures written_after { written.new ≡ written_after written.old (write message.now room.old).answer }
 {
-    let a = write_message(message, room);
-    let number = a.number;
-    if number != DONE {
-        return number;
+    match write_message(message, room) {
+        Ok(length) => {
+            *written = length;
+            DONE
+        }
+        Err(refusal) => refusal.number(),
     }
-    *written = a.length;
-    DONE
 }

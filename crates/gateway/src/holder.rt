@@ -3,15 +3,15 @@
 ghost use Rattle.std.specs.Prelude.{◌≡◌};
 ghost use Rattle.boundary.specs.Boundary.{holder_words};
 
-use message::refusal::HeldBy;
+use locks::types::Holder;
 
-// The holder's words: all zero where there is none.
-pub(crate) fn put_holder(who: HeldBy, words: &mut [u64; 6])
+// The holder's words: all zero where there is none. Not `From`: Holder is of another crate, and so is an array.
+pub(crate) fn put_holder(who: Option<Holder>, words: &mut [u64; 6])
     ensures { words.new ≡ holder_words who }
 {
     match who {
-        HeldBy::Nobody => *words = [0, 0, 0, 0, 0, 0],
-        HeldBy::Holder(h) => {
+        None => *words = [0, 0, 0, 0, 0, 0],
+        Some(h) => {
             let l = h.lock;
             *words = [
                 1,

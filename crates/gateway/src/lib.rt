@@ -4,6 +4,7 @@
 
 mod argument;
 pub mod byte_stream;
+mod given;
 mod holder;
 
 ghost use Rattle.std.specs.Prelude.{◌≡◌, true, replicate};
@@ -13,8 +14,9 @@ ghost use Rattle.tables.specs.Words.{tables_of};
 ghost use Rattle.boundary.specs.Boundary.{table_words, number_of, id_after, session_added, tree_added, open_added, connection_dropped, file_loaded, load_number_of, memory_after, catalogue_set, unchanged_asked, one_ended, message_taken, length_after, holder_after, ready, ForNext};
 
 use crate::argument::{to_number, to_small};
+use crate::given::hand_out;
 use crate::holder::put_holder;
-use host::answer::DONE;
+use host::answer::{DONE, number_of};
 use host::connection::drop_connection;
 use host::empty::empty_words;
 use host::ending::{One, end_one};
@@ -48,13 +50,8 @@ pub fn gateway_add_session(tables: &mut [u64; 1605], connection: u32, uid: &mut 
     ensures uid_after { uid.new ≡ id_after uid.old tables.old (session_added tables.old connection) }
     ensures for_next { ForNext tables.old tables.new result (session_added tables.old connection).tables }
 {
-    let a = add_session(tables, connection);
-    let number = a.number;
-    if number != DONE {
-        return number;
-    }
-    *uid = a.id;
-    DONE
+    let given = add_session(tables, connection);
+    hand_out(given, uid)
 }
 
 // A tree of a session; its TID goes to tid.
@@ -65,13 +62,8 @@ pub fn gateway_add_tree(tables: &mut [u64; 1605], uid: u32, right: u32, tid: &mu
 {
     let narrow_uid = to_number(uid);
     let narrow_right = to_small(right);
-    let a = add_tree(tables, narrow_uid, narrow_right);
-    let number = a.number;
-    if number != DONE {
-        return number;
-    }
-    *tid = a.id;
-    DONE
+    let given = add_tree(tables, narrow_uid, narrow_right);
+    hand_out(given, tid)
 }
 
 // An open of a file through a tree; its FID goes to fid.
@@ -92,7 +84,7 @@ pub fn gateway_add_open(
     let narrow_tid = to_number(tid);
     let narrow_file = to_small(file);
     let narrow_access = to_small(access);
-    let a = add_open(
+    let given = add_open(
         tables,
         narrow_uid,
         narrow_tid,
@@ -100,12 +92,7 @@ pub fn gateway_add_open(
         narrow_file,
         narrow_access,
     );
-    let number = a.number;
-    if number != DONE {
-        return number;
-    }
-    *fid = a.id;
-    DONE
+    hand_out(given, fid)
 }
 
 // The contents of a file that has no open, put into the file memory.
@@ -120,12 +107,7 @@ pub fn gateway_load_file(
     ensures for_next { ForNext tables.old tables.new result (file_loaded tables.old file contents.now memory.old).tables }
 {
     let narrow_file = to_small(file);
-    let a = load_file(tables, narrow_file, contents, memory);
-    let number = a.number;
-    if number != DONE {
-        return number;
-    }
-    DONE
+    number_of(load_file(tables, narrow_file, contents, memory))
 }
 
 // A connection has ended: its sessions go, each with what hangs on it.
@@ -133,12 +115,7 @@ pub fn gateway_drop_connection(tables: &mut [u64; 1605], connection: u32) -> u8
     ensures value { result ≡ number_of tables.old (connection_dropped tables.old connection) }
     ensures for_next { ForNext tables.old tables.new result (connection_dropped tables.old connection).tables }
 {
-    let a = drop_connection(tables, connection);
-    let number = a.number;
-    if number != DONE {
-        return number;
-    }
-    DONE
+    number_of(drop_connection(tables, connection))
 }
 
 // One session ended by its UID, with its trees, opens and locks.
@@ -147,12 +124,7 @@ pub fn gateway_end_session(tables: &mut [u64; 1605], uid: u32) -> u8
     ensures for_next { ForNext tables.old tables.new result (one_ended tables.old (OneSession uid)).tables }
 {
     let its_uid = to_number(uid);
-    let a = end_one(tables, One::Session(its_uid));
-    let number = a.number;
-    if number != DONE {
-        return number;
-    }
-    DONE
+    number_of(end_one(tables, One::Session(its_uid)))
 }
 
 // One tree ended by its TID, with its opens and their locks.
@@ -161,12 +133,7 @@ pub fn gateway_end_tree(tables: &mut [u64; 1605], tid: u32) -> u8
     ensures for_next { ForNext tables.old tables.new result (one_ended tables.old (OneTree tid)).tables }
 {
     let its_tid = to_number(tid);
-    let a = end_one(tables, One::Tree(its_tid));
-    let number = a.number;
-    if number != DONE {
-        return number;
-    }
-    DONE
+    number_of(end_one(tables, One::Tree(its_tid)))
 }
 
 // One open ended by its FID, with its locks.
@@ -175,12 +142,7 @@ pub fn gateway_end_open(tables: &mut [u64; 1605], fid: u32) -> u8
     ensures for_next { ForNext tables.old tables.new result (one_ended tables.old (OneOpen fid)).tables }
 {
     let its_fid = to_number(fid);
-    let a = end_one(tables, One::Open(its_fid));
-    let number = a.number;
-    if number != DONE {
-        return number;
-    }
-    DONE
+    number_of(end_one(tables, One::Open(its_fid)))
 }
 
 // The catalogue, set whole: 225 words, a count and 16 names of 14 words each.
@@ -188,12 +150,7 @@ pub fn gateway_set_catalogue(tables: &mut [u64; 1605], catalogue: &[u64; 225]) -
     ensures value { result ≡ number_of tables.old (catalogue_set tables.old catalogue.now) }
     ensures for_next { ForNext tables.old tables.new result (catalogue_set tables.old catalogue.now).tables }
 {
-    let a = set_catalogue(tables, catalogue);
-    let number = a.number;
-    if number != DONE {
-        return number;
-    }
-    DONE
+    number_of(set_catalogue(tables, catalogue))
 }
 
 // Whether an open has read and its file was not changed since, as far as the change numbers tell (document 02, CR 8): 1 goes to unchanged for "unchanged", 0 for "changed". The
@@ -203,13 +160,8 @@ pub fn gateway_unchanged(tables: &[u64; 1605], fid: u32, unchanged: &mut u16) ->
     ensures unchanged_after { unchanged.new ≡ id_after unchanged.old tables.now (unchanged_asked tables.now fid) }
 {
     let narrow_fid = to_number(fid);
-    let a = ask_unchanged(tables, narrow_fid);
-    let number = a.number;
-    if number != DONE {
-        return number;
-    }
-    *unchanged = a.id;
-    DONE
+    let given = ask_unchanged(tables, narrow_fid);
+    hand_out(given, unchanged)
 }
 
 // A request message of a connection. The reply goes to the start of the room, its length to written, and who holds the lock in its way
@@ -230,13 +182,12 @@ pub fn gateway_take_message(
     ensures holder_after { holder.new ≡ holder_after holder.old (message_taken connection message.now tables.old memory.old room.old) }
     ensures for_next { ForNext tables.old tables.new result (message_taken connection message.now tables.old memory.old room.old).tables }
 {
-    let taken = take_message(connection, message, tables, memory, room);
-    let number = taken.number;
-    if number != DONE {
-        return number;
+    match take_message(connection, message, tables, memory, room) {
+        Ok(taken) => {
+            *written = taken.length;
+            put_holder(taken.holder, holder);
+            DONE
+        }
+        Err(why) => why.number(),
     }
-    *written = taken.length;
-    let who = taken.holder;
-    put_holder(who, holder);
-    DONE
 }

@@ -1,5 +1,5 @@
 // The gateway's functions for a C program (include/gateway.h), under their own names: each calls the function of `gateway` of its name and
-// promises what that promises.
+// promises what that promises. A function for each name: the C interface.
 #![tactic(auto)]
 
 mod byte_stream;

@@ -1,9 +1,8 @@
 -- The line of a call: its number, the number given out or the reply's length, the reply in hex, the digest, and the holder. A space is 32,
 -- a newline 10. Assumes nothing.
-use Rattle.std.specs.Prelude.{ℕ, List, [], ◌∷◌, ◌++◌}
+use Rattle.std.specs.Prelude.{ℕ, List, [], ◌∷◌, ◌++◌, None as Nobody, Some as held_by}
 use Rattle.text.specs.Digits.{decimal, number_text, hex_bytes}
-use Rattle.message.specs.declared.refusal.HeldBy.{HeldBy}
-use Rattle.message.specs.declared.refusal.HeldBy.TheVariants.{Nobody, Holder as held_by}
+use Rattle.message.specs.HeldBy.{HeldBy}
 
 -- FID, process, place in the list as it then stood, offset and length of the lock in the way (document 02, CR 2); nothing where there is none
 unfoldable pub holder_text : HeldBy → List ℕ

@@ -3,16 +3,16 @@
 ghost use Rattle.text.specs.Over.{Written};
 ghost use Rattle.replay.specs.Line.{holder_text, call_line};
 
-use message::refusal::HeldBy;
+use locks::types::Holder;
 use text::{put_decimal, put_hex_bytes, put_number, put_text};
 
 // Who holds the lock in the way (document 02, CR 2): FID, process, place, offset and length, or nothing.
-fn put_held_by(text: &mut [u8], at: usize, who: HeldBy) -> usize
+fn put_held_by(text: &mut [u8], at: usize, who: Option<Holder>) -> usize
     ensures { Written text.old at (holder_text who) text.new result }
 {
     match who {
-        HeldBy::Nobody => at,
-        HeldBy::Holder(h) => {
+        None => at,
+        Some(h) => {
             let l = h.lock;
             let a1 = put_number(text, at, l.fid as usize);
             let a2 = put_number(text, a1, l.process as usize);
@@ -30,7 +30,7 @@ pub(crate) fn put_line(
     value: usize,
     reply: &[u8],
     digest: usize,
-    who: HeldBy,
+    who: Option<Holder>,
 ) -> usize
     ensures { Written text.old 0 (call_line number value reply.now digest who) text.new result }
 {

@@ -13,7 +13,8 @@ use host::empty::empty_words;
 use input::read_full;
 use std::io;
 
-// The whole history, call by call.
+// The whole history, call by call: each says where the next one stands, so it is no `for`. The buffers are of fixed size, as the host lends
+// them.
 fn replay(
     rt: &impl Print,
     history: &[u8],

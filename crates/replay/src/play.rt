@@ -14,7 +14,7 @@ ghost use Rattle.std.specs.Prelude.{◌≡◌, ◌≤◌, ◌<◌, length};
 
 use crate::line::put_line;
 use digest::state_digest;
-use host::answer::Row;
+use host::answer::{Given, number_of};
 use host::connection::drop_connection;
 use host::ending::{One, end_one};
 use host::file::load_file;
@@ -23,11 +23,43 @@ use host::open::add_open;
 use host::session::add_session;
 use host::tree::add_tree;
 use host::unchanged::ask_unchanged;
-use message::refusal::HeldBy;
-use numbers::number::at_most;
 use sample::names::catalogue_words;
 use server::call::take_message;
 use wire::{byte_at, le16_at, le32_at};
+
+// What a call of a history is.
+#[derive(Clone, Copy)]
+enum CallKind {
+    AddSession,
+    AddTree,
+    AddOpen,
+    LoadFile,
+    DropConnection,
+    TakeMessage,
+    SetCatalogue,
+    AskUnchanged,
+    EndSession,
+    EndTree,
+    EndOpen,
+}
+
+// The kind of a call by its first byte.
+fn kind_of(first: u8) -> Option<CallKind> {
+    match first {
+        1 => Some(CallKind::AddSession),
+        2 => Some(CallKind::AddTree),
+        3 => Some(CallKind::AddOpen),
+        4 => Some(CallKind::LoadFile),
+        5 => Some(CallKind::DropConnection),
+        6 => Some(CallKind::TakeMessage),
+        7 => Some(CallKind::SetCatalogue),
+        8 => Some(CallKind::AskUnchanged),
+        9 => Some(CallKind::EndSession),
+        10 => Some(CallKind::EndTree),
+        11 => Some(CallKind::EndOpen),
+        _ => None,
+    }
+}
 
 // Where the next call stands, and how long this one's line is. What it left is in the words and the file memory.
 #[derive(Clone, Copy)]
@@ -36,12 +68,21 @@ pub(crate) struct Step {
     pub length: usize,
 }
 
+// The words, the memory, the room and the text are lent apart, as a C host lends them.
+
 // A host call carried out, and its line.
-fn host_step(o: Row, next: usize, words: &[u64], memory: &[u8], text: &mut [u8]) -> Step
+fn host_step(given: Given, next: usize, words: &[u64], memory: &[u8], text: &mut [u8]) -> Step
     ensures { (result.next ≡ next) × (result.length ≤ length text.new) }
 {
     let digest = state_digest(words, memory) as usize;
-    let length = put_line(text, o.number, o.id as usize, b"", digest, HeldBy::Nobody);
+    let length = put_line(
+        text,
+        number_of(given),
+        given.unwrap_or(0) as usize,
+        b"",
+        digest,
+        None,
+    );
     Step { next, length }
 }
 
@@ -58,8 +99,8 @@ fn load_step(
     ensures { (at < result.next) × (result.length ≤ length text.new) }
 {
     let next = at + 4 + le16_at(s, at + 2) as usize;
-    let to = at_most(next, s.len());
-    let from = at_most(at + 4, to);
+    let to = next.min(s.len());
+    let from = (at + 4).min(to);
     let o = load_file(words, byte_at(s, at + 1), &s[from..to], memory);
     host_step(o, next, words, memory, text)
 }
@@ -78,13 +119,16 @@ fn message_step(
     ensures { (at < result.next) × (result.length ≤ length text.new) }
 {
     let next = at + 7 + le16_at(s, at + 5) as usize;
-    let to = at_most(next, s.len());
-    let from = at_most(at + 7, to);
+    let to = next.min(s.len());
+    let from = (at + 7).min(to);
     let taken = take_message(le32_at(s, at + 1), &s[from..to], words, memory, room);
+    let (number, written, who) = match taken {
+        Ok(taken) => (0, taken.length, taken.holder),
+        Err(why) => (why.number(), 0, None),
+    };
     let digest = state_digest(words, memory) as usize;
-    let size = at_most(taken.length, room.len());
-    let who = taken.holder;
-    let length = put_line(text, taken.number, taken.length, &room[..size], digest, who);
+    let size = written.min(room.len());
+    let length = put_line(text, number, written, &room[..size], digest, who);
     Step { next, length }
 }
 
@@ -138,64 +182,65 @@ pub(crate) fn play(
     requires s_len_bound { length s.now ≤ 262144 }
     ensures { (at < result.next) × (result.length ≤ length text.new) }
 {
-    let kind = byte_at(s, at);
+    let Some(kind) = kind_of(byte_at(s, at)) else {
+        return Step {
+            next: at + 1,
+            length: 0,
+        };
+    };
     match kind {
-        1 => host_step(
+        CallKind::AddSession => host_step(
             add_session(words, le32_at(s, at + 1)),
             at + 5,
             words,
             memory,
             text,
         ),
-        2 => host_step(
+        CallKind::AddTree => host_step(
             add_tree(words, le16_at(s, at + 1), byte_at(s, at + 3)),
             at + 4,
             words,
             memory,
             text,
         ),
-        3 => open_step(s, at, words, memory, text),
-        4 => load_step(s, at, words, memory, text),
-        5 => host_step(
+        CallKind::AddOpen => open_step(s, at, words, memory, text),
+        CallKind::LoadFile => load_step(s, at, words, memory, text),
+        CallKind::DropConnection => host_step(
             drop_connection(words, le32_at(s, at + 1)),
             at + 5,
             words,
             memory,
             text,
         ),
-        6 => message_step(s, at, words, memory, room, text),
-        7 => catalogue_step(s, at, words, memory, text),
-        8 => host_step(
+        CallKind::TakeMessage => message_step(s, at, words, memory, room, text),
+        CallKind::SetCatalogue => catalogue_step(s, at, words, memory, text),
+        CallKind::AskUnchanged => host_step(
             ask_unchanged(words, le16_at(s, at + 1)),
             at + 3,
             words,
             memory,
             text,
         ),
-        9 => host_step(
+        CallKind::EndSession => host_step(
             end_one(words, One::Session(le16_at(s, at + 1))),
             at + 3,
             words,
             memory,
             text,
         ),
-        10 => host_step(
+        CallKind::EndTree => host_step(
             end_one(words, One::Tree(le16_at(s, at + 1))),
             at + 3,
             words,
             memory,
             text,
         ),
-        11 => host_step(
+        CallKind::EndOpen => host_step(
             end_one(words, One::Open(le16_at(s, at + 1))),
             at + 3,
             words,
             memory,
             text,
         ),
-        _ => Step {
-            next: at + 1,
-            length: 0,
-        },
     }
 }

@@ -2,8 +2,6 @@
 
 ghost use Rattle.std.specs.Prelude.{◌≤◌};
 
-use numbers::number::at_most;
-
 // "a TCP stream cuts where it likes": here a piece has so many bytes at most.
 const LONGEST_PIECE: usize = 120;
 
@@ -22,7 +20,7 @@ fn cut_at(at: usize, size: usize, length: usize) -> Cut
 {
     Cut {
         at,
-        end: at + at_most(size, length - at),
+        end: at + size.min(length - at),
         size,
     }
 }
@@ -39,7 +37,7 @@ pub(crate) fn next_cut(cut: Cut, taken: usize, length: usize) -> Cut
     requires end_in_bounds { cut.end ≤ length }
     ensures { (result.at ≤ result.end) × (result.end ≤ length) }
 {
-    let at = cut.at + at_most(taken, cut.end - cut.at);
+    let at = cut.at + taken.min(cut.end - cut.at);
     if at < cut.end {
         return Cut {
             at,

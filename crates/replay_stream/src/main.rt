@@ -29,15 +29,19 @@ fn replay(
 {
     let mut cut = first_cut(stream.len());
     let mut state = start();
-    let mut number: u8 = 0;
+    let mut refusal = None;
     for _ in 0..=stream.len() {
         let at = cut.at;
         let end = cut.end;
         let played = play_piece(rt, state, &stream[at..end], buffer, words, memory)?;
         state = played.state;
-        number = played.number;
+        refusal = played.refusal;
         cut = next_cut(cut, played.taken, stream.len());
     }
+    let number = match refusal {
+        None => 0,
+        Some(why) => why.number(),
+    };
     print_end(rt, number, state, state_digest(words, memory) as usize)
 }
 

@@ -5,19 +5,19 @@ use digest::digest_bytes;
 use host::file::load_file;
 use host::names::set_catalogue;
 use host::open::add_open;
-use numbers::number::at_most;
 use sample::names::catalogue_words;
 use sample::{CONNECTION, one_terminal};
 use server::call::take_message;
 use std::io;
-use stream::reader::{Event, read_piece};
+use stream::header::StreamRefusal;
+use stream::reader::{Whole, read_piece};
 use stream::state::State;
 use stream::writer::write_message;
 
-// What a piece gave: the reader's number, the bytes taken and the state for the next.
+// What a piece gave: why the reader refused, if it did, the bytes taken and the state for the next.
 #[derive(Clone, Copy)]
 pub(crate) struct Played {
-    pub number: u8,
+    pub refusal: Option<StreamRefusal>,
     pub taken: usize,
     pub state: State,
 }
@@ -33,21 +33,18 @@ fn three_names() -> [u64; 225] {
 // The small gateway, with a second open of file 0, of process 8, one of file 1 for reading, and names to open files by.
 pub(crate) fn set_up(words: &mut [u64; 1605], memory: &mut [u8; 65536]) {
     one_terminal(words, memory);
-    load_file(words, 1, b"0017 0042 0311 0768", memory);
-    add_open(words, 1, 1, 8, 0, 2);
-    add_open(words, 1, 1, 7, 1, 0);
+    let _ = load_file(words, 1, b"0017 0042 0311 0768", memory);
+    let _ = add_open(words, 1, 1, 8, 0, 2);
+    let _ = add_open(words, 1, 1, 7, 1, 0);
     let given = three_names();
-    set_catalogue(words, &given);
+    let _ = set_catalogue(words, &given);
 }
 
-// The digest of a reply behind its header; 0 where there is none.
-fn frame_digest(number: u8, reply: &[u8]) -> u64 {
-    if number != 0 {
-        return 0;
-    }
+// The digest of a reply behind its header.
+fn frame_digest(reply: &[u8]) -> u64 {
     let mut frame = [0u8; 12296];
-    let written = write_message(reply, &mut frame);
-    let size = at_most(written.length, 12296);
+    let written = write_message(reply, &mut frame).unwrap_or(0);
+    let size = written.min(12296);
     digest_bytes(0, &frame[..size])
 }
 
@@ -60,15 +57,15 @@ fn play_message(
 ) -> io::Result<()> {
     let mut room = [0u8; 12292];
     let taken = take_message(CONNECTION, message, words, memory, &mut room);
-    let size = at_most(taken.length, 12292);
-    let digest = frame_digest(taken.number, &room[..size]);
-    print_message(
-        rt,
-        message.len(),
-        taken.number,
-        taken.length,
-        digest as usize,
-    )
+    match taken {
+        Ok(taken) => {
+            let written = taken.length;
+            let size = written.min(12292);
+            let digest = frame_digest(&room[..size]);
+            print_message(rt, message.len(), 0, written, digest as usize)
+        }
+        Err(why) => print_message(rt, message.len(), why.number(), 0, 0),
+    }
 }
 
 // A message that stands from a place on, in the piece or in the buffer.
@@ -80,8 +77,8 @@ fn play_at(
     words: &mut [u64; 1605],
     memory: &mut [u8; 65536],
 ) -> io::Result<()> {
-    let from = at_most(at, bytes.len());
-    let to = from + at_most(size, bytes.len() - from);
+    let from = at.min(bytes.len());
+    let to = from + size.min(bytes.len() - from);
     play_message(rt, &bytes[from..to], words, memory)
 }
 
@@ -94,16 +91,21 @@ pub(crate) fn play_piece(
     memory: &mut [u8; 65536],
 ) -> io::Result<Played> {
     let step = read_piece(state, buffer, piece);
-    let event = step.event;
-    match event {
-        Event::NoMessage => {}
-        Event::InPiece(at, size) => play_at(rt, piece, at, size, words, memory)?,
-        Event::InBuffer(size) => play_at(rt, buffer, 0, size, words, memory)?,
-    }
-    let next = step.state;
+    let refusal = match step.outcome {
+        Ok(whole) => {
+            if let Some(place) = whole {
+                match place {
+                    Whole::InPiece(at, size) => play_at(rt, piece, at, size, words, memory)?,
+                    Whole::InBuffer(size) => play_at(rt, buffer, 0, size, words, memory)?,
+                }
+            }
+            None
+        }
+        Err(refusal) => Some(refusal),
+    };
     Ok(Played {
-        number: step.number,
+        refusal,
         taken: step.taken,
-        state: next,
+        state: step.state,
     })
 }

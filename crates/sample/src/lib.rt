@@ -28,8 +28,9 @@ pub fn one_terminal(words: &mut [u64; 1605], memory: &mut [u8])
     let list =
         b"Certificates revoked by the office, one to a line, as of this morning: 0017 0042 0311 0768 0901 1024 1183 1399 1777 2048";
     empty_words(words);
-    load_file(words, 0, list, memory);
-    add_session(words, CONNECTION);
-    add_tree(words, 1, 1);
-    add_open(words, 1, 1, 7, 0, 2);
+    // None of these is refused: the tables left have all four.
+    let _ = load_file(words, 0, list, memory);
+    let _ = add_session(words, CONNECTION);
+    let _ = add_tree(words, 1, 1);
+    let _ = add_open(words, 1, 1, 7, 0, 2);
 }

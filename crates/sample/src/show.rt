@@ -3,7 +3,6 @@
 ghost use Rattle.text.specs.Over.{Written};
 ghost use Rattle.sample.specs.Shown.{answer_text, status_text};
 
-use numbers::number::at_most;
 use text::{put_decimal, put_hex_bytes, put_text};
 
 // A call's number, its reply's length, and the reply in hex.
@@ -15,7 +14,7 @@ pub fn put_answer(text: &mut [u8], at: usize, number: u8, length: usize, room: &
     let a3 = put_text(text, a2, b"\nlength ");
     let a4 = put_decimal(text, a3, length);
     let a5 = put_text(text, a4, b"\nreply ");
-    let n = at_most(length, room.len());
+    let n = length.min(room.len());
     let a6 = put_hex_bytes(text, a5, &room[..n]);
     put_text(text, a6, b"\n")
 }

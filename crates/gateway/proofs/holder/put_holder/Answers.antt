@@ -2,10 +2,10 @@
 use Rattle.boundary.specs.Boundary.{holder_words}
 use Rattle.gateway.proofs.holder.put_holder.Goals as goal
 
-pub returns-in-Nobody : goal.returns-in-Nobody
+pub returns-in-None : goal.returns-in-None
 unfolding holder_words
-returns-in-Nobody c = rw c.in-Nobody.is
+returns-in-None c = rw c.in-None.is
 
-pub returns-in-Holder : goal.returns-in-Holder
+pub returns-in-Some : goal.returns-in-Some
 unfolding holder_words
-returns-in-Holder c = rw c.in-Holder.is
+returns-in-Some c = rw c.in-Some.is

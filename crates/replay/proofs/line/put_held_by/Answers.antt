@@ -3,14 +3,14 @@ use Rattle.text.specs.Overlaid.{written-nothing, written_then}
 use Rattle.replay.specs.Line.{holder_text}
 use Rattle.replay.proofs.line.put_held_by.Goals as goal
 
-pub returns-in-Nobody : goal.returns-in-Nobody
+pub returns-in-None : goal.returns-in-None
 unfolding holder_text
-returns-in-Nobody c = rw c.in-Nobody.is (written-nothing _ _)
+returns-in-None c = rw c.in-None.is (written-nothing _ _)
 
-pub returns-in-Holder : goal.returns-in-Holder
+pub returns-in-Some : goal.returns-in-Some
 unfolding holder_text
-returns-in-Holder c =
-    rw c.in-Holder.is
+returns-in-Some c =
+    rw c.in-Some.is
     (written_then c.put_number-a1.ensures
     (written_then c.put_number-a2.ensures
     (written_then c.put_number-a3.ensures

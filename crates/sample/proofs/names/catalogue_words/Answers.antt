@@ -21,19 +21,17 @@ length-fresh = length-replicate {A = ℕ} 225 0
 pub loop-i-init : goal.loop-i-init
 loop-i-init c =
     let args = c.args in
-    (omega arith, filled_none (λ k. byte_at args.s.now (args.at + k)) fresh)
+    filled_none (λ k. byte_at args.s.now (args.at + k)) fresh
 
 pub loop-i-preserved : goal.loop-i-preserved
 loop-i-preserved c =
     let args = c.args in
     let loop = c.loop-i in
     let byte : ℕ → ℕ = λ k. byte_at args.s.now (args.at + k) in
-    let long = length-fresh in (
-      omega arith,
-      ap (λ (l : List ℕ). set l loop.i c.wide.result) loop.invariant.1
-          ∙ ap (set (filled byte fresh loop.i) loop.i) (c.wide.ensures ∙ c.byte_at.ensures)
-          ∙ filled_more byte fresh loop.i (omega arith),
-    )
+    let long = length-fresh in
+    ap (λ (l : List ℕ). set l loop.i c.from.result) loop.invariant
+    ∙ ap (set (filled byte fresh loop.i) loop.i) (c.from.ensures ∙ c.byte_at.ensures)
+    ∙ filled_more byte fresh loop.i (omega arith)
 
 pub returns : goal.returns
 unfolding catalogue_words
@@ -41,6 +39,6 @@ returns c =
     let args = c.args in
     let loop = c.loop-i in
     let byte : ℕ → ℕ = λ k. byte_at args.s.now (args.at + k) in
-    let all : loop.i ≡ 225 = omega (arith, loop.invariant.0) in
+    let all : loop.i ≡ 225 = omega arith in
     let long = length-fresh in
-    loop.invariant.1 ∙ filled-all byte fresh loop.i (omega arith) ∙ ap (up_to byte) all
+    loop.invariant ∙ filled-all byte fresh loop.i (omega arith) ∙ ap (up_to byte) all

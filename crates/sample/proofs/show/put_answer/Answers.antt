@@ -13,7 +13,7 @@ use Rattle.sample.proofs.show.put_answer.Goals as goal
 pub slice_bounds-put_hex_bytes-end : goal.slice_bounds-put_hex_bytes-end
 slice_bounds-put_hex_bytes-end c =
     let args = c.args in
-    sym (length-take-le c.at_most-n.result args.room.now (omega (arith, c.at_most-n.ensures)))
+    sym (length-take-le c.min-n.result args.room.now (omega (arith, c.min-n.ensures)))
 
 pub returns : goal.returns
 unfolding answer_text
@@ -24,9 +24,9 @@ returns c =
     let put-text2 = c.put_text-a3 in
     let put-decimal2 = c.put_decimal-a4 in
     let put-text3 = c.put_text-a5 in
-    let at_most = c.at_most-n in
+    let cut = c.min-n in
     let put-hex-bytes = c.put_hex_bytes-a6 in
-    let same = ap (λ (n : ℕ). take n args.room.now) at_most.ensures ∙ take-most args.room.now args.length (length args.room.now) refl in
+    let same = ap (λ (n : ℕ). take n args.room.now) cut.ensures ∙ take-most args.room.now args.length (length args.room.now) refl in
     rw (← same)
     (written_then put-text.ensures
     (written_then put-decimal.ensures
