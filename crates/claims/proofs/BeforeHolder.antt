@@ -1,9 +1,8 @@
 -- Of specs/BeforeHolder.antt: what rests on its other theorems. Assumes nothing.
-use Rattle.std.specs.Prelude.{◌≡◌, ℕ, ◌+◌, ◌*◌, ◌/◌, ◌%◌, ◌<◌, Bool, false, not, ◌||◌, length, drop, ltb, eqb}
+use Rattle.std.specs.Prelude.{◌≡◌, ℕ, ◌+◌, ◌*◌, ◌/◌, ◌%◌, ◌<◌, Bool, false, not, ◌||◌, length, drop, ltb, eqb, Option, None, Some}
 use Rattle.std.proofs.Math.Path.{refl}
 use Rattle.std.proofs.Common.{◌∙◌, ap, arith}
 use mathlib.Core.List.{List, [], ◌∷◌}
-use Rattle.std.proofs.Math.Option.{Option, none, some}
 use Rattle.lists.specs.Walk.{any}
 use Rattle.wire.specs.LittleEndian.{byte_at}
 use Rattle.records.specs.declared.Lock.{Lock}
@@ -44,8 +43,8 @@ module _ (t : Tables) (memory : List ℕ) where
   pub releases-before : (fid : ℕ) (shared : Bool) (locks : List LockRange) (o : Option (List Lock))
       → after_releases_before t memory fid shared locks o ≡ (result_gives t memory) (after_releases (file_of (opens_of t)) fid shared locks o)
   unfolding after_releases_before after_releases result_gives plainly onward locking_after settle locking_end forms_of
-  releases-before fid shared locks none = refl
-  releases-before fid shared locks (some list) = chosen (result_gives t memory) (any range_passes locks) refl ((grants-before t memory) fid shared locks list)
+  releases-before fid shared locks None = refl
+  releases-before fid shared locks (Some list) = chosen (result_gives t memory) (any range_passes locks) refl ((grants-before t memory) fid shared locks list)
 
   -- the request as a whole
   pub request-before : (q : Request) (area : List ℕ)
@@ -109,8 +108,8 @@ run-before c s just (b ∷ bs) place t memory =
 pub chain-before : (c : Caller) (s : List ℕ) (o : Option (List Block)) (t : Tables) (memory : List ℕ)
     → chain_before c s o t memory ≡ ran_without (run_chain c s o t memory)
 unfolding chain_before run_chain only_status refused_before ran_without forms_of
-chain-before c s none t memory = refl
-chain-before c s (some bs) t memory = run-before c s NOBODY bs FIRST t memory
+chain-before c s None t memory = refl
+chain-before c s (Some bs) t memory = run-before c s NOBODY bs FIRST t memory
 
 pub answered-before : (connection : ℕ) (s : List ℕ) (t : Tables) (memory : List ℕ)
     → answered_before connection s t memory ≡ ran_without (answered connection s t memory)

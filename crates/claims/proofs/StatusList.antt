@@ -11,7 +11,7 @@ use Rattle.lists.specs.Members.{all-each}
 use Rattle.message.specs.Refusal.{status, success, forms_of, status_of, nt_of}
 use Rattle.message.specs.declared.refusal.Status.{Status}
 use Rattle.message.specs.declared.refusal.Forms.{Forms}
-use Rattle.message.specs.declared.refusal.HeldBy.{HeldBy}
+use Rattle.message.specs.HeldBy.{HeldBy}
 use Rattle.message.specs.declared.refusal.Refusal.{Refusal}
 use Rattle.message.specs.declared.refusal.Refusal.TheVariants.{LockNotGranted}
 use Rattle.claims.specs.StatusList.{Ended, FormsSay, FoundIn, RowSays, alike_same, as_one, as_one_lem, found_in, listed, lock-codes-read, pair_test, pairs-tested, read_nt, row_test, rows-tested, same-status, same_status, some_holder, status-same, status_list, zero-read}

@@ -5,7 +5,7 @@ use mathlib.Core.List.{List, ◌++◌}
 use Rattle.std.proofs.lemmas.Bool.{eqb-false}
 use Rattle.lists.specs.Truth.{test-cases, fails}
 use Rattle.stream.specs.declared.state.State.{State}
-use Rattle.stream.specs.declared.reader.Event.TheVariants.{NoMessage}
+use Rattle.stream.specs.Reader.{NoMessage}
 use Rattle.stream.specs.Stream.{first}
 use Rattle.stream.specs.State.{pending, is_left}
 use Rattle.stream.specs.Reader.{step_of, refused, read}

@@ -1,14 +1,12 @@
 -- The question whether a file has changed (document 02, CR 8): "A host call answers "unchanged" exactly if the open has read, the numbers are equal and below the largest;
 -- otherwise "changed". .. Refusals: 6 for an unknown FID, after 4." Assumes nothing.
-use Rattle.std.specs.Prelude.{◌≡◌, ◌↔◌, ℕ, ◌<◌, Bool, cond, not, get_or, ltb, eqb}
+use Rattle.std.specs.Prelude.{◌≡◌, ◌↔◌, ℕ, ◌<◌, Bool, cond, not, get_or, ltb, eqb, Option, Some, None}
 use Rattle.std.proofs.Math.Path.{refl, sym, ap}
 use Rattle.std.proofs.Common.{◌∙◌, arith, eqb-true, eq-eqb, ltb-true, lt-ltb}
 use Rattle.std.proofs.Math.Bool.{true, false}
 use mathlib.Core.List.{Memᴰ as In}
 use Rattle.lists.specs.Truth.{both_hold, hold-both, not-decided-twice, test-cases}
 use Rattle.lists.specs.Walk.{found}
-use Rattle.lists.specs.declared.Found.{Found}
-use Rattle.lists.specs.declared.Found.TheVariants.{At, Nothing}
 use Rattle.records.specs.declared.Open.{Open}
 use Rattle.records.specs.declared.Tables.{Tables}
 use Rattle.records.specs.Change.{LARGEST, changes_of}
@@ -49,16 +47,16 @@ module _ (t : Tables) (fid : ℕ) where
   unfoldable pub has-fid : Open → Bool
   has-fid o = eqb o.fid fid
 
-  pub asked_of : (f : Found) → found has-fid (opens_of t) ≡ f → sound t ≡ true → AskReason t fid (unchanged_at t f).number
+  pub asked_of : (f : Option ℕ) → found has-fid (opens_of t) ≡ f → sound t ≡ true → AskReason t fid (unchanged_at t f).number
   unfolding unchanged_at refused done has-fid
-  asked_of (At k) e s = let h = found-hit has-fid (opens_of t) k no_open e in ask-done s (get_or (opens_of t) k no_open) h.listed (eqb-true (get_or (opens_of t) k no_open).fid fid h.passes)
-  asked_of Nothing e s = ask-unknown s (λ o m q. not-decided-twice (eqb o.fid fid) (eq-eqb o.fid fid q) (found-miss has-fid m e))
+  asked_of (Some k) e s = let h = found-hit has-fid (opens_of t) k no_open e in ask-done s (get_or (opens_of t) k no_open) h.listed (eqb-true (get_or (opens_of t) k no_open).fid fid h.passes)
+  asked_of None e s = ask-unknown s (λ o m q. not-decided-twice (eqb o.fid fid) (eq-eqb o.fid fid q) (found-miss has-fid m e))
 
   -- it changes nothing
-  at-stands : (f : Found) → (unchanged_at t f).tables ≡ t
+  at-stands : (f : Option ℕ) → (unchanged_at t f).tables ≡ t
   unfolding unchanged_at refused done
-  at-stands (At k) = refl
-  at-stands Nothing = refl
+  at-stands (Some k) = refl
+  at-stands None = refl
 
   cond-stands : (b : Bool) (a : Returned) → a.tables ≡ t → (cond b (refused 4 t) a).tables ≡ t
   unfolding refused
@@ -70,10 +68,10 @@ module _ (t : Tables) (fid : ℕ) where
   ask-stands = cond-stands (not (sound t)) _ (at-stands _)
 
   -- the number beside a refusal is 0, so it never says "unchanged"
-  at-refused : (f : Found) → ((unchanged_at t f).number ≡ 0 → ⊥) → (unchanged_at t f).id ≡ 0
+  at-refused : (f : Option ℕ) → ((unchanged_at t f).number ≡ 0 → ⊥) → (unchanged_at t f).id ≡ 0
   unfolding unchanged_at refused done
-  at-refused (At k) n = absurd (n refl)
-  at-refused Nothing n = refl
+  at-refused (Some k) n = absurd (n refl)
+  at-refused None n = refl
 
   cond-refused : (b : Bool) (a : Returned) → ((a.number ≡ 0 → ⊥) → a.id ≡ 0) → ((cond b (refused 4 t) a).number ≡ 0 → ⊥) → (cond b (refused 4 t) a).id ≡ 0
   unfolding refused
@@ -85,13 +83,13 @@ module _ (t : Tables) (fid : ℕ) where
   ask-refused = cond-refused (not (sound t)) _ (at-refused _)
 
   module _ (s : sound t ≡ true) (o : Open) (listed : In o (opens_of t)) (named : o.fid ≡ fid) where
-    at_open : (f : Found) → found has-fid (opens_of t) ≡ f → unchanged_at t f ≡ done (cond (is_unchanged t o) 1 0) t
+    at_open : (f : Option ℕ) → found has-fid (opens_of t) ≡ f → unchanged_at t f ≡ done (cond (is_unchanged t o) 1 0) t
     unfolding unchanged_at has-fid
-    at_open (At k) e =
+    at_open (Some k) e =
         let h = found-hit has-fid (opens_of t) k no_open e in
         let same = numbered-same fid_of 64 (opens_of t) (sound-says t s).records.fids h.listed listed (eqb-true (get_or (opens_of t) k no_open).fid fid h.passes ∙ sym named) in
         ap (λ (x : Open). done (cond (is_unchanged t x) 1 0) t) same
-    at_open Nothing e = absurd (not-decided-twice (eqb o.fid fid) (eq-eqb o.fid fid named) (found-miss has-fid listed e))
+    at_open None e = absurd (not-decided-twice (eqb o.fid fid) (eq-eqb o.fid fid named) (found-miss has-fid listed e))
 
     -- the open of that FID is asked about
     pub ask-open : ask_unchanged t fid ≡ done (cond (is_unchanged t o) 1 0) t
@@ -99,12 +97,12 @@ module _ (t : Tables) (fid : ℕ) where
     ask-open = rw s (at_open (found has-fid (opens_of t)) refl)
 
 -- a FID that no open has
-at_none : (t : Tables) (fid : ℕ) (f : Found) → found (λ o. eqb o.fid fid) (opens_of t) ≡ f → ((o : Open) → In o (opens_of t) → o.fid ≡ fid → ⊥) → (unchanged_at t f).number ≡ 6
+at_none : (t : Tables) (fid : ℕ) (f : Option ℕ) → found (λ o. eqb o.fid fid) (opens_of t) ≡ f → ((o : Open) → In o (opens_of t) → o.fid ≡ fid → ⊥) → (unchanged_at t f).number ≡ 6
 unfolding unchanged_at refused
-at_none t fid (At k) e none =
+at_none t fid (Some k) e none =
     let h = found-hit (λ (o : Open). eqb o.fid fid) (opens_of t) k no_open e in
     absurd (none (get_or (opens_of t) k no_open) h.listed (eqb-true (get_or (opens_of t) k no_open).fid fid h.passes))
-at_none t fid Nothing e none = refl
+at_none t fid None e none = refl
 
 -- each reason gives its number
 pub ask-given : (t : Tables) (fid : ℕ) {n : ℕ} → AskReason t fid n → (ask_unchanged t fid).number ≡ n

@@ -1,14 +1,12 @@
 -- Document 02, CR 2: "The reply bytes do not change." What a message gives, the holder left out, is what it gives where a conflict is yes or no and Status has one form
 -- (YesOrNo.antt): number, reply, tables and files, of every message without CR 7's bit; and of every message at all but the reply's Status and that bit. Assumes nothing.
-use Rattle.std.specs.Prelude.{◌≡◌, ℕ, zero, suc, ◌+◌, ◌<◌, Bool, true, false, cond, ◌||◌, length, get_or, set, leb, eqb}
+use Rattle.std.specs.Prelude.{◌≡◌, ℕ, zero, suc, ◌+◌, ◌<◌, Bool, true, false, cond, ◌||◌, length, get_or, set, leb, eqb, Option, Some, None}
 use Rattle.std.proofs.Math.Path.{refl}
 use Rattle.std.proofs.Common.{ap, arith}
 use mathlib.Core.List.{List, [], ◌∷◌, ◌++◌}
 use Rattle.std.proofs.lemmas.Bool.{eqb-false}
 use Rattle.lists.specs.Walk.{any, found_from, found}
 use Rattle.lists.specs.Put.{put}
-use Rattle.lists.specs.declared.Found.{Found}
-use Rattle.lists.specs.declared.Found.TheVariants.{At, Nothing}
 use Rattle.records.specs.declared.Lock.{Lock}
 use Rattle.records.specs.declared.Open.{Open}
 use Rattle.records.specs.declared.Tables.{Tables}
@@ -51,12 +49,12 @@ chosen f b p q = both-chosen (λ x. x) f b p q
 -- ---- a conflict
 
 -- whether a place is given
-unfoldable pub is_at : Found → Bool
-is_at (At k) = true
-is_at Nothing = false
+unfoldable pub is_at : Option ℕ → Bool
+is_at (Some k) = true
+is_at None = false
 
 -- an element in front of the others
-at_first : (b : Bool) (k : ℕ) (f : Found) (others : Bool) → is_at f ≡ others → is_at (cond b (At k) f) ≡ (b || others)
+at_first : (b : Bool) (k : ℕ) (f : Option ℕ) (others : Bool) → is_at f ≡ others → is_at (cond b (Some k) f) ≡ (b || others)
 unfolding is_at
 at_first true k f others e = refl
 at_first false k f others e = e
@@ -73,16 +71,16 @@ module _ {A : Type 0} where
   found-any p xs = from-any 0 p xs
 
 -- "instead of yes or no, the place of the first conflicting lock": what is made of a place is 1/33, and what is made of none is what follows a no
-conflict-before : (t : Tables) (q : Ask) (list : List Lock) (x : Gave) (f : Found → Gave)
-    → ((k : ℕ) → refused_with (status 1 33) ≡ f (At k)) → x ≡ f Nothing
+conflict-before : (t : Tables) (q : Ask) (list : List Lock) (x : Gave) (f : Option ℕ → Gave)
+    → ((k : ℕ) → refused_with (status 1 33) ≡ f (Some k)) → x ≡ f None
     → unless_conflict t q list x ≡ f (found (answers (file_of (opens_of t)) q) list)
 unfolding unless_conflict is_at
 conflict-before t q list x f there clear =
     by_place (found (answers (file_of (opens_of t)) q) list) (any (answers (file_of (opens_of t)) q) list) (found-any (answers (file_of (opens_of t)) q) list)
   where
-    by_place : (place : Found) (b : Bool) → is_at place ≡ b → cond b (refused_with (status 1 33)) x ≡ f place
-    by_place (At k) b e = rw (← e) (there k)
-    by_place Nothing b e = rw (← e) clear
+    by_place : (place : Option ℕ) (b : Bool) → is_at place ≡ b → cond b (refused_with (status 1 33)) x ≡ f place
+    by_place (Some k) b e = rw (← e) (there k)
+    by_place None b e = rw (← e) clear
 
 -- ---- LOCKING
 
@@ -98,17 +96,17 @@ module _ (t : Tables) (memory : List ℕ) where
   grants-before fid shared [] list = chosen result_gives (leb (length list) 128) refl refl
   grants-before fid shared (r ∷ rs) list =
       conflict-before t (ask_of fid (Grant shared) r) list _
-      (λ (f : Found). result_gives (after_grants (after_walk f list (grant_all (file_of (opens_of t)) fid shared rs (list ++ (lock_of fid shared r ∷ []))))))
+      (λ (f : Option ℕ). result_gives (after_grants (after_walk f list (grant_all (file_of (opens_of t)) fid shared rs (list ++ (lock_of fid shared r ∷ []))))))
       (λ k. refl) (grants-before fid shared rs (list ++ (lock_of fid shared r ∷ [])))
 
 -- ---- who may ask
 
 -- what follows with the open that was found
-open-at-before : (f : Found) (opens : List Open) (t : Tables) (x : Open → Gave) (y : Open → Given) → ((o : Open) → x o ≡ plainly (y o))
+open-at-before : (f : Option ℕ) (opens : List Open) (t : Tables) (x : Open → Gave) (y : Open → Given) → ((o : Open) → x o ≡ plainly (y o))
     → onward (open_at f opens (λ o. done t [] plain)) (λ _. x (open_in f opens)) ≡ plainly (open_at f opens y)
 unfolding onward plainly open_at open_in
-open-at-before (At j) opens t x y e = e (get_or opens j no_open)
-open-at-before Nothing opens t x y e = refl
+open-at-before (Some j) opens t x y e = e (get_or opens j no_open)
+open-at-before None opens t x y e = refl
 
 -- a choice, and what follows it
 on-choice : (k : Gave → Gave) (b : Bool) (u v x y : Given) → onward u k ≡ plainly x → onward v k ≡ plainly y → onward (cond b u v) k ≡ plainly (cond b x y)
@@ -126,7 +124,7 @@ module _ (c : Caller) (t : Tables) where
   -- a read or a write against the locks
   transfer-before : (q : Ask) (x : Gave) (y : Given) → x ≡ plainly y → unless_conflict t q (locks_of t) x ≡ plainly (unless_barred t (barring t q) y)
   unfolding unless_barred barring plainly onward forms_of
-  transfer-before q x y h = conflict-before t q (locks_of t) x (λ (f : Found). plainly (unless_barred t f y)) (λ k. refl) h
+  transfer-before q x y h = conflict-before t q (locks_of t) x (λ (f : Option ℕ). plainly (unless_barred t f y)) (λ k. refl) h
 
   -- every write, whatever it asks of the locks and leaves
   pub writing-before : (fid : ℕ) (ask : Open → Ask) (past : Bool) (x : Open → Gave) (y : Open → Given) → ((o : Open) → x o ≡ plainly (y o))

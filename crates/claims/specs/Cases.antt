@@ -1,7 +1,6 @@
 -- The starred cases of document 01 ("Cases, the starred ones proved"): one table of the definitions' values, and a single
 -- theorem. Assumes nothing.
-use Rattle.std.specs.Prelude.{◌≡◌, refl, ℕ, ◌-◌, ◌^◌, Bool, true, false, List, [], ◌∷◌, map, ◌++◌, length, replicate}
-use Rattle.std.proofs.Math.Option.{Option, none, some}
+use Rattle.std.specs.Prelude.{◌≡◌, refl, ℕ, ◌-◌, ◌^◌, Bool, true, false, List, [], ◌∷◌, map, ◌++◌, length, replicate, Option, None, Some}
 use Rattle.lists.specs.Walk.{any, found_from, found}
 use Rattle.lists.specs.Stored.{stored}
 use Rattle.locks.specs.Range.{overlaps, passes_end}
@@ -82,8 +81,8 @@ message-lengths = (refl, refl)
 
 -- a message that is no sentence is 2/1
 unfoldable pub reading : Option (List Block) → Status
-reading (some bs) = status 0 0
-reading none = status 2 1
+reading (Some bs) = status 0 0
+reading None = status 2 1
 
 -- "1* the message above is a sentence. 2* with AndXOffset 60 it isn't. 3* with 62 and 85 bytes it is (one free byte)."
 -- "4* [0,10) exclusive against [10,20): no conflict. 5* against [9,10): conflict. 6* shared with shared overlapping: none.

@@ -1,11 +1,10 @@
 -- The list of refusals in both forms, as a whole (document 02, CR 7): "A reader of either form must find the same refusal, the two lock codes being one in the old form: one
 -- proof over the whole list." Assumes nothing.
-use Rattle.std.specs.Prelude.{◌≡◌, refl, ℕ, ◌+◌, ◌*◌, ◌/◌, ◌%◌, ◌<◌, Bool, true, false, cond, not, ◌&&◌, eqb, ltb, get_or}
+use Rattle.std.specs.Prelude.{◌≡◌, refl, ℕ, ◌+◌, ◌*◌, ◌/◌, ◌%◌, ◌<◌, Bool, true, false, cond, not, ◌&&◌, eqb, ltb, get_or, Option, None, Some, None as Nobody}
 use Rattle.std.proofs.Common.{sym, ap, ◌∙◌, arith, eqb-true, eq-eqb, ne_eqb}
 use mathlib.Core.List.Memᴰ.{head as first}
 use mathlib.Core.List.Memᴰ.{tail as later}
 use mathlib.Core.List.{List, [], ◌∷◌, map, Memᴰ as In}
-use Rattle.std.proofs.Math.Option.{Option, none, some}
 use Rattle.std.proofs.lemmas.Bool.{not-true}
 use Rattle.lists.specs.Walk.{all}
 use Rattle.lists.specs.Truth.{both_hold, hold-both, test-cases}
@@ -21,8 +20,7 @@ use Rattle.message.specs.declared.caller.Caller.{Caller}
 use Rattle.message.specs.Refusal.{status, success, forms_of, holder_of}
 use Rattle.message.specs.declared.refusal.Status.{Status}
 use Rattle.message.specs.declared.refusal.Forms.{Forms}
-use Rattle.message.specs.declared.refusal.HeldBy.{HeldBy}
-use Rattle.message.specs.declared.refusal.HeldBy.TheVariants.{Nobody}
+use Rattle.message.specs.HeldBy.{HeldBy}
 use Rattle.message.specs.declared.refusal.Refusal.{Refusal}
 use Rattle.message.specs.declared.refusal.Refusal.TheVariants.{NotServed, NotSentence, NoSession, NoTree, NoOpen, NoAccess, LockType, NoSuchLock, PassesEnd, LockNotGranted, FileLockConflict, NoRecord, NoSpace, OpenMode, BadAccess, NoSuchFile, BadShare, NoFids}
 use Rattle.message.specs.Reply.{smb_number}
@@ -200,8 +198,8 @@ run-ended c s just (b ∷ bs) place t memory =
 
 chain-ended : (c : Caller) (s : List ℕ) (o : Option (List Block)) (t : Tables) (memory : List ℕ) → RanEnded (run_chain c s o t memory)
 unfolding run_chain only_status holder_of
-chain-ended c s none t memory = a-refusal NotSentence
-chain-ended c s (some bs) t memory = run-ended c s NOBODY bs FIRST t memory
+chain-ended c s None t memory = a-refusal NotSentence
+chain-ended c s (Some bs) t memory = run-ended c s NOBODY bs FIRST t memory
 
 pub answered-ended : (connection : ℕ) (s : List ℕ) (t : Tables) (memory : List ℕ) → Ended (answered connection s t memory).forms (answered connection s t memory).holder
 unfolding answered only_status holder_of

@@ -1,7 +1,7 @@
 -- The stream's definition, worked: headers that stop the reader and headers that do not, and one call of the reader. Assumes nothing.
 use Rattle.std.specs.Prelude.{◌≡◌, refl, ℕ, List, [], ◌∷◌}
-use Rattle.stream.specs.declared.reader.Event.TheVariants.{NoMessage, InPiece}
-use Rattle.stream.specs.declared.header.Judged.TheVariants.{Stop}
+use Rattle.stream.specs.Reader.{NoMessage, InPiece}
+use Rattle.stream.specs.Stream.{Stop}
 use Rattle.stream.specs.Stream.{length_of, known, judge_length, judge, begins_by, begins, first_of, first, with_message, carried_by, carried_within, carried, begun, stopped}
 use Rattle.stream.specs.State.{none_begun, stopped_by, begun_bytes, pending, byte_fits, header_fits, is_left}
 use Rattle.stream.specs.Reader.{step_of, handed, read_by, read}

@@ -11,9 +11,9 @@ use Rattle.lists.specs.PutLaws.{length-put}
 use Rattle.lists.specs.Truth.{test-cases, choice-cases}
 use Rattle.std.proofs.lemmas.Bool.{eqb-false}
 use Rattle.stream.specs.declared.state.State.{State}
-use Rattle.stream.specs.declared.header.Judged.TheVariants.{Stop}
-use Rattle.stream.specs.declared.reader.Event.{Event}
-use Rattle.stream.specs.declared.reader.Event.TheVariants.{NoMessage, InPiece, InBuffer}
+use Rattle.stream.specs.Stream.{Stop}
+use Rattle.stream.specs.Reader.{Event}
+use Rattle.stream.specs.Reader.{NoMessage, InPiece, InBuffer}
 use Rattle.stream.specs.State.{none_begun, stopped_by, state_of, begun_bytes, pending, left_of, no_header, no_message, byte_fits, header_fits, is_left}
 use Rattle.stream.specs.Reader.{Read, step_of, refused, handed, read_by, read}
 use Rattle.stream.specs.BeginsLaws.{Shown, shown, Head, bad-head, judged-stop}

@@ -10,7 +10,7 @@ use borrow.Author.Tests.{eqb-true, eqb-false, leb-false, le-leb, lt-leb, lt-ltb,
 use Rattle.lists.specs.Truth.{test-cases, choice-cases}
 use Rattle.lists.specs.Put.{put}
 use Rattle.stream.specs.declared.state.State.{State}
-use Rattle.stream.specs.declared.header.Judged.TheVariants.{Message}
+use Rattle.stream.specs.Stream.{Message}
 use Rattle.stream.specs.Stream.{length_of, header_of, Begins, short, bad, message, begins, wanted, whole, first_of, first, begun}
 use Rattle.stream.specs.State.{header_words, header_begun, message_begun, begun_state, begun_bytes, pending, left_of, no_header, byte_fits, header_fits, message_fits, is_left}
 use Rattle.stream.specs.BeginsLaws.{Shown, shown, begins-short, rest_of, shown-ends, Ends, Head, message-head, short-few, judged-message, header-begins, ends-drop, ends-in-piece}

@@ -9,8 +9,8 @@ use Rattle.lists.specs.Truth.{either-holds, neither-holds, holds-second}
 use Rattle.lists.specs.Put.{put}
 use Rattle.stream.specs.Stream.{length_of, known, judge_length, judge, header_of, begins, begins_by, first, first_of, begun, stopped, carried_by, carried}
 use Rattle.stream.specs.Writer.{Wrote, written_of, framed, write}
-use Rattle.stream.specs.declared.header.Judged.{Judged}
-use Rattle.stream.specs.declared.header.Judged.TheVariants.{Stop, KeepAlive, Message}
+use Rattle.stream.specs.Stream.{Judged}
+use Rattle.stream.specs.Stream.{Stop, KeepAlive, Message}
 use Rattle.invariants.specs.GivenCases.{cond-case}
 use Rattle.claims.specs.StreamLaws.{carried_step}
 

@@ -1,12 +1,9 @@
 -- What a message gives without CR 2 and CR 7 of document 02, where a conflict is yes or no, as in document 01: no holder, no place; and Status has one form. What they moved
 -- is restated here, all else is cited, the class and code of the other refusals too (literals/specs/Codes.antt has them spelled). Assumes nothing.
-use Rattle.std.specs.Prelude.{ℕ, ◌+◌, ◌*◌, ◌/◌, ◌%◌, Bool, cond, not, ◌||◌, List, [], ◌∷◌, ◌++◌, length, take, drop, get_or, replicate, leb, ltb, eqb}
-use Rattle.std.proofs.Math.Option.{Option, none, some}
+use Rattle.std.specs.Prelude.{ℕ, ◌+◌, ◌*◌, ◌/◌, ◌%◌, Bool, cond, not, ◌||◌, List, [], ◌∷◌, ◌++◌, length, take, drop, get_or, replicate, leb, ltb, eqb, Option, None, Some}
 use Rattle.lists.specs.Walk.{any, found}
 use Rattle.lists.specs.Put.{put}
 use Rattle.wire.specs.LittleEndian.{byte_at}
-use Rattle.lists.specs.declared.Found.{Found}
-use Rattle.lists.specs.declared.Found.TheVariants.{At, Nothing}
 use Rattle.records.specs.declared.Lock.{Lock}
 use Rattle.records.specs.declared.Open.{Open}
 use Rattle.records.specs.declared.Tables.{Tables}
@@ -56,9 +53,9 @@ onward (done t memory said) next = next (did t memory said)
 unfoldable pub plainly : Given → Gave
 plainly given = onward given (λ end. end)
 
-unfoldable pub open_in : Found → List Open → Open
-open_in (At k) opens = get_or opens k no_open
-open_in Nothing opens = no_open
+unfoldable pub open_in : Option ℕ → List Open → Open
+open_in (Some k) opens = get_or opens k no_open
+open_in None opens = no_open
 
 -- from "2/91 no session" to "1/6 no open of that FID, UID and TID", then what follows with the open that was found
 unfoldable pub opened : Caller → Tables → ℕ → (Open → Gave) → Gave
@@ -79,8 +76,8 @@ grants_before t memory fid shared (r ∷ rs) list =
 
 -- "1/158 no such lock to release; 1/87 lock range passes 2^64"
 unfoldable pub after_releases_before : Tables → List ℕ → ℕ → Bool → List LockRange → Option (List Lock) → Gave
-after_releases_before t memory fid shared locks none = refused_with (status 1 158)
-after_releases_before t memory fid shared locks (some list) =
+after_releases_before t memory fid shared locks None = refused_with (status 1 158)
+after_releases_before t memory fid shared locks (Some list) =
     cond (any range_passes locks) (refused_with (status 1 87)) (grants_before t memory fid shared locks list)
 
 -- "Unlocks go first, in order": the bytes are "(unlocks + locks) × 10, or × 20 with type bit 0x10"
@@ -185,8 +182,8 @@ run_before c s just (b ∷ bs) place t memory =
 
 -- "2/22 header command not served; 2/1 not a sentence": "2/22 and 2/1 come before anything is carried out."
 unfoldable pub chain_before : Caller → List ℕ → Option (List Block) → Tables → List ℕ → RanBefore
-chain_before c s none t memory = refused_before (status 2 1) t memory
-chain_before c s (some bs) t memory = run_before c s NOBODY bs FIRST t memory
+chain_before c s None t memory = refused_before (status 2 1) t memory
+chain_before c s (Some bs) t memory = run_before c s NOBODY bs FIRST t memory
 
 unfoldable pub answered_before : ℕ → List ℕ → Tables → List ℕ → RanBefore
 answered_before connection s t memory =

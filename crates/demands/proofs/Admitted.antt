@@ -1,11 +1,9 @@
 -- Of specs/Admitted.antt: what rests on its other theorems. Assumes nothing.
-use Rattle.std.specs.Prelude.{◌≡◌, ◌⊎◌, ℕ, true, false, cond, get_or}
+use Rattle.std.specs.Prelude.{◌≡◌, ◌⊎◌, ℕ, true, false, cond, get_or, Option, Some, None}
 use Rattle.std.proofs.Math.Path.{refl}
 use Rattle.std.proofs.Common.{sym, ◌∙◌, inl, inr}
 use Rattle.lists.specs.Walk.{any, found}
 use Rattle.lists.specs.Truth.{fails, decided, not-decided-twice}
-use Rattle.lists.specs.declared.Found.{Found}
-use Rattle.lists.specs.declared.Found.TheVariants.{At, Nothing}
 use Rattle.records.specs.declared.Open.{Open}
 use Rattle.records.specs.declared.Tables.{Tables}
 use Rattle.records.specs.Empty.{no_open}
@@ -65,15 +63,15 @@ module _ (c : Caller) (t : Tables) where
         ]
       ]
 
-  pub found-or : (fid : ℕ) (x : Found) → found (is_open c fid) (opens_of t) ≡ x → SessionHere c t → HasTree t c.tid c.uid
+  pub found-or : (fid : ℕ) (x : Option ℕ) → found (is_open c fid) (opens_of t) ≡ x → SessionHere c t → HasTree t c.tid c.uid
       → ((n : Status) × NoOpenFor c t fid n) ⊎ ((k : ℕ) × May c t fid k × Admitted c t fid (get_or (opens_of t) k no_open))
-  found-or fid (At k) e s r =
+  found-or fid (Some k) e s r =
       inr (
         k,
         record { session = (here-session c t) s; tree = tree-found t c.tid c.uid r; named = e },
         record { session = s; tree = r; opened = (open-found c t) fid k e },
       )
-  found-or fid Nothing e s r = inl (status 1 6, no-open s r ((open-nowhere c t) fid e))
+  found-or fid None e s r = inl (status 1 6, no-open s r ((open-nowhere c t) fid e))
 
   pub open-or : (fid : ℕ) → ((n : Status) × NoOpenFor c t fid n) ⊎ ((k : ℕ) × May c t fid k × Admitted c t fid (get_or (opens_of t) k no_open))
   open-or fid =

@@ -1,9 +1,8 @@
 -- Of specs/CallEffects.antt: what rests on its other theorems. Assumes nothing.
-use Rattle.std.specs.Prelude.{◌≡◌, List, [], ◌∷◌, ◌++◌, drop}
+use Rattle.std.specs.Prelude.{◌≡◌, List, [], ◌∷◌, ◌++◌, drop, Some, None as no_link}
 use Rattle.std.proofs.Common.{◌∙◌, eq-eqb, ne_eqb}
 use Prim.Native.Nat.{ℕ, min, ◌+◌, ◌-◌, ◌≤◌, ◌<◌}
 use native.Mathlib.Omega.{arith}
-use Rattle.std.proofs.Math.Option.{some}
 use Rattle.std.proofs.Math.ListN.{length}
 use Rattle.std.proofs.Math.Decide.{ℕ_discrete}
 use Rattle.lists.specs.Put.{put}
@@ -21,7 +20,6 @@ use Rattle.chain.specs.declared.block.WriteFields.{WriteFields}
 use Rattle.chain.specs.declared.block.Body.TheVariants.{Read as ReadBody, Write as WriteBody, Close, Logoff, TreeDisconnect, ProcessExit, CoreRead as CoreReadBody, CoreWrite as CoreWriteBody}
 use Rattle.chain.specs.declared.block.Block.{Block}
 use Rattle.message.specs.Refusal.{status, success}
-use Rattle.message.specs.declared.link.Link.TheVariants.{None as no_link}
 use Rattle.message.specs.Contents.{size_of, read_bytes}
 use Rattle.message.specs.Command.{read, plain, logged_off, core_read, core_wrote, done, do_read, do_write, as_core, do_set_size, do_core_write, perform}
 use Rattle.message.specs.Reply.{reply_header, reply_block, reply_size}
@@ -40,7 +38,7 @@ use Rattle.demands.proofs.DoneCall.{carried, past-session, past-tree, past_open}
 use Rattle.demands.specs.ReplyBytes.{CoreWriteBlock, read-data, read_length, read-offset, core-read-block, core-write-block}
 use Rattle.demands.specs.CallEffects.{CoreReadCall, ReadCall, WriteCall, call, caller, core-filled, counted, few-written, gives-body, long, removed}
 
-module _ (connection : ℕ) (s : List ℕ) (b : Block) (e : blocks s ≡ some (b ∷ [])) (t : Tables) (memory room : List ℕ) (g : Good t) (fit : Fit s t memory room)
+module _ (connection : ℕ) (s : List ℕ) (b : Block) (e : blocks s ≡ Some (b ∷ [])) (t : Tables) (memory room : List ℕ) (g : Good t) (fit : Fit s t memory room)
     (z : status_read (take-message connection s t memory room).room ≡ status 0 0) where
   pub the-command : Carried (caller connection s b e t memory room g fit z) s b t memory room (call connection s b e t memory room g fit z)
   the-command = carried connection s b e t memory room fit z

@@ -1,7 +1,6 @@
 -- Of specs/CallEffects.antt: what rests on its other theorems. Assumes nothing.
-use Rattle.std.specs.Prelude.{◌≡◌, List, [], ◌∷◌, ◌++◌}
+use Rattle.std.specs.Prelude.{◌≡◌, List, [], ◌∷◌, ◌++◌, Some, None as no_link}
 use Prim.Native.Nat.{ℕ}
-use Rattle.std.proofs.Math.Option.{some}
 use Rattle.lists.specs.Put.{put}
 use Rattle.wire.specs.LittleEndian.{le16_at}
 use Rattle.records.specs.declared.Tables.{Tables}
@@ -11,7 +10,6 @@ use Rattle.chain.specs.declared.block.WriteFields.{WriteFields}
 use Rattle.chain.specs.declared.block.Body.TheVariants.{Write as WriteBody}
 use Rattle.chain.specs.declared.block.Block.{Block}
 use Rattle.message.specs.Refusal.{status, success}
-use Rattle.message.specs.declared.link.Link.TheVariants.{None as no_link}
 use Rattle.message.specs.Command.{wrote}
 use Rattle.message.specs.Reply.{reply_header, reply_block}
 use Rattle.message.specs.Message.{data_of, take-message}
@@ -23,7 +21,7 @@ use Rattle.demands.specs.ReplyBytes.{write-count}
 use Rattle.demands.proofs.CallEffects.{the-command, write-call, write-given, write-open}
 use Rattle.demands.specs.CallEffects.{call, caller, counted, few-written, long}
 
-module _ (connection : ℕ) (s : List ℕ) (b : Block) (e : blocks s ≡ some (b ∷ [])) (t : Tables) (memory room : List ℕ) (g : Good t) (fit : Fit s t memory room)
+module _ (connection : ℕ) (s : List ℕ) (b : Block) (e : blocks s ≡ Some (b ∷ [])) (t : Tables) (memory room : List ℕ) (g : Good t) (fit : Fit s t memory room)
     (z : status_read (take-message connection s t memory room).room ≡ status 0 0) where
   -- "WRITE: 6 words: AndX, count": the reply says the count, none included
   pub write-count-call : (f : WriteFields) → b.body ≡ WriteBody f → le16_at (call connection s b e t memory room g fit z).room 37 ≡ f.count

@@ -1,7 +1,6 @@
 -- Of specs/CallsOneByOne.antt: what rests on its other theorems. Assumes nothing.
-use Rattle.std.specs.Prelude.{◌≡◌, ℕ, ◌≤◌, List, [], ◌∷◌, length}
+use Rattle.std.specs.Prelude.{◌≡◌, ℕ, ◌≤◌, List, [], ◌∷◌, length, Some}
 use Rattle.std.proofs.Common.{◌∙◌, ap, arith}
-use Rattle.std.proofs.Math.Option.{some}
 use Rattle.records.specs.declared.Tables.{Tables}
 use Rattle.chain.specs.Chain.{blocks}
 use Rattle.chain.specs.declared.block.Block.{Block}
@@ -47,7 +46,7 @@ calls-sent connection s room enough {t = t} {memory = memory} (next_fits {just} 
 
 -- "This is a single claim about the whole list of blocks": of a sentence fit to be answered, the call gives what the calls of its blocks give, each sent
 -- in a message of its own with reply room 12,292
-pub calls-one-by-one : (connection : ℕ) (s : List ℕ) (bs : List Block) → blocks s ≡ some bs → (t : Tables) (memory room small : List ℕ) → Good t → Fit s t memory room
+pub calls-one-by-one : (connection : ℕ) (s : List ℕ) (bs : List Block) → blocks s ≡ Some bs → (t : Tables) (memory room small : List ℕ) → Good t → Fit s t memory room
     → length small ≡ 12292 → take-message connection s t memory room ≡ compared_call s room (call_all connection s small NOBODY bs t memory)
 unfolding compared_call replied calls_of chain_reply compared_reply compared
 calls-one-by-one connection s bs e t memory room small g fit n =

@@ -1,8 +1,7 @@
 -- Of specs/ChainReasons.antt: what rests on its other theorems. Assumes nothing.
-use Rattle.std.specs.Prelude.{◌≡◌, ◌↔◌, ℕ, ◌+◌, List, ◌∷◌, map}
+use Rattle.std.specs.Prelude.{◌≡◌, ◌↔◌, ℕ, ◌+◌, List, ◌∷◌, map, Some}
 use Rattle.std.proofs.Math.Path.{refl, ap}
 use Rattle.std.proofs.Common.{sym, ◌∙◌}
-use Rattle.std.proofs.Math.Option.{some}
 use Rattle.records.specs.declared.Tables.{Tables}
 use Rattle.claims.specs.Cases.{status_in}
 use Rattle.chain.specs.Layout.{header_command, FIRST}
@@ -70,7 +69,7 @@ module _ (c : Caller) (s : List ℕ) where
       stopped-run just b bs place t memory (gives c s just b t memory) refl (perform-given c t memory g.sound (body_meant just b.body) (area_of s b) (data_of s b) (meant-announced just b.body (area_of s b) k) r) nonzero
 
 -- "Order: as written, for the whole of each command with all its ranges, command by command": a sentence has a status in its reply exactly if its commands end so
-pub chain-exact : (connection : ℕ) (s : List ℕ) (bs : List Block) → blocks s ≡ some bs → (t : Tables) (memory room : List ℕ) → Good t → Fit s t memory room → (n : Status)
+pub chain-exact : (connection : ℕ) (s : List ℕ) (bs : List Block) → blocks s ≡ Some bs → (t : Tables) (memory room : List ℕ) → Good t → Fit s t memory room → (n : Status)
     → (status_read (take-message connection s t memory room).room ≡ n) ↔ Ends (caller_of connection s) s NOBODY bs t memory n
 unfolding blocks
 chain-exact connection s bs e t memory room g fit n =

@@ -1,12 +1,11 @@
 -- Of specs/CommandReasons.antt: what rests on its other theorems. Assumes nothing.
-use Rattle.std.specs.Prelude.{◌≡◌, ◌↔◌, ℕ, ◌+◌, ◌*◌, ◌/◌, ◌%◌, true, get_or, ltb, eqb}
+use Rattle.std.specs.Prelude.{◌≡◌, ◌↔◌, ℕ, ◌+◌, ◌*◌, ◌/◌, ◌%◌, true, get_or, ltb, eqb, Option, None, Some}
 use Rattle.std.proofs.Math.Path.{refl, ap}
 use Rattle.std.proofs.Common.{sym, ◌∙◌}
 use Rattle.std.proofs.Math.Logic.{inl, inr}
 use native.Mathlib.Omega.{arith}
 use Rattle.std.proofs.Math.Bool.{false}
 use mathlib.Core.List.{List, [], ◌∷◌, ◌++◌}
-use Rattle.std.proofs.Math.Option.{Option, none, some}
 use Rattle.std.proofs.Math.ListN.{length}
 use borrow.Author.Tests.{le-leb, lt-leb, ltb-true, ltb-false, lt-ltb, le-ltb, eqb-true, eqb-false, eq-eqb, ne_eqb}
 use Rattle.lists.specs.Walk.{any}
@@ -153,8 +152,8 @@ module _ (c : Caller) (t : Tables) (memory : List ℕ) (ok : sound t ≡ true) w
     module _ {o : Open} (a : Admitted c t f.fid o) (bits : OnlyTwoBits f.kind) where
       pub releases-reason : (x : Option (List Lock)) → Releasing f.fid (unlocks_in c f area) (locks_of t) x → LockingStatus c t f area ((after-unlocks c t memory ok f area announced) x)
       unfolding after_releases settle locking_after locking_end status_in forms_of
-      releases-reason none (one-unnamed u) = locking-unnamed a bits u
-      releases-reason (some left) (all-released r) =
+      releases-reason None (one-unnamed u) = locking-unnamed a bits u
+      releases-reason (Some left) (all-released r) =
           elim (decided (any range_passes (locks_in c f area))) [
             | inl e ↦ rw e (locking-past a bits r (past-means (locks_in c f area) e))
             | inr e ↦ rw e ((grants-reason c t memory ok f area announced a bits) r (λ w. not-decided-twice (any range_passes (locks_in c f area)) (past_is (locks_in c f area) w) e)
@@ -181,7 +180,7 @@ module _ (c : Caller) (t : Tables) (memory : List ℕ) (ok : sound t ≡ true) w
 
     -- whose unlocks are done
     pub locking-released : {o : Open} {left : List Lock} → Admitted c t f.fid o → OnlyTwoBits f.kind → Released f.fid (unlocks_in c f area) (locks_of t) left
-        → status_in (do_locking c t memory f area) ≡ (after-unlocks c t memory ok f area announced) (some left)
+        → status_in (do_locking c t memory f area) ≡ (after-unlocks c t memory ok f area announced) (Some left)
     locking-released a bits r = locking-asked a bits ∙ ap (after-unlocks c t memory ok f area announced) (released-is (file-of c t memory ok f area announced) f.fid r)
 
     -- and whose locks lie below 2^64

@@ -1,5 +1,5 @@
 -- Of specs/ConflictCodes.antt: what rests on its other theorems. Assumes nothing.
-use Rattle.std.specs.Prelude.{◌≡◌, refl, ℕ, ◌≤◌, true, List, [], ◌∷◌, ◌++◌, length}
+use Rattle.std.specs.Prelude.{◌≡◌, refl, ℕ, ◌≤◌, true, List, [], ◌∷◌, ◌++◌, length, None as End}
 use Rattle.std.proofs.Common.{sym, ap, subst, ◌∙◌, arith}
 use Rattle.wire.specs.LittleEndian.{byte_at, le32_at}
 use Rattle.records.specs.declared.Tables.{Tables}
@@ -7,7 +7,6 @@ use Rattle.chain.specs.Layout.{header_command, FIRST}
 use Rattle.chain.specs.Grammar.{Span, Reading}
 use Rattle.chain.specs.declared.block.Block.{Block}
 use Rattle.chain.specs.declared.block.Body.TheVariants.{Logoff}
-use Rattle.chain.specs.declared.block.Next.TheVariants.{End}
 use Rattle.invariants.specs.BlockParse.{body_at}
 use Rattle.invariants.specs.ReaderSound.{span_of}
 use Rattle.message.specs.Caller.{caller_of}

@@ -1,11 +1,10 @@
 -- Of specs/CoreMoved.antt: what rests on its other theorems. Assumes nothing.
-use Rattle.std.specs.Prelude.{◌≡◌, ℕ, ◌≤◌, length}
+use Rattle.std.specs.Prelude.{◌≡◌, ℕ, ◌≤◌, length, None as End}
 use Rattle.std.proofs.Common.{sym, ◌∙◌, arith}
 use mathlib.Core.List.{List, Memᴰ as In}
 use Rattle.chain.specs.Layout.{READ}
 use Rattle.chain.specs.Grammar.{Span, Reading}
 use Rattle.chain.specs.declared.block.Body.TheVariants.{Logoff}
-use Rattle.chain.specs.declared.block.Next.TheVariants.{End}
 use Rattle.chain.specs.declared.block.Block.{Block}
 use Rattle.invariants.specs.BlockParse.{block_inside}
 use Rattle.invariants.specs.ReaderSound.{span_of}

@@ -1,5 +1,5 @@
 -- Of specs/CorePairCalls.antt: what rests on its other theorems. Assumes nothing.
-use Rattle.std.specs.Prelude.{◌≡◌, refl, ℕ, ◌+◌, ◌*◌, List, [], ◌∷◌, ◌++◌}
+use Rattle.std.specs.Prelude.{◌≡◌, refl, ℕ, ◌+◌, ◌*◌, List, [], ◌∷◌, ◌++◌, None as End}
 use Rattle.std.proofs.Math.Path.{sym}
 use Rattle.std.proofs.Common.{ap, ◌∙◌, arith}
 use Rattle.lists.specs.Put.{put}
@@ -10,7 +10,7 @@ use Rattle.chain.specs.Layout.{LOCKING, FIRST, byte_count, andx_command, andx_of
 use Rattle.chain.specs.Grammar.{IsBlock, Span, Reading}
 use Rattle.chain.specs.Parse.{range_fields}
 use Rattle.chain.specs.Chain.{blocks}
-use Rattle.chain.specs.declared.block.Next.TheVariants.{End, Follow}
+use Rattle.chain.specs.Next.{Follow}
 use Rattle.invariants.specs.BlockParse.{body_at, block_at}
 use Rattle.invariants.specs.Fit.{Fit, fit-answered}
 use Rattle.invariants.specs.JustOpenedLaws.{run-first}

@@ -1,8 +1,7 @@
 -- Of specs/CoreReasons.antt: what rests on its other theorems. Assumes nothing.
-use Rattle.std.specs.Prelude.{◌≡◌, ℕ, min, ◌≤◌, true, length}
+use Rattle.std.specs.Prelude.{◌≡◌, ℕ, min, ◌≤◌, true, length, Option}
 use Rattle.std.proofs.Common.{arith, length-take}
 use mathlib.Core.List.{List, [], ◌∷◌, Memᴰ as In}
-use Rattle.std.proofs.Math.Option.{Option}
 use Rattle.records.specs.declared.Lock.{Lock}
 use Rattle.records.specs.declared.Tables.{Tables}
 use Rattle.records.specs.Held.{locks_of}

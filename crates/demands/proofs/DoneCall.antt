@@ -1,10 +1,9 @@
 -- Of specs/DoneCall.antt: what rests on its other theorems. Assumes nothing.
-use Rattle.std.specs.Prelude.{◌≡◌, refl, ℕ, ◌≤◌, get_or}
+use Rattle.std.specs.Prelude.{◌≡◌, refl, ℕ, ◌≤◌, get_or, Some, None as no_link}
 use Rattle.std.proofs.Math.Path.{sym, ap}
 use Rattle.std.proofs.Common.{◌∙◌, arith}
 use Rattle.std.proofs.Math.Logic.{inl, inr}
 use mathlib.Core.List.{List, [], ◌∷◌}
-use Rattle.std.proofs.Math.Option.{some}
 use Rattle.std.proofs.Math.ListN.{length-append}
 use Rattle.records.specs.declared.Open.{Open}
 use Rattle.records.specs.declared.Tables.{Tables}
@@ -18,7 +17,6 @@ use Rattle.message.specs.Caller.{caller_of}
 use Rattle.message.specs.declared.caller.Caller.{Caller}
 use Rattle.message.specs.Refusal.{status, success}
 use Rattle.message.specs.declared.refusal.Status.{Status}
-use Rattle.message.specs.declared.link.Link.TheVariants.{None as no_link}
 use Rattle.message.specs.Command.{Said, Given, refused, done, with_session, with_tree, with_open}
 use Rattle.message.specs.JustOpened.{NOBODY}
 use Rattle.message.specs.Reply.{reply_header, reply_block}
@@ -34,7 +32,7 @@ use Rattle.demands.specs.Admitted.{Admitted, NoTreeFor, before-tree, no-tree, No
 use Rattle.demands.proofs.Admitted.{session-or, tree-or, open-or, with-session, with-tree, session-given, tree-given, open-given}
 use Rattle.demands.specs.DoneCall.{Carried, coded-not-done, long-enough, run-one, session-code}
 
-module _ (connection : ℕ) (s : List ℕ) (b : Block) (e : blocks s ≡ some (b ∷ [])) (t : Tables) (memory room : List ℕ) (fit : Fit s t memory room) where
+module _ (connection : ℕ) (s : List ℕ) (b : Block) (e : blocks s ≡ Some (b ∷ [])) (t : Tables) (memory room : List ℕ) (fit : Fit s t memory room) where
   pub carried-by : (g : Given) → gives (caller_of connection s) s NOBODY b t memory ≡ g → status_read (take-message connection s t memory room).room ≡ status 0 0
       → Carried (caller_of connection s) s b t memory room (take-message connection s t memory room)
   unfolding replied reply_of

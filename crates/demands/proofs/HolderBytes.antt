@@ -1,5 +1,5 @@
 -- Of specs/HolderBytes.antt: what rests on its other theorems. Assumes nothing.
-use Rattle.std.specs.Prelude.{◌≡◌, ℕ, ◌+◌, ◌^◌, ◌≤◌, true, length}
+use Rattle.std.specs.Prelude.{◌≡◌, ℕ, ◌+◌, ◌^◌, ◌≤◌, true, length, Some as held_by}
 use Rattle.std.proofs.Common.{arith}
 use Rattle.std.proofs.Math.Decide.{dec_lt}
 use mathlib.Core.List.{List}
@@ -9,7 +9,6 @@ use Rattle.soundness.specs.Sound.{sound}
 use Rattle.invariants.specs.Sound.{Good}
 use Rattle.invariants.specs.Fit.{take-message-good}
 use Rattle.message.specs.declared.caller.Caller.{Caller}
-use Rattle.message.specs.declared.refusal.HeldBy.TheVariants.{Holder as held_by}
 use Rattle.demands.specs.HolderExactly.{call}
 use Rattle.demands.proofs.HolderExactly.{held-fit}
 use Rattle.demands.specs.HolderWords.{first-stands, HeldWhere, one-range, many-ranges}

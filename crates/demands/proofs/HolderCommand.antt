@@ -1,5 +1,5 @@
 -- Of specs/HolderCommand.antt: what rests on its other theorems. Assumes nothing.
-use Rattle.std.specs.Prelude.{◌≡◌, ◌↔◌, ℕ, ◌+◌, ◌*◌, ◌/◌, ◌%◌, ◌<◌, Bool, length, drop, get_or, ltb, eqb}
+use Rattle.std.specs.Prelude.{◌≡◌, ◌↔◌, ℕ, ◌+◌, ◌*◌, ◌/◌, ◌%◌, ◌<◌, Bool, length, drop, get_or, ltb, eqb, Option, None, Some, Some as held_by}
 use Rattle.std.proofs.Math.Path.{refl, sym, ap}
 use Rattle.std.proofs.Common.{◌∙◌}
 use Rattle.std.proofs.Math.Logic.{inl, inr}
@@ -7,7 +7,6 @@ use Rattle.std.proofs.Math.Logic.Iff
 use native.Mathlib.Omega.{arith}
 use Rattle.std.proofs.Math.Bool.{true, false, cond}
 use mathlib.Core.List.{List}
-use Rattle.std.proofs.Math.Option.{Option, none, some}
 use borrow.Author.Tests.{eqb-true, eqb-false, eq-eqb, ne_eqb}
 use Rattle.lists.specs.Walk.{any}
 use Rattle.lists.specs.Truth.{fails, decided, not-decided-twice}
@@ -38,7 +37,6 @@ use Rattle.message.specs.declared.caller.Caller.{Caller}
 use Rattle.message.specs.Refusal.{status, forms_of}
 use Rattle.message.specs.declared.refusal.Status.{Status}
 use Rattle.message.specs.declared.refusal.Refusal.TheVariants.{NoAccess, NoSpace}
-use Rattle.message.specs.declared.refusal.HeldBy.TheVariants.{Holder as held_by}
 use Rattle.message.specs.Command.{Given, refused, with_open, served_type, request_of, locking_end, locking_after, do_locking, ask_by, unless_barred, barring, do_read, writing, ends_past, do_write, as_core, range_by, one_range, do_range, between_sizes, do_set_size, do_core_write, perform}
 use Rattle.demands.specs.LoneLock.{held_in, May, lower_size, sizes_apart, shared_in, read-bars, write-bars}
 use Rattle.demands.specs.Admitted.{Admitted, NoOpenFor, with-open}
@@ -124,8 +122,8 @@ module _ (c : Caller) (t : Tables) (memory : List ℕ) (ok : sound t ≡ true) w
     pub releases-name : {o : Open} → Admitted c t f.fid o → OnlyTwoBits f.kind → (x : Option (List Lock)) → Releasing f.fid (unlocks_in c f area) (locks_of t) x
         → Names ((after-unlocks c t memory ok f area announced h) x) h → LockHeld c t f area h
     unfolding after_releases settle locking_after locking_end held_in
-    releases-name a bits none (one-unnamed u) e = never cc
-    releases-name {o} a bits (some left) (all-released r) e =
+    releases-name a bits None (one-unnamed u) e = never cc
+    releases-name {o} a bits (Some left) (all-released r) e =
         elim (decided (any range_passes (locks_in c f area))) [
           | inl b ↦ let z = rw b at e in never cc
           | inr b ↦ record {
@@ -170,10 +168,10 @@ module _ (c : Caller) (t : Tables) (memory : List ℕ) (ok : sound t ≡ true) w
   unfolding do_core_write
   core-write-exact f bytes h =
       let size = size_exact f h in
-      let some = Iff.trans ((core-names c t memory ok) (do_write c t memory f bytes) h) (write-exact f bytes h) in (
+      let Some = Iff.trans ((core-names c t memory ok) (do_write c t memory f bytes) h) (write-exact f bytes h) in (
         cond-case (λ (g : Given). Names g h → CoreWriteHeld c t f h) (eqb f.count 0) (do_set_size c t memory f) (as_core (do_write c t memory f bytes))
-            (λ z e. size-held (eqb-true f.count 0 z) (size.0 e)) (λ z e. write-held (eqb-false f.count 0 z) (some.0 e)),
-        λ r. elim r [ write-held n x ↦ rw (ne_eqb f.count 0 n) (some.1 x) | size-held z x ↦ rw (eq-eqb f.count 0 z) (size.1 x) ],
+            (λ z e. size-held (eqb-true f.count 0 z) (size.0 e)) (λ z e. write-held (eqb-false f.count 0 z) (Some.0 e)),
+        λ r. elim r [ write-held n x ↦ rw (ne_eqb f.count 0 n) (Some.1 x) | size-held z x ↦ rw (eq-eqb f.count 0 z) (size.1 x) ],
       )
 
   -- LOCK_BYTE_RANGE and UNLOCK_BYTE_RANGE: the LOCKING of one range
@@ -200,7 +198,7 @@ module _ (c : Caller) (t : Tables) (memory : List ℕ) (ok : sound t ≡ true) w
   perform-held (CoreReadBody f) area bytes k h = Iff.trans ((core-names c t memory ok) (do_read c t memory f) h) (read-exact f h)
   perform-held (CoreWriteBody f) area bytes k h = core-write-exact f (drop 3 area) h
   perform-held (LockByteRange f) area bytes k h = Iff.trans (one-range f 0 1 refl h) (range-held c t ok f h)
-  perform-held (UnlockByteRange f) area bytes k h = Iff.trans (one-range f 1 0 refl h) (λ r. let none : r.held.granted < 0 = r.held.fewer in omega arith, λ r. absurd r)
+  perform-held (UnlockByteRange f) area bytes k h = Iff.trans (one-range f 1 0 refl h) (λ r. let None : r.held.granted < 0 = r.held.fewer in omega arith, λ r. absurd r)
   perform-held (OpenBody f) area bytes k h = (
     opening-case (λ (g : Given). Names g h → ⊥) c t memory f _ (λ e. never cc) (λ e. never cc) (λ e. never cc) (λ e. never cc) (λ e. never cc) (λ e. never cc) (λ e. never cc)
         (λ e. never cc) (λ j _ e. never cc),

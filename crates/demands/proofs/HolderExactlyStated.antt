@@ -1,9 +1,8 @@
 -- Of specs/HolderExactly.antt: what rests on its other theorems. Assumes nothing.
-use Rattle.std.specs.Prelude.{◌≡◌, ◌↔◌, ℕ, List}
+use Rattle.std.specs.Prelude.{◌≡◌, ◌↔◌, ℕ, List, Some as held_by}
 use Rattle.records.specs.declared.Tables.{Tables}
 use Rattle.locks.specs.declared.types.Holder.{Holder}
 use Rattle.message.specs.Refusal.{status}
-use Rattle.message.specs.declared.refusal.HeldBy.TheVariants.{Holder as held_by}
 use Rattle.demands.specs.StatusRead.{status_read}
 use Rattle.demands.specs.HolderBeside.{somebody-exact}
 use Rattle.demands.proofs.HolderExactly.{call-beside}

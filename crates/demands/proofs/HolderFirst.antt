@@ -1,9 +1,8 @@
 -- Of specs/HolderFirst.antt: what rests on its other theorems. Assumes nothing.
-use Rattle.std.specs.Prelude.{◌≡◌, ◌↔◌, ℕ, ◌%◌, false, List, [], ◌∷◌}
+use Rattle.std.specs.Prelude.{◌≡◌, ◌↔◌, ℕ, ◌%◌, false, List, [], ◌∷◌, Some, Some as held_by}
 use Rattle.std.proofs.Common.{sym, ◌∙◌, arith}
 use Rattle.std.proofs.Math.Path.{ap}
 use Rattle.std.proofs.Math.Logic.Iff
-use Rattle.std.proofs.Math.Option.{some}
 use Rattle.records.specs.declared.Open.{Open}
 use Rattle.records.specs.declared.Tables.{Tables}
 use Rattle.records.specs.Held.{locks_of}
@@ -19,7 +18,6 @@ use Rattle.invariants.specs.Fit.{Fit}
 use Rattle.message.specs.Caller.{caller_of}
 use Rattle.message.specs.Refusal.{status, holder_of}
 use Rattle.message.specs.declared.refusal.Status.{Status}
-use Rattle.message.specs.declared.refusal.HeldBy.TheVariants.{Holder as held_by}
 use Rattle.message.specs.declared.refusal.Refusal.TheVariants.{}
 use Rattle.message.specs.JustOpened.{NOBODY}
 use Rattle.message.specs.Message.{area_of, data_of, Ran}
@@ -45,7 +43,7 @@ use Rattle.demands.proofs.HolderCommand.{perform-held}
 use Rattle.demands.specs.HolderFirst.{FirstMeets, all_first, given}
 
 module _ (connection : ℕ) (s : List ℕ) (t : Tables) (memory room : List ℕ) (fit : Fit s t memory room) (h : Holder) where
-  module _ (b : Block) (bs : List Block) (e : blocks s ≡ some (b ∷ bs)) where
+  module _ (b : Block) (bs : List Block) (e : blocks s ≡ Some (b ∷ bs)) where
     pub named-given : (g : Holder) → Names (given connection s t memory room fit h b bs e) g → (call connection s t memory room).holder ≡ held_by g
     unfolding holder_of
     named-given g n =
@@ -76,7 +74,7 @@ module _ (connection : ℕ) (s : List ℕ) (t : Tables) (memory room : List ℕ)
     )
 
   -- and where it is the only one, the reply is no other
-  pub alone-held : (b : Block) → blocks s ≡ some (b ∷ []) → ((call connection s t memory room).holder ≡ held_by h) ↔ CommandHeld (caller_of connection s) t (area_of s b) b.body h
+  pub alone-held : (b : Block) → blocks s ≡ Some (b ∷ []) → ((call connection s t memory room).holder ≡ held_by h) ↔ CommandHeld (caller_of connection s) t (area_of s b) b.body h
   alone-held b e = (
     λ n. let said = (holder-exactly connection s t memory room ((done-exact connection s t memory room).1 fit)).0 (h, n) in
         (held-given b [] e).0 (conflict-names b [] e ((alone-conflict connection s b e t memory room fit).0 said) n),

@@ -1,5 +1,5 @@
 -- Of specs/HolderOpen.antt: what rests on its other theorems. Assumes nothing.
-use Rattle.std.specs.Prelude.{◌≡◌, ℕ, ◌+◌, ◌-◌, ◌≤◌, ◌<◌, length, get_or}
+use Rattle.std.specs.Prelude.{◌≡◌, ℕ, ◌+◌, ◌-◌, ◌≤◌, ◌<◌, length, get_or, Some as held_by}
 use Rattle.std.proofs.Common.{sym, ap, ◌∙◌, arith, length-append, get_or-append-add}
 use mathlib.Core.List.{List, ◌++◌, Memᴰ as In}
 use Rattle.std.proofs.Math.ListN.{get_or-append}
@@ -19,7 +19,6 @@ use Rattle.invariants.specs.Sound.{Good}
 use Rattle.invariants.specs.Fit.{take-message-good}
 use Rattle.claims.proofs.SoundPlain.{sound-plain}
 use Rattle.message.specs.declared.caller.Caller.{Caller}
-use Rattle.message.specs.declared.refusal.HeldBy.TheVariants.{Holder as held_by}
 use Rattle.demands.specs.LoneLock.{shared_in}
 use Rattle.demands.proofs.LockWords.{released-was}
 use Rattle.demands.specs.CommandReasons.{ranges_by}

@@ -1,9 +1,8 @@
 -- Of specs/HolderStands.antt: what rests on its other theorems. Assumes nothing.
-use Rattle.std.specs.Prelude.{◌≡◌, ◌↔◌, ℕ, ◌+◌}
+use Rattle.std.specs.Prelude.{◌≡◌, ◌↔◌, ℕ, ◌+◌, Some, Some as held_by}
 use Rattle.std.proofs.Math.Path.{refl, sym, ap}
 use Rattle.std.proofs.Common.{◌∙◌}
 use mathlib.Core.List.{List, [], ◌∷◌, ◌++◌}
-use Rattle.std.proofs.Math.Option.{some}
 use Rattle.records.specs.declared.Tables.{Tables}
 use Rattle.locks.specs.declared.types.Holder.{Holder}
 use Rattle.chain.specs.Layout.{header_command, FIRST}
@@ -14,7 +13,6 @@ use Rattle.invariants.specs.Sound.{Good}
 use Rattle.invariants.specs.Fit.{Fit, fit-answered}
 use Rattle.message.specs.declared.caller.Caller.{Caller}
 use Rattle.message.specs.Refusal.{status, holder_of}
-use Rattle.message.specs.declared.refusal.HeldBy.TheVariants.{Holder as held_by}
 use Rattle.message.specs.Command.{Said, Given, refused, done}
 use Rattle.message.specs.JustOpened.{NOBODY, opened_by, body_meant}
 use Rattle.message.specs.Reply.{reply_size}
@@ -101,7 +99,7 @@ module _ (connection : ℕ) (s : List ℕ) (t : Tables) (memory room : List ℕ)
   unfolding blocks
   sentence-met (read_as bs e n) =
       let q = run-met (c connection s t memory room g fit h) s (chained-announced (read-chained s (header_command s) FIRST bs e)) NOBODY FIRST t memory g h n in
-      record { front = q.front; command = q.command; later = q.later; read = e ∙ ap some q.split; front-done = q.front-done; held = q.held }
+      record { front = q.front; command = q.command; later = q.later; read = e ∙ ap Some q.split; front-done = q.front-done; held = q.held }
 
   pub met-named : (m : Met connection s t memory h) → PassedUp (c connection s t memory room g fit h) s NOBODY (m.front ++ (m.command ∷ m.later)) m.front FIRST t memory h
   unfolding blocks

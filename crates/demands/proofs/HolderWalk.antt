@@ -1,13 +1,11 @@
 -- Of specs/HolderWalk.antt: what rests on its other theorems. Assumes nothing.
 use Rattle.std.proofs.Math.Path.{◌≡◌, refl, ap}
 use Rattle.std.proofs.Common.{add-zero}
-use Rattle.std.specs.Prelude.{Bool, true}
+use Rattle.std.specs.Prelude.{Bool, true, Option, Some, None}
 use Prim.Native.Nat.{ℕ, zero, suc, ◌+◌, ◌<◌}
 use native.Mathlib.Omega.{arith}
 use mathlib.Core.List.{List, [], ◌∷◌, ◌++◌, Memᴰ as In, map}
 use Rattle.lists.specs.Walk.{found}
-use Rattle.lists.specs.declared.Found.{Found}
-use Rattle.lists.specs.declared.Found.TheVariants.{At, Nothing}
 use Rattle.records.specs.declared.Open.{Open}
 use Rattle.records.specs.declared.Lock.{Lock}
 use Rattle.records.specs.declared.Tables.{Tables}
@@ -22,11 +20,11 @@ use Rattle.demands.specs.HolderWalk.{files, first-place, found_first, found_none
 
 module _ (t : Tables) (ok : sound t ≡ true) (o : Open) (fid : ℕ) (there-is : In o (opens_of t)) (of : o.fid ≡ fid) (high : ℕ) (shared large : Bool) (area : List ℕ) where
   -- by what the walk of the first range finds
-  pub walk-held : (k n : ℕ) (list : List Lock) → Opened t list → (h : Holder) (x : Found) → found ((test t ok o fid there-is of high shared large area) k) list ≡ x → (next : Grants)
+  pub walk-held : (k n : ℕ) (list : List Lock) → Opened t list → (h : Holder) (x : Option ℕ) → found ((test t ok o fid there-is of high shared large area) k) list ≡ x → (next : Grants)
       → (next ≡ blocked h → RangeHeld t o fid high shared large area (suc k) n (list ++ ((lock t ok o fid there-is of high shared large area) ((range t ok o fid there-is of high shared large area) k) ∷ [])) h)
       → after_walk x list next ≡ blocked h → RangeHeld t o fid high shared large area k (suc n) list h
   unfolding after_walk ranges_at of_header
-  walk-held k n list opened h (At j) e next f g =
+  walk-held k n list opened h (Some j) e next f g =
       let same : holder_at list j ≡ h = cc in
       record {
         granted = 0;
@@ -35,7 +33,7 @@ module _ (t : Tables) (ok : sound t ≡ true) (o : Open) (fid : ℕ) (there-is :
         earlier = none-to-grant;
         first = rw (add-zero k) (rw same at (found_first ((test t ok o fid there-is of high shared large area) k) list ((test-exact t ok o fid there-is of high shared large area) k list opened) j e));
       }
-  walk-held k n list opened h Nothing e next f g =
+  walk-held k n list opened h None e next f g =
       let w = f g in
       let low : w.granted < n = w.fewer in
       let place : suc k + w.granted ≡ k + suc w.granted = omega arith in
@@ -67,7 +65,7 @@ module _ (t : Tables) (ok : sound t ≡ true) (o : Open) (fid : ℕ) (there-is :
       rw p.0 (ap blocked p.1)
   held-from k (suc n) (suc j) {list} opened low (grant-then free more) first =
       let place : k + suc j ≡ suc k + j = omega arith in
-      let none : found ((test t ok o fid there-is of high shared large area) k) list ≡ Nothing = found_none ((test t ok o fid there-is of high shared large area) k) list ((test-exact t ok o fid there-is of high shared large area) k list opened) free (found ((test t ok o fid there-is of high shared large area) k) list) refl in
+      let none : found ((test t ok o fid there-is of high shared large area) k) list ≡ None = found_none ((test t ok o fid there-is of high shared large area) k) list ((test-exact t ok o fid there-is of high shared large area) k list opened) free (found ((test t ok o fid there-is of high shared large area) k) list) refl in
       rw none
       (held-from (suc k) n j (opened-more t ok o fid there-is of shared ((range t ok o fid there-is of high shared large area) k) list opened) (let m : j < n = omega arith in m) more (rw place at first))
 

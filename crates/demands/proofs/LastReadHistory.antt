@@ -1,17 +1,15 @@
 -- Of specs/LastReadHistory.antt: what rests on its other theorems. Assumes nothing.
-use Rattle.std.specs.Prelude.{◌≡◌, ℕ, ◌+◌, ◌*◌, ◌≤◌, ◌<◌, Bool, ◌||◌, drop, get_or, eqb}
+use Rattle.std.specs.Prelude.{◌≡◌, ℕ, ◌+◌, ◌*◌, ◌≤◌, ◌<◌, Bool, ◌||◌, drop, get_or, eqb, Option, None, Some, Ok, Err}
 use Rattle.std.proofs.Math.Path.{refl, ap}
 use Rattle.std.proofs.Common.{sym, ◌∙◌, inl, inr}
 use native.Mathlib.Omega.{arith}
 use Rattle.std.proofs.Math.Decide.{ℕ_discrete}
 use Rattle.std.proofs.Math.Bool.{true, false, cond, not}
 use mathlib.Core.List.{List, [], ◌∷◌, ◌++◌, map, Memᴰ as In}
-use Rattle.std.proofs.Math.Option.{Option, none, some}
 use Rattle.std.proofs.Math.ListN.{length}
 use Rattle.std.proofs.Math.Dec.{ltb}
 use borrow.Author.Tests.{leb-false, ltb-false, eq-eqb, ne_eqb}
 use Rattle.lists.specs.Walk.{found}
-use Rattle.lists.specs.declared.Found.TheVariants.{At}
 use Rattle.lists.specs.Truth.{test-cases, not-decided-twice}
 use Rattle.records.specs.declared.Open.{Open}
 use Rattle.records.specs.declared.File.{File}
@@ -27,8 +25,8 @@ use Rattle.removal.specs.Removal.{remove}
 use Rattle.removal.specs.declared.Gone.{Gone}
 use Rattle.removal.specs.declared.Gone.TheVariants.{Session as UserGone, Tree as TreeGone, Open as OpenGone, Process as ProcessGone}
 use Rattle.locks.specs.declared.types.Locking.{Locking}
-use Rattle.locks.specs.declared.types.Outcome.{Outcome}
-use Rattle.locks.specs.declared.types.Outcome.TheVariants.{Done, Malformed as BadRanges, NoSuchLock as NoLock, PassesEnd as PastEnd, Conflict as InWay, NoRecord as NoRoom}
+use Rattle.locks.specs.Outcome.{Outcome}
+use Rattle.locks.specs.declared.types.LockRefusal.TheVariants.{Malformed as BadRanges, NoSuchLock as NoLock, PassesEnd as PastEnd, Conflict as InWay, NoRecord as NoRoom}
 use Rattle.host.specs.HostCall.{done as host_done, add_open, load_file, load_memory}
 use Rattle.invariants.specs.GivenCases.{cond-case, session-case, tree-case, open-case, barred-case, writing-case, opening-case}
 use Rattle.invariants.specs.HostCases.{add_session-either, add_tree-either, drop_connection-either, end_one-either, set_catalogue-either}
@@ -82,12 +80,12 @@ module _ (t : Tables) (g : Good t) (memory : List ℕ) (full : length memory ≡
 
   pub locks-still : (end : Outcome) (l : Locking) → Leaves t memory reads (quiet t g memory full reads k) (locking_end end t memory l)
   unfolding locking_end with_lock_list
-  locks-still Done l = (still t g memory full reads k) refl (λ o m. m)
-  locks-still BadRanges l = leaves-refused
-  locks-still NoLock l = leaves-refused
-  locks-still PastEnd l = leaves-refused
-  locks-still (InWay h) l = leaves-refused
-  locks-still NoRoom l = leaves-refused
+  locks-still (Ok _) l = (still t g memory full reads k) refl (λ o m. m)
+  locks-still (Err BadRanges) l = leaves-refused
+  locks-still (Err NoLock) l = leaves-refused
+  locks-still (Err PastEnd) l = leaves-refused
+  locks-still (Err (InWay h)) l = leaves-refused
+  locks-still (Err NoRoom) l = leaves-refused
 
   -- of some bytes, that ends in its file
   pub written-kept : (file offset count : ℕ) (bytes : List ℕ) → length bytes ≡ count → 1 ≤ count → offset + count ≤ 4096 → file ≤ 15
@@ -139,7 +137,7 @@ module _ (t : Tables) (g : Good t) (memory : List ℕ) (full : length memory ≡
         writing-case (Leaves t memory reads _) c t f.fid _ (ends_past f.offset f.count) _ leaves-refused leaves-refused leaves-refused leaves-refused (λ h. leaves-refused) leaves-refused
         (λ j e past. one j e past (ℕ_discrete f.count 0))
       where
-        one : (j : ℕ) → found (is_open c f.fid) (opens_of t) ≡ At j → ends_past f.offset f.count ≡ false → Dec (f.count ≡ 0)
+        one : (j : ℕ) → found (is_open c f.fid) (opens_of t) ≡ Some j → ends_past f.offset f.count ≡ false → Dec (f.count ≡ 0)
             → Leaves t memory reads (λ said. cond (eqb f.count 0) nothing (was-changed (file_of (opens_of t) f.fid)))
             (done (resized t (get_or (opens_of t) j no_open).file f.offset f.count) (written t memory (get_or (opens_of t) j no_open).file f.offset bytes) (wrote f.count))
         one j e past (yes z) =
@@ -158,7 +156,7 @@ module _ (t : Tables) (g : Good t) (memory : List ℕ) (full : length memory ≡
         writing-case (Leaves t memory reads _) c t f.fid _ (ltb 4096 f.offset) _ leaves-refused leaves-refused leaves-refused leaves-refused (λ h. leaves-refused) leaves-refused
         (λ j e past. one j e past (ℕ_discrete f.offset (size_of t (get_or (opens_of t) j no_open).file)))
       where
-        one : (j : ℕ) → found (is_open c f.fid) (opens_of t) ≡ At j → ltb 4096 f.offset ≡ false → Dec (f.offset ≡ size_of t (get_or (opens_of t) j no_open).file)
+        one : (j : ℕ) → found (is_open c f.fid) (opens_of t) ≡ Some j → ltb 4096 f.offset ≡ false → Dec (f.offset ≡ size_of t (get_or (opens_of t) j no_open).file)
             → Leaves t memory reads (λ said. cond (eqb (size_of t (file_of (opens_of t) f.fid)) f.offset) nothing (was-changed (file_of (opens_of t) f.fid)))
             (done (sized_to t (get_or (opens_of t) j no_open).file f.offset) (grown t memory (get_or (opens_of t) j no_open).file f.offset) (core_wrote 0))
         one j e past (yes z) =
@@ -239,8 +237,8 @@ module _ (connection : ℕ) (s : List ℕ) (t : Tables) (memory : List ℕ) (rea
   pub chain-kept : (o : Option (List Block)) → blocks s ≡ o
       → Kept (run_chain (caller_of connection s) s o t memory).tables (run_chain (caller_of connection s) s o t memory).memory (reads_chain (caller_of connection s) s o t memory reads)
   unfolding run_chain reads_chain only_status blocks
-  chain-kept none e = k
-  chain-kept (some bs) e = run-kept (caller_of connection s) (read-chained s (header_command s) FIRST bs e) NOBODY FIRST t memory reads g full k
+  chain-kept None e = k
+  chain-kept (Some bs) e = run-kept (caller_of connection s) (read-chained s (header_command s) FIRST bs e) NOBODY FIRST t memory reads g full k
 
   pub both-chosen : (b : Bool) → (b ≡ served (header_command s))
       → Kept (cond b (run_chain (caller_of connection s) s (blocks s) t memory) (only_status (forms_of NotServed) t memory)).tables

@@ -1,5 +1,5 @@
 -- Of specs/LockEffects.antt: what rests on its other theorems. Assumes nothing.
-use Rattle.std.specs.Prelude.{◌≡◌, refl, List, [], ◌∷◌, ◌++◌}
+use Rattle.std.specs.Prelude.{◌≡◌, refl, List, [], ◌∷◌, ◌++◌, None as no_link}
 use Prim.Native.Nat.{ℕ, zero, suc, ◌+◌, ◌*◌, ◌≤◌, ◌<◌}
 use native.Mathlib.Omega.{arith}
 use Rattle.lists.specs.Put.{put}
@@ -21,7 +21,6 @@ use Rattle.invariants.specs.Fit.{Fit}
 use Rattle.message.specs.Caller.{caller_of}
 use Rattle.message.specs.declared.caller.Caller.{Caller}
 use Rattle.message.specs.Refusal.{status, success}
-use Rattle.message.specs.declared.link.Link.TheVariants.{None as no_link}
 use Rattle.message.specs.Command.{Said, plain, done, do_locking, one_range, do_range, perform}
 use Rattle.message.specs.Reply.{reply_header, reply_block, reply_size}
 use Rattle.message.specs.Message.{area_of, take-message}

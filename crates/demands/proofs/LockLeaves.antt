@@ -1,9 +1,8 @@
 -- Of specs/LockLeaves.antt: what rests on its other theorems. Assumes nothing.
-use Rattle.std.specs.Prelude.{◌≡◌, ℕ, ◌+◌, ◌*◌, ◌/◌, ◌%◌, ◌≤◌, true, List, [], ◌∷◌, ◌++◌, leb, eqb}
+use Rattle.std.specs.Prelude.{◌≡◌, ℕ, ◌+◌, ◌*◌, ◌/◌, ◌%◌, ◌≤◌, true, List, [], ◌∷◌, ◌++◌, leb, eqb, Option, None, Some}
 use Rattle.std.proofs.Math.Path.{refl, ap}
 use Rattle.std.proofs.Common.{sym, ◌∙◌, arith, leb-true, eq-eqb}
 use Rattle.std.proofs.Math.Logic.{inl, inr}
-use Rattle.std.proofs.Math.Option.{Option, none, some}
 use Rattle.std.proofs.Math.ListN.{length, length-append}
 use Rattle.lists.specs.Walk.{any}
 use Rattle.lists.specs.Truth.{decided}
@@ -44,8 +43,8 @@ module _ (c : Caller) (t : Tables) (memory : List ℕ) (ok : sound t ≡ true) {
   pub releases-left : (x : Option (List Lock)) → Releasing f.fid (unlocks_in c f area) (locks_of t) x
       → ends t memory (after_releases (file-of t) f.fid (shared_in f) (locks_in c f area) x) ≡ done u m said → LocksLeft c t memory f area o u m said
   unfolding after_releases settle locking_after locking_end Opened
-  releases-left none (one-unnamed n) e = never cc
-  releases-left (some left) (all-released r) e =
+  releases-left None (one-unnamed n) e = never cc
+  releases-left (Some left) (all-released r) e =
       elim (decided (any range_passes (locks_in c f area))) [
         | inl b ↦ let z = rw b at e in never cc
         | inr b ↦ grants-left r (grant_all (file-of t) f.fid (shared_in f) (locks_in c f area) left)

@@ -1,10 +1,9 @@
 -- Of specs/LoneCall.antt: what rests on its other theorems. Assumes nothing.
-use Rattle.std.specs.Prelude.{◌≡◌, ◌↔◌, ℕ, ◌+◌, ◌*◌, ◌/◌, ◌%◌, ◌^◌, take, drop, get_or}
+use Rattle.std.specs.Prelude.{◌≡◌, ◌↔◌, ℕ, ◌+◌, ◌*◌, ◌/◌, ◌%◌, ◌^◌, take, drop, get_or, Some}
 use Rattle.std.proofs.Math.Path.{refl, sym, ap}
 use Rattle.std.proofs.Common.{◌∙◌, arith, ne_eqb, le-ltb}
 use Rattle.std.proofs.Math.Bool.{false}
 use mathlib.Core.List.{List, [], ◌∷◌}
-use Rattle.std.proofs.Math.Option.{some}
 use Rattle.std.proofs.Math.ListN.{length}
 use Rattle.std.proofs.Math.Dec.{eqb}
 use Rattle.records.specs.declared.Open.{Open}
@@ -41,7 +40,7 @@ use Rattle.demands.proofs.Calls.{status-call}
 use Rattle.demands.specs.Calls.{sentence-answered, length-call}
 use Rattle.demands.specs.LoneCall.{FirstConflict, LoneInWay, WithinRange, area-first, first-given, first-ran, first_block, given-conflict, locking_area, locking_fields, one-length, run-least}
 
-module _ (connection : ℕ) (s : List ℕ) (b : Block) (bs : List Block) (e : blocks s ≡ some (b ∷ bs)) (t : Tables) (memory room : List ℕ) (fit : Fit s t memory room) where
+module _ (connection : ℕ) (s : List ℕ) (b : Block) (bs : List Block) (e : blocks s ≡ Some (b ∷ bs)) (t : Tables) (memory room : List ℕ) (fit : Fit s t memory room) where
   -- 1/33 in a reply of 35 bytes, header and one refused block, is given exactly if the first command is refused for conflict
   pub first-conflict : FirstConflict (take-message connection s t memory room) ↔ Conflicts (first-given connection s b bs e t memory room fit)
   first-conflict =
@@ -98,7 +97,7 @@ module _ (connection : ℕ) (s : List ℕ) (b : Block) (bs : List Block) (e : bl
         first_says (do_write (caller_of connection s) t memory f (data_of s b)) (ap (λ (x : Body). perform (caller_of connection s) t memory x (area_of s b) (data_of s b)) body)
         (rw m.2 at (write-conflict (caller_of connection s) t memory m.0 fit.tables-sound f (data_of s b) m.1 a))
 
-module _ (connection : ℕ) (s : List ℕ) (b : Block) (e : blocks s ≡ some (b ∷ [])) (t : Tables) (memory room : List ℕ) (fit : Fit s t memory room) where
+module _ (connection : ℕ) (s : List ℕ) (b : Block) (e : blocks s ≡ Some (b ∷ [])) (t : Tables) (memory room : List ℕ) (fit : Fit s t memory room) where
   pub one-reply : status_read (take-message connection s t memory room).room ≡ status 1 33 → (take-message connection s t memory room).length ≡ 35
   unfolding run
   one-reply h =
@@ -136,4 +135,4 @@ lone-lock-reading connection s r t memory room fit o command u l bits valid low 
     let body : q.block.body ≡ LockingBody (locking_fields s) = q.holds ∙ ap (λ (n : ℕ). body_at s n FIRST) command in
     let area : area_of s q.block ≡ locking_area s = ap (λ (n : ℕ). take (byte_count s n) (drop (byte_area s n) s)) q.stands in
     rw area at
-    (lone-lock-call connection s q.block q.later (a.1 ∙ ap some q.is-first) t memory room fit o (locking_fields s) body valid u l bits (rw area low))
+    (lone-lock-call connection s q.block q.later (a.1 ∙ ap Some q.is-first) t memory room fit o (locking_fields s) body valid u l bits (rw area low))

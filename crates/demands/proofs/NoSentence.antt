@@ -1,5 +1,5 @@
 -- Of specs/NoSentence.antt: what rests on its other theorems. Assumes nothing.
-use Rattle.std.specs.Prelude.{◌≡◌, ℕ, ◌+◌, ◌≤◌, List}
+use Rattle.std.specs.Prelude.{◌≡◌, ℕ, ◌+◌, ◌≤◌, List, None as Nobody}
 use Rattle.std.proofs.Common.{sym, ◌∙◌, arith, inl, inr}
 use Rattle.std.proofs.Math.Path.{ap, subst}
 use Rattle.std.proofs.Math.ListN.{length}
@@ -9,7 +9,6 @@ use Rattle.chain.specs.Layout.{header_command}
 use Rattle.chain.specs.Grammar.{Sentence}
 use Rattle.message.specs.Reply.{refused_block}
 use Rattle.message.specs.declared.refusal.Forms.{Forms}
-use Rattle.message.specs.declared.refusal.HeldBy.TheVariants.{Nobody}
 use Rattle.message.specs.Message.{Ran, served, only_status, answered, reply_of, Taken, replied, take-message}
 use Rattle.invariants.specs.Fit.{Fit, fit-answered}
 use Rattle.demands.specs.Malformed.{malformed-nothing, not-served}

@@ -1,7 +1,6 @@
 -- Of specs/NtStatus.antt: what rests on its other theorems. Assumes nothing.
-use Rattle.std.specs.Prelude.{◌≡◌, refl, ℕ, ◌+◌, ◌≤◌, ◌↔◌, true, not, ◌||◌, eqb, ltb, List, length}
+use Rattle.std.specs.Prelude.{◌≡◌, refl, ℕ, ◌+◌, ◌≤◌, ◌↔◌, true, not, ◌||◌, eqb, ltb, List, length, Option, None, Some}
 use Rattle.std.proofs.Common.{sym, ap, ◌∙◌, arith, eqb-true, eq-eqb}
-use Rattle.std.proofs.Math.Option.{Option, none, some}
 use Rattle.lists.specs.Truth.{test-cases}
 use Rattle.wire.specs.LittleEndian.{le32_at}
 use Rattle.records.specs.declared.Tables.{Tables}
@@ -49,10 +48,10 @@ module _ (connection : ℕ) (s t : List ℕ) (but : ButByte11 s t) (u : Tables) 
       malformed-nothing connection t u memory (rw (but.same 4 (λ e. omega arith)) e) (λ r. n (r.0, reading-too t s (back but) r.1)) ∙ sym (malformed-nothing connection s u memory e n)
 
   pub read_alike : (o : Option (List Block)) → blocks s ≡ o → served (header_command s) ≡ true → answered connection t u memory ≡ answered connection s u memory
-  read_alike (some bs) f e =
+  read_alike (Some bs) f e =
       let r = reader-sound s bs f in
       sent-answered s t (sender s t but) r (all_alike (all-stand s t but r)) connection u memory
-  read_alike none f e = none_alike e ((no-sentence s).0 f)
+  read_alike None f e = none_alike e ((no-sentence s).0 f)
 
   -- "A reader of either form must find the same refusal": what the message leaves, its status in both forms with it, does not depend on the bit
   pub forms-alike : answered connection t u memory ≡ answered connection s u memory

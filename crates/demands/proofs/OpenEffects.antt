@@ -1,5 +1,5 @@
 -- Of specs/OpenEffects.antt: what rests on its other theorems. Assumes nothing.
-use Rattle.std.specs.Prelude.{◌≡◌, ℕ, ◌+◌, ◌%◌, ◌≤◌, ◌<◌, Bool, true, false, List, [], ◌∷◌, ◌++◌, length}
+use Rattle.std.specs.Prelude.{◌≡◌, ℕ, ◌+◌, ◌%◌, ◌≤◌, ◌<◌, Bool, true, false, List, [], ◌∷◌, ◌++◌, length, None as no_link}
 use Rattle.std.proofs.Common.{sym, ap, ◌∙◌, arith, eq-eqb, ne_eqb}
 use Rattle.std.proofs.Math.Path.{subst}
 use Rattle.lists.specs.Put.{put}
@@ -19,7 +19,6 @@ use Rattle.chain.specs.declared.block.Body.TheVariants.{Open as OpenBody}
 use Rattle.message.specs.Caller.{caller_of}
 use Rattle.message.specs.declared.caller.Caller.{Caller}
 use Rattle.message.specs.Refusal.{status, success}
-use Rattle.message.specs.declared.link.Link.TheVariants.{None as no_link}
 use Rattle.message.specs.Contents.{size_of}
 use Rattle.message.specs.Command.{Said, done, name_asked, open_by, opened_said, do_open, perform}
 use Rattle.message.specs.Reply.{reply_header, reply_block}

@@ -1,5 +1,5 @@
 -- Of specs/OpenReasons.antt: what rests on its other theorems. Assumes nothing.
-use Rattle.std.specs.Prelude.{◌≡◌, ◌↔◌, ℕ, ◌≤◌, false, cond, leb, eqb}
+use Rattle.std.specs.Prelude.{◌≡◌, ◌↔◌, ℕ, ◌≤◌, false, cond, leb, eqb, Option, Some, None}
 use Rattle.std.proofs.Math.Path.{refl, sym, ap}
 use Rattle.std.proofs.Common.{◌∙◌}
 use Rattle.std.proofs.Math.Logic.{inl, inr}
@@ -13,8 +13,6 @@ use Rattle.lists.specs.Walk.{any, found}
 use Rattle.lists.specs.Truth.{fails, decided, not-decided-twice}
 use Rattle.lists.specs.PairLaws.{in_place}
 use Rattle.lists.specs.FoundLaws.{found_below}
-use Rattle.lists.specs.declared.Found.{Found}
-use Rattle.lists.specs.declared.Found.TheVariants.{At, Nothing}
 use Rattle.records.specs.declared.Tree.{Tree}
 use Rattle.records.specs.declared.Name.{Name}
 use Rattle.records.specs.declared.Tables.{Tables}
@@ -54,15 +52,15 @@ use Rattle.demands.specs.OpenReasons.{open_full}
 use Rattle.demands.specs.OpenReasons.{open_shared}
 
 module _ (t : Tables) (name : List ℕ) where
-  pub none_found : found (is_named name) (names_of t) ≡ Nothing → (file : ℕ) → NamesFile t name file → ⊥
+  pub none_found : found (is_named name) (names_of t) ≡ None → (file : ℕ) → NamesFile t name file → ⊥
   none_found e file n = not-decided-twice (is_named name n.entry) ((names-test t name) n) (found-miss (is_named name) n.listed e)
 
-  pub found_none : (x : Found) → found (is_named name) (names_of t) ≡ x → ((file : ℕ) → NamesFile t name file → ⊥) → x ≡ Nothing
-  found_none (At k) e h = absurd (h _ ((found-names t name) k e))
-  found_none Nothing e h = refl
+  pub found_none : (x : Option ℕ) → found (is_named name) (names_of t) ≡ x → ((file : ℕ) → NamesFile t name file → ⊥) → x ≡ None
+  found_none (Some k) e h = absurd (h _ ((found-names t name) k e))
+  found_none None e h = refl
 
   -- no name being doubled, it is the one meant
-  pub names-found : sound t ≡ true → {file : ℕ} → NamesFile t name file → (k : ℕ) × (found (is_named name) (names_of t) ≡ At k) × ((get_or (names_of t) k no_name).file ≡ file)
+  pub names-found : sound t ≡ true → {file : ℕ} → NamesFile t name file → (k : ℕ) × (found (is_named name) (names_of t) ≡ Some k) × ((get_or (names_of t) k no_name).file ≡ file)
   unfolding is_named
   names-found ok {file} n =
       let w = some_at (is_named name) (names_of t) (found (is_named name) (names_of t)) refl n.listed ((names-test t name) n) in
@@ -111,10 +109,10 @@ module _ (c : Caller) (t : Tables) (memory : List ℕ) (ok : sound t ≡ true) (
       (λ r. open_done passed free (leb-false 64 t.nopens r))))
       (λ h. let w = tree-exceeded c t f file served.tree h in open-right served named w.0 w.1)
 
-  pub named-reason : OpenServed c t f → (o : Found) → found (is_named name) (names_of t) ≡ o → (Its c t memory ok f name) (open_named c t memory f o)
+  pub named-reason : OpenServed c t f → (o : Option ℕ) → found (is_named name) (names_of t) ≡ o → (Its c t memory ok f name) (open_named c t memory f o)
   unfolding open_named status_in forms_of
-  named-reason served (At k) e = file-reason (get_or (names_of t) k no_name).file served (found-names t name k e)
-  named-reason served Nothing e = open-unnamed served (none_found t name e)
+  named-reason served (Some k) e = file-reason (get_or (names_of t) k no_name).file served (found-names t name k e)
+  named-reason served None e = open-unnamed served (none_found t name e)
 
   -- the status is given only for its reason
   pub opening-reason : OpenStatus c t f name (status_in (do_open c t memory f name))

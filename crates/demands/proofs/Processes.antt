@@ -1,5 +1,5 @@
 -- Of specs/Processes.antt: what rests on its other theorems. Assumes nothing.
-use Rattle.std.specs.Prelude.{◌≡◌, refl, ℕ, suc, ◌+◌, ◌-◌, ◌/◌, ◌≤◌, ◌<◌, false}
+use Rattle.std.specs.Prelude.{◌≡◌, refl, ℕ, suc, ◌+◌, ◌-◌, ◌/◌, ◌≤◌, ◌<◌, false, None as End}
 use Rattle.std.proofs.Common.{sym, ap, ◌∙◌}
 use native.Mathlib.Omega.{arith}
 use mathlib.Core.List.{List, [], ◌∷◌, Memᴰ as In}
@@ -12,7 +12,6 @@ use Rattle.locks.specs.Range.{Overlap}
 use Rattle.chain.specs.Layout.{LOCKING, READ, WRITE, CORE-READ, CORE-WRITE, UNLOCK_BYTE_RANGE, header_command, FIRST, fid_after_andx, read_max, data_length, lock_type, unlock_count, lock_count, first_fid, core_count, core_offset}
 use Rattle.chain.specs.Grammar.{Span, Reading}
 use Rattle.chain.specs.declared.block.Body.TheVariants.{Logoff}
-use Rattle.chain.specs.declared.block.Next.TheVariants.{End}
 use Rattle.chain.specs.declared.block.Block.{Block}
 use Rattle.invariants.specs.ReaderSound.{span_of}
 use Rattle.invariants.specs.Fit.{Fit}

@@ -1,9 +1,8 @@
 -- Of specs/ReasonCalls.antt: what rests on its other theorems. Assumes nothing.
-use Rattle.std.specs.Prelude.{◌≡◌, refl, ◌↔◌, ℕ}
+use Rattle.std.specs.Prelude.{◌≡◌, refl, ◌↔◌, ℕ, Some}
 use Rattle.std.proofs.Common.{sym, ◌∙◌}
 use Rattle.std.proofs.Math.Path.{ap}
 use mathlib.Core.List.{List, [], ◌∷◌}
-use Rattle.std.proofs.Math.Option.{some}
 use Rattle.records.specs.declared.Tables.{Tables}
 use Rattle.chain.specs.Layout.{header_command, FIRST}
 use Rattle.chain.specs.Chain.{blocks}
@@ -23,7 +22,7 @@ use Rattle.demands.specs.CommandReasons.{Reason}
 use Rattle.demands.proofs.CommandReasons.{perform-exact}
 use Rattle.demands.specs.ReasonCalls.{given-status, one-announced}
 
-module _ (connection : ℕ) (s : List ℕ) (b : Block) (e : blocks s ≡ some (b ∷ [])) (t : Tables) (memory room : List ℕ) (fit : Fit s t memory room) where
+module _ (connection : ℕ) (s : List ℕ) (b : Block) (e : blocks s ≡ Some (b ∷ [])) (t : Tables) (memory room : List ℕ) (fit : Fit s t memory room) where
   -- a message of one command has a status in its reply exactly for its reason
   pub call-exact : (n : Status) → (status_read (take-message connection s t memory room).room ≡ n) ↔ Reason (caller_of connection s) t (area_of s b) b.body n
   unfolding answered run_chain blocks run

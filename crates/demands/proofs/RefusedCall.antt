@@ -1,9 +1,8 @@
 -- Of specs/RefusedCall.antt: what rests on its other theorems. Assumes nothing.
-use Rattle.std.specs.Prelude.{◌≡◌, ℕ, ◌+◌, true, List, [], ◌∷◌, drop}
+use Rattle.std.specs.Prelude.{◌≡◌, ℕ, ◌+◌, true, List, [], ◌∷◌, drop, Option, None, Some}
 use Rattle.std.proofs.Math.Path.{refl, ap}
 use Rattle.std.proofs.Common.{sym, ◌∙◌, arith}
 use Rattle.std.proofs.Math.Logic.{inl, inr}
-use Rattle.std.proofs.Math.Option.{Option, none, some}
 use Rattle.std.proofs.Math.ListN.{length}
 use Rattle.lists.specs.Truth.{decided}
 use Rattle.records.specs.declared.Tables.{Tables}
@@ -85,7 +84,7 @@ run-stopped c s just (b ∷ bs) place t memory n =
     stopped_by c s just b bs place t memory (gives c s just b t memory) refl
     (λ u m said e. run-stopped c s (opened_by said) bs (place + reply_size said) u m (λ z. n (ap (λ (x : Ran). x.forms.status) (step-done c s just b bs place t memory u m said e) ∙ z)))
 
-module _ (connection : ℕ) (s : List ℕ) (bs : List Block) (e : blocks s ≡ some bs) (t : Tables) (memory room : List ℕ) (fit : Fit s t memory room) where
+module _ (connection : ℕ) (s : List ℕ) (bs : List Block) (e : blocks s ≡ Some bs) (t : Tables) (memory room : List ℕ) (fit : Fit s t memory room) where
   pub call-status : status_read (take-message connection s t memory room).room ≡ (run (caller_of connection s) s NOBODY bs FIRST t memory).forms.status
   call-status = status-call connection s t memory room fit ∙ ap (λ (r : Ran). r.forms.status) (sentence-answered connection s t memory bs e)
 
@@ -113,13 +112,13 @@ module _ (connection : ℕ) (s : List ℕ) (bs : List Block) (e : blocks s ≡ s
 
 module _ (connection : ℕ) (s : List ℕ) (t : Tables) (memory room : List ℕ) (fit : Fit s t memory room) where
   -- "A command refused changes no table and no file byte, its own unlocks included": a message of one command, with any Status but 0/0
-  pub alone-refused : (b : Block) → blocks s ≡ some (b ∷ []) → (status_read (take-message connection s t memory room).room ≡ status 0 0 → ⊥)
+  pub alone-refused : (b : Block) → blocks s ≡ Some (b ∷ []) → (status_read (take-message connection s t memory room).room ≡ status 0 0 → ⊥)
       → Untouched t memory (take-message connection s t memory room)
   alone-refused b e n =
       let r = refused-call connection s (b ∷ []) e t memory room fit n in none-front r (one-front r.front r.later b r.command r.split)
 
   -- "those after it aren't begun": where the first command is refused, whatever comes after it
-  pub first-refused : (b : Block) (bs : List Block) → blocks s ≡ some (b ∷ bs) → (why : Refusal) → gives (caller_of connection s) s NOBODY b t memory ≡ refused why
+  pub first-refused : (b : Block) (bs : List Block) → blocks s ≡ Some (b ∷ bs) → (why : Refusal) → gives (caller_of connection s) s NOBODY b t memory ≡ refused why
       → (status_read (take-message connection s t memory room).room ≡ status_of why) × ((take-message connection s t memory room).holder ≡ holder_of why)
       × Untouched t memory (take-message connection s t memory room)
   first-refused b bs e why g =
@@ -132,7 +131,7 @@ module _ (connection : ℕ) (s : List ℕ) (t : Tables) (memory room : List ℕ)
         },
       )
 
-  pub sentence-refusal : (bs : List Block) → blocks s ≡ some bs → (status_read (take-message connection s t memory room).room ≡ status 0 0 → ⊥)
+  pub sentence-refusal : (bs : List Block) → blocks s ≡ Some bs → (status_read (take-message connection s t memory room).room ≡ status 0 0 → ⊥)
       → (take-message connection s t memory room).length ≡ 35 → Untouched t memory (take-message connection s t memory room)
   sentence-refusal bs e n l =
       let r = refused-call connection s bs e t memory room fit n in
@@ -142,8 +141,8 @@ module _ (connection : ℕ) (s : List ℕ) (t : Tables) (memory room : List ℕ)
   pub read-refusal : (o : Option (List Block)) → blocks s ≡ o → served (header_command s) ≡ true → (status_read (take-message connection s t memory room).room ≡ status 0 0 → ⊥)
       → (take-message connection s t memory room).length ≡ 35 → Untouched t memory (take-message connection s t memory room)
   unfolding replied only_status
-  read-refusal (some bs) e v n l = sentence-refusal bs e n l
-  read-refusal none e v n l =
+  read-refusal (Some bs) e v n l = sentence-refusal bs e n l
+  read-refusal None e v n l =
       let q = malformed-taken connection s t memory room fit v ((no-sentence s).0 e) in
       record { same_tables = ap (λ (k : Taken). k.tables) q; same_memory = ap (λ (k : Taken). k.memory) q }
 

@@ -1,8 +1,7 @@
 -- Of specs/SetSize.antt: what rests on its other theorems. Assumes nothing.
-use Rattle.std.specs.Prelude.{◌≡◌, ℕ, ◌+◌, ◌-◌, ◌*◌, ◌≤◌, ◌<◌, List, [], ◌∷◌, length, take, get_or, replicate, ltb}
+use Rattle.std.specs.Prelude.{◌≡◌, ℕ, ◌+◌, ◌-◌, ◌*◌, ◌≤◌, ◌<◌, List, [], ◌∷◌, length, take, get_or, replicate, ltb, Some}
 use Rattle.std.proofs.Common.{sym, ◌∙◌, inl, inr, arith, get_or-take, get_or-append-add, ext_get_or, ltb-true, ltb-false, eq-eqb}
 use Rattle.std.proofs.Math.Path.{ap}
-use Rattle.std.proofs.Math.Option.{some}
 use Rattle.std.proofs.lemmas.List.{get_or-replicate}
 use Rattle.std.proofs.Math.ListN.{get_or-append}
 use Rattle.lists.specs.Truth.{decided}
@@ -110,7 +109,7 @@ module _ (c : Caller) (t : Tables) (memory : List ℕ) (full : length memory ≡
   unfolding do_core_write
   core-write-none f bytes o a z e = set-size-leaves f o a (rw (eq-eqb f.count 0 z) at e)
 
-pub set-size-call : (connection : ℕ) (s : List ℕ) (b : Block) → blocks s ≡ some (b ∷ []) → (t : Tables) (memory room : List ℕ) → Good t → Fit s t memory room
+pub set-size-call : (connection : ℕ) (s : List ℕ) (b : Block) → blocks s ≡ Some (b ∷ []) → (t : Tables) (memory room : List ℕ) → Good t → Fit s t memory room
     → status_read (take-message connection s t memory room).room ≡ status 0 0 → (f : WriteFields) → b.body ≡ CoreWriteBody f → f.count ≡ 0
     → SetSizeDone (caller_of connection s) t f.fid f.offset memory (take-message connection s t memory room)
 set-size-call connection s b e t memory room g fit z f is none =

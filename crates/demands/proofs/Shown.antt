@@ -1,16 +1,13 @@
 -- Of specs/Shown.antt: what rests on its other theorems. Assumes nothing.
-use Rattle.std.specs.Prelude.{◌≡◌, Bool, true, false, not, ◌||◌, List, [], drop, get_or, leb, ltb, eqb}
+use Rattle.std.specs.Prelude.{◌≡◌, Bool, true, false, not, ◌||◌, List, [], drop, get_or, leb, ltb, eqb, Option, None, Some, Ok, Err}
 use Rattle.std.proofs.Math.Path.{refl, ap}
 use Rattle.std.proofs.Common.{sym, ◌∙◌, inl, inr, ltb-true, ltb-false, eq-eqb}
 use Prim.Native.Nat.{ℕ, max, ◌+◌, ◌-◌, ◌*◌, ◌≤◌, ◌<◌}
 use native.Mathlib.Omega.{arith}
 use Rattle.std.proofs.Math.Decide.{ℕ_discrete}
-use Rattle.std.proofs.Math.Option.{Option, none, some}
 use Rattle.std.proofs.Math.ListN.{length}
 use Rattle.lists.specs.Truth.{decided}
 use Rattle.lists.specs.Walk.{any, found}
-use Rattle.lists.specs.declared.Found.{Found}
-use Rattle.lists.specs.declared.Found.TheVariants.{At, Nothing}
 use Rattle.records.specs.declared.Open.{Open}
 use Rattle.records.specs.declared.File.{File}
 use Rattle.records.specs.declared.Tables.{Tables}
@@ -18,8 +15,8 @@ use Rattle.records.specs.Empty.{no_open, no_name}
 use Rattle.records.specs.Held.{trees_of, opens_of, names_of, with_opens}
 use Rattle.locks.specs.declared.types.Ask.{Ask}
 use Rattle.locks.specs.declared.types.Locking.{Locking}
-use Rattle.locks.specs.declared.types.Outcome.{Outcome}
-use Rattle.locks.specs.declared.types.Outcome.TheVariants.{Done, Malformed as BadRanges, NoSuchLock as NoLock, PassesEnd as PastEnd, Conflict as InWay, NoRecord as NoRoom}
+use Rattle.locks.specs.Outcome.{Outcome}
+use Rattle.locks.specs.declared.types.LockRefusal.TheVariants.{Malformed as BadRanges, NoSuchLock as NoLock, PassesEnd as PastEnd, Conflict as InWay, NoRecord as NoRoom}
 use Rattle.catalogue.specs.Name.{is_named}
 use Rattle.soundness.specs.Lookup.{is_tree}
 use Rattle.soundness.specs.Sound.{sound, holds_open}
@@ -68,13 +65,13 @@ module _ (c : Caller) (t : Tables) where
       (session-alike c t) _ _ (both_cond GivenAlike (any (is_tree c.tid c.uid) (trees_of t)) next (refused NoTree) next' (refused NoTree) (λ _. h) (λ _. both-refused))
 
   pub open-alike : (fid : ℕ) (next next' : Open → Given)
-      → ((k : ℕ) → found (is_open c fid) (opens_of t) ≡ At k → GivenAlike (next (get_or (opens_of t) k no_open)) (next' (get_or (opens_of t) k no_open)))
+      → ((k : ℕ) → found (is_open c fid) (opens_of t) ≡ Some k → GivenAlike (next (get_or (opens_of t) k no_open)) (next' (get_or (opens_of t) k no_open)))
       → GivenAlike (with_open c t fid next) (with_open c t fid next')
   unfolding with_open
   open-alike fid next next' h = tree-alike _ _ ((open-at-alike c t) (found (is_open c fid) (opens_of t)) next next' h)
 
   pub writing-alike : (fid : ℕ) (ask : Open → Ask) (past : Bool) (next next' : Open → Given)
-      → ((k : ℕ) → found (is_open c fid) (opens_of t) ≡ At k → past ≡ false → GivenAlike (next (get_or (opens_of t) k no_open)) (next' (get_or (opens_of t) k no_open)))
+      → ((k : ℕ) → found (is_open c fid) (opens_of t) ≡ Some k → past ≡ false → GivenAlike (next (get_or (opens_of t) k no_open)) (next' (get_or (opens_of t) k no_open)))
       → GivenAlike (writing c t fid ask past next) (writing c t fid ask past next')
   writing-alike fid ask past next next' h =
       open-alike fid _ _
@@ -85,12 +82,12 @@ module _ (c : Caller) (t : Tables) where
 -- a LOCKING looks at no file byte
 pub locks-alike : (t : Tables) (memory other : List ℕ) → Shown t memory other → (end : Outcome) (l : Locking) → GivenAlike (locking_end end t memory l) (locking_end end t other l)
 unfolding locking_end with_lock_list
-locks-alike t memory other s Done l = both-done (files-shown refl s)
-locks-alike t memory other s BadRanges l = both-refused
-locks-alike t memory other s NoLock l = both-refused
-locks-alike t memory other s PastEnd l = both-refused
-locks-alike t memory other s (InWay h) l = both-refused
-locks-alike t memory other s NoRoom l = both-refused
+locks-alike t memory other s (Ok _) l = both-done (files-shown refl s)
+locks-alike t memory other s (Err BadRanges) l = both-refused
+locks-alike t memory other s (Err NoLock) l = both-refused
+locks-alike t memory other s (Err PastEnd) l = both-refused
+locks-alike t memory other s (Err (InWay h)) l = both-refused
+locks-alike t memory other s (Err NoRoom) l = both-refused
 
 module _ (t u : Tables) (file : ℕ) {memory other left left' : List ℕ} (g : Good t) (s : Shown t memory other) (others : (i : ℕ) → (i ≡ file → ⊥) → size_of u i ≡ size_of t i)
     (low : file ≤ 15) (most : size_of u file ≤ 4096) where
@@ -221,14 +218,14 @@ module _ (c : Caller) (t : Tables) (g : Good t) (memory other : List ℕ) (s : S
   range-alike f unlocks locks = core-alike (locking-alike _ _)
 
   -- an OPEN_ANDX looks at no file byte
-  pub named-alike : (f : OpenFields) (k : Found) → GivenAlike (open_named c t memory f k) (open_named c t other f k)
+  pub named-alike : (f : OpenFields) (k : Option ℕ) → GivenAlike (open_named c t memory f k) (open_named c t other f k)
   unfolding open_named open_file with_opens
-  named-alike f (At k) =
+  named-alike f (Some k) =
       both_cond GivenAlike (any (holds_open (open_by c t f (get_or (names_of t) k no_name).file)) (trees_of t)) _ (refused NoAccess) _ (refused NoAccess)
       (λ _. both_cond GivenAlike (any (kept_out (get_or (names_of t) k no_name).file f.access f.sharing) (opens_of t)) (refused BadShare) _ (refused BadShare) _ (λ _. both-refused)
       (λ _. both_cond GivenAlike (leb 64 t.nopens) (refused NoFids) _ (refused NoFids) _ (λ _. both-refused) (λ _. both-done (files-shown refl s))))
       (λ _. both-refused)
-  named-alike f Nothing = both-refused
+  named-alike f None = both-refused
 
   pub opening-alike : (f : OpenFields) (name : List ℕ) → GivenAlike (do_open c t memory f name) (do_open c t other f name)
   unfolding do_open
@@ -275,8 +272,8 @@ run-alike {s} c (chained_more {command} {at} {rest = rest} h l r) just place t m
 module _ (connection : ℕ) (s : List ℕ) (t : Tables) (memory other : List ℕ) (g : Good t) (shown : Shown t memory other) where
   pub chain-alike : (o : Option (List Block)) → blocks s ≡ o → RanAlike (run_chain (caller_of connection s) s o t memory) (run_chain (caller_of connection s) s o t other)
   unfolding run_chain blocks
-  chain-alike none e = (only-alike connection s t memory other g shown) (forms_of NotSentence)
-  chain-alike (some bs) e = run-alike (caller_of connection s) (read-chained s (header_command s) FIRST bs e) NOBODY FIRST t memory other g shown
+  chain-alike None e = (only-alike connection s t memory other g shown) (forms_of NotSentence)
+  chain-alike (Some bs) e = run-alike (caller_of connection s) (read-chained s (header_command s) FIRST bs e) NOBODY FIRST t memory other g shown
 
   pub answered-alike : RanAlike (answered connection s t memory) (answered connection s t other)
   unfolding answered

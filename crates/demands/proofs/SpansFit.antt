@@ -1,9 +1,8 @@
 -- Of specs/SpansFit.antt: what rests on its other theorems. Assumes nothing.
-use Rattle.std.specs.Prelude.{◌≡◌, ◌↔◌, ℕ, ◌≤◌, length}
+use Rattle.std.specs.Prelude.{◌≡◌, ◌↔◌, ℕ, ◌≤◌, length, Some}
 use Rattle.std.proofs.Common.{sym, ap, subst, ◌∙◌, inl, inr, arith}
 use Rattle.std.proofs.Math.Bool.{true}
 use mathlib.Core.List.{List, [], ◌∷◌, ◌++◌, map}
-use Rattle.std.proofs.Math.Option.{some}
 use Rattle.lists.specs.Truth.{decided}
 use Rattle.records.specs.declared.Tables.{Tables}
 use Rattle.chain.specs.Layout.{header_command, FIRST}
@@ -35,7 +34,7 @@ use Rattle.demands.specs.SpansFit.{no_more}
 
 module _ (connection : ℕ) (s small : List ℕ) where
   -- one of the reader's blocks, and those behind it
-  pub one-fit : (just : ℕ) (b d : Block) (t : Tables) (memory : List ℕ) → Good t → Fit (own s just b) t memory small → blocks (own s just b) ≡ some (d ∷ []) → span_of d ≡ at_first (span_of b)
+  pub one-fit : (just : ℕ) (b d : Block) (t : Tables) (memory : List ℕ) → Good t → Fit (own s just b) t memory small → blocks (own s just b) ≡ Some (d ∷ []) → span_of d ≡ at_first (span_of b)
       → SentFit s small just (span_of b) t memory
   one-fit just b d t memory g fits one there =
       record {

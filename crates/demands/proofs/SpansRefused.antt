@@ -1,21 +1,20 @@
 -- Of specs/SpansRefused.antt: what rests on its other theorems. Assumes nothing.
-use Rattle.std.specs.Prelude.{◌≡◌, ℕ, ◌≤◌, true, false, length}
+use Rattle.std.specs.Prelude.{◌≡◌, ℕ, ◌≤◌, true, false, length, Some, None as End}
 use Rattle.std.proofs.Math.Path.{refl, sym, ap}
 use Rattle.std.proofs.Common.{◌∙◌, arith}
 use mathlib.Core.List.{List, [], ◌∷◌}
-use Rattle.std.proofs.Math.Option.{some}
 use Rattle.records.specs.declared.Tables.{Tables}
 use Rattle.chain.specs.Layout.{block_end}
 use Rattle.chain.specs.Grammar.{Span}
 use Rattle.chain.specs.Chain.{blocks}
 use Rattle.chain.specs.declared.block.Block.{Block}
-use Rattle.chain.specs.declared.block.Next.TheVariants.{End, Follow}
+use Rattle.chain.specs.Next.{Follow}
 use Rattle.invariants.specs.BlockParse.{behind}
 use Rattle.invariants.specs.ReaderSound.{span_of}
 use Rattle.invariants.specs.Chained.{Chained, chained-end, chained_more}
 use Rattle.invariants.specs.Fit.{Fit, fit-answered}
 use Rattle.message.specs.declared.refusal.Status.{Status}
-use Rattle.message.specs.declared.refusal.HeldBy.{HeldBy}
+use Rattle.message.specs.HeldBy.{HeldBy}
 use Rattle.message.specs.Message.{answered, reply_of, Taken, replied, take-message}
 use Rattle.demands.specs.Returned.{returned_fid}
 use Rattle.claims.specs.StatusList.{answered-ended}
@@ -112,6 +111,6 @@ module _ (connection : ℕ) (s small : List ℕ) where
     status-is = ap (λ (x : Taken). status_read x.room) taken-alone ∙ status-call connection (own s just b) t memory small fits
 
     -- refused, it changes nothing
-    pub refused-same : (d : Block) → blocks (own s just b) ≡ some (d ∷ []) → succeeded (ran connection s small just b t memory fits).forms.status ≡ false → Untouched t memory (taken connection s small just b t memory fits)
+    pub refused-same : (d : Block) → blocks (own s just b) ≡ Some (d ∷ []) → succeeded (ran connection s small just b t memory fits).forms.status ≡ false → Untouched t memory (taken connection s small just b t memory fits)
     refused-same d one e =
         rw taken-alone (alone-refused connection (own s just b) t memory small fits d one (λ z. (not-zero connection s small just b t memory fits) e (sym (status-call connection (own s just b) t memory small fits) ∙ z)))

@@ -1,9 +1,8 @@
 -- Of specs/SpansRefused.antt: what rests on its other theorems. Assumes nothing.
-use Rattle.std.specs.Prelude.{◌≡◌, ℕ, ◌≤◌, false, length}
+use Rattle.std.specs.Prelude.{◌≡◌, ℕ, ◌≤◌, false, length, Some}
 use Rattle.std.proofs.Math.Path.{refl, sym, ap}
 use Rattle.std.proofs.Common.{◌∙◌, inl, inr, arith}
 use mathlib.Core.List.{List, [], ◌∷◌, map}
-use Rattle.std.proofs.Math.Option.{some}
 use Rattle.lists.specs.Truth.{decided}
 use Rattle.wire.specs.LittleEndian.{le32_at}
 use Rattle.records.specs.declared.Tables.{Tables}
@@ -37,7 +36,7 @@ use Rattle.demands.specs.SpansRefused.{none-sent}
 module _ (connection : ℕ) (s small : List ℕ) where
   module _ (just : ℕ) (b : Block) (t : Tables) (memory : List ℕ) (fits : Fit (own s just b) t memory small) where
     -- and is the one refused
-    pub refused-here : 32 ≤ length s → (d : Block) → blocks (own s just b) ≡ some (d ∷ []) → succeeded (ran connection s small just b t memory fits).forms.status ≡ false → (bs : List Span)
+    pub refused-here : 32 ≤ length s → (d : Block) → blocks (own s just b) ≡ Some (d ∷ []) → succeeded (ran connection s small just b t memory fits).forms.status ≡ false → (bs : List Span)
         → RefusedAt connection s small just (span_of b ∷ bs) t memory (ran connection s small just b t memory fits).forms.status (status_number s (ran connection s small just b t memory fits).forms) (ran connection s small just b t memory fits).holder (ran connection s small just b t memory fits).tables (ran connection s small just b t memory fits).memory
     unfolding call_spans last_returned
     refused-here long d one e bs =
@@ -60,7 +59,7 @@ module _ (connection : ℕ) (s small : List ℕ) where
 
   module _ (just : ℕ) (b : Block) (bs : List Block) (t : Tables) (memory : List ℕ) where
     -- so one of them is the one refused
-    pub stopped_by : 32 ≤ length s → Fit (own s just b) t memory small → (d : Block) → blocks (own s just b) ≡ some (d ∷ []) → ((whole connection s small just b bs t memory).forms.status ≡ status 0 0 → ⊥)
+    pub stopped_by : 32 ≤ length s → Fit (own s just b) t memory small → (d : Block) → blocks (own s just b) ≡ Some (d ∷ []) → ((whole connection s small just b bs t memory).forms.status ≡ status 0 0 → ⊥)
         → (((send_all connection s (later-just connection s small just b bs t memory) bs (gave connection s small just b bs t memory).tables (gave connection s small just b bs t memory).memory).forms.status ≡ status 0 0 → ⊥)
         → RefusedAt connection s small (later-just connection s small just b bs t memory) (map span_of bs) (gave connection s small just b bs t memory).tables (gave connection s small just b bs t memory).memory (send_all connection s (later-just connection s small just b bs t memory) bs (gave connection s small just b bs t memory).tables (gave connection s small just b bs t memory).memory).forms.status
         (status_number s (send_all connection s (later-just connection s small just b bs t memory) bs (gave connection s small just b bs t memory).tables (gave connection s small just b bs t memory).memory).forms)

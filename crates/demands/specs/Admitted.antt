@@ -1,6 +1,6 @@
 -- Who may ask, in plain words (document 01, "Refusals on the wire": "2/91 no session of that UID on this connection; 2/5 no tree of that TID and UID; 1/6 no open of
 -- that FID, UID and TID"), in that order. Assumes nothing.
-use Rattle.std.specs.Prelude.{◌≡◌, ℕ, true, ◌&&◌, get_or}
+use Rattle.std.specs.Prelude.{◌≡◌, ℕ, true, ◌&&◌, get_or, Option, Some, None}
 use Rattle.std.proofs.Math.Path.{refl}
 use mathlib.Core.List.{Memᴰ as In}
 use Rattle.std.proofs.Math.Dec.{eqb}
@@ -8,8 +8,6 @@ use borrow.Author.Tests.{eqb-true, eq-eqb}
 use Rattle.lists.specs.Walk.{any, found}
 use Rattle.lists.specs.Truth.{both_hold, hold-both, not-decided-twice}
 use Rattle.lists.specs.Members.{any-one, one-any}
-use Rattle.lists.specs.declared.Found.{Found}
-use Rattle.lists.specs.declared.Found.TheVariants.{At, Nothing}
 use Rattle.records.specs.declared.Session.{Session}
 use Rattle.records.specs.declared.Open.{Open}
 use Rattle.records.specs.declared.Tables.{Tables}
@@ -86,17 +84,17 @@ module _ (c : Caller) (t : Tables) where
         hold-both (eqb o.fid fid) (eqb o.uid c.uid && eqb o.tid c.tid) (eq-eqb o.fid fid h.of-fid)
         (hold-both (eqb o.uid c.uid) (eqb o.tid c.tid) (eq-eqb o.uid c.uid h.of-uid) (eq-eqb o.tid c.tid h.of-tid))
 
-    pub open-found : (k : ℕ) → found (is_open c fid) (opens_of t) ≡ At k → OpenOf c t fid (get_or (opens_of t) k no_open)
+    pub open-found : (k : ℕ) → found (is_open c fid) (opens_of t) ≡ Some k → OpenOf c t fid (get_or (opens_of t) k no_open)
     open-found k e =
         let h = found-hit (is_open c fid) (opens_of t) k no_open e in
         open-test (get_or (opens_of t) k no_open) h.listed h.passes
 
-    pub open-nowhere : found (is_open c fid) (opens_of t) ≡ Nothing → (o : Open) × OpenOf c t fid o → ⊥
+    pub open-nowhere : found (is_open c fid) (opens_of t) ≡ None → (o : Open) × OpenOf c t fid o → ⊥
     open-nowhere e o = not-decided-twice (is_open c fid o.0) (test-open o.0 o.1) (found-miss (is_open c fid) o.1.listed e)
 
-    pub nowhere-open : (x : Found) → found (is_open c fid) (opens_of t) ≡ x → ((o : Open) × OpenOf c t fid o → ⊥) → x ≡ Nothing
-    nowhere-open (At k) e h = absurd (h (get_or (opens_of t) k no_open, open-found k e))
-    nowhere-open Nothing e h = refl
+    pub nowhere-open : (x : Option ℕ) → found (is_open c fid) (opens_of t) ≡ x → ((o : Open) × OpenOf c t fid o → ⊥) → x ≡ None
+    nowhere-open (Some k) e h = absurd (h (get_or (opens_of t) k no_open, open-found k e))
+    nowhere-open None e h = refl
 
   -- ---- either one of them is missing or the caller may ask
 

@@ -1,10 +1,9 @@
 -- What a message of one command that is done gives and leaves, said of the call (document 01, "Locks, reads and writes" and "Reply blocks"; document 02, CR 3).
 -- Assumes nothing.
-use Rattle.std.specs.Prelude.{◌≡◌, List, [], ◌∷◌, take, drop}
+use Rattle.std.specs.Prelude.{◌≡◌, List, [], ◌∷◌, take, drop, Some}
 use Rattle.std.proofs.Common.{sym, ap, ◌∙◌}
 use Prim.Native.Nat.{ℕ, ◌+◌, ◌≤◌, ◌<◌}
 use native.Mathlib.Omega.{arith}
-use Rattle.std.proofs.Math.Option.{some}
 use Rattle.std.proofs.Math.ListN.{length}
 use Rattle.std.proofs.Math.Decide.{ℕ_discrete}
 use Rattle.wire.specs.LittleEndian.{le16_at}
@@ -101,7 +100,7 @@ removed P {after} {u} {memory} {m} p e = let a : after ≡ u = cc in let b : m �
 
 -- ---- a message of one command, fit to be answered, on good tables, whose reply's Status is 0/0
 
-module _ (connection : ℕ) (s : List ℕ) (b : Block) (e : blocks s ≡ some (b ∷ [])) (t : Tables) (memory room : List ℕ) (g : Good t) (fit : Fit s t memory room)
+module _ (connection : ℕ) (s : List ℕ) (b : Block) (e : blocks s ≡ Some (b ∷ [])) (t : Tables) (memory room : List ℕ) (g : Good t) (fit : Fit s t memory room)
     (z : status_read (take-message connection s t memory room).room ≡ status 0 0) where
   abbrev pub caller : Caller
   caller = caller_of connection s

@@ -1,9 +1,8 @@
 -- Demand 3 said of the call itself and of readings: malformed exactly if no sentence, seen in the reply's bytes, and the chain of any reading
 -- sent one to a message. Assumes nothing.
-use Rattle.std.specs.Prelude.{◌≡◌, ℕ, ◌+◌, ◌≤◌, List}
+use Rattle.std.specs.Prelude.{◌≡◌, ℕ, ◌+◌, ◌≤◌, List, Some}
 use Rattle.std.proofs.Common.{◌∙◌, arith, length-append}
 use Rattle.std.proofs.Math.Path.{ap}
-use Rattle.std.proofs.Math.Option.{some}
 use Rattle.std.proofs.Math.ListN.{length}
 use Rattle.wire.specs.LittleEndian.{le32_at}
 use Rattle.records.specs.declared.Tables.{Tables}
@@ -32,7 +31,7 @@ status-number-call connection s t memory room f =
 
 -- a sentence is answered by its commands in turn, and the reply's length is the header's and theirs
 module _ (connection : ℕ) (s : List ℕ) (t : Tables) (memory : List ℕ) where
-  pub sentence-answered : (bs : List Block) → blocks s ≡ some bs → answered connection s t memory ≡ run (caller_of connection s) s NOBODY bs FIRST t memory
+  pub sentence-answered : (bs : List Block) → blocks s ≡ Some bs → answered connection s t memory ≡ run (caller_of connection s) s NOBODY bs FIRST t memory
   unfolding answered run_chain blocks
   sentence-answered bs e = rw (chained-served (read-chained s (header_command s) FIRST bs e), e)
 

@@ -1,6 +1,6 @@
 -- Demand 3's single claim, said of the calls themselves (document 01, "Sent one to a message" and "Compared"): the chain's call gives the number,
 -- holder, tables, file memory and reply that the calls of its blocks' own messages give. Assumes nothing.
-use Rattle.std.specs.Prelude.{◌≡◌, refl, ℕ, Bool, true, false, cond, ◌&&◌, List, [], ◌∷◌, ◌++◌, length, take, set, eqb}
+use Rattle.std.specs.Prelude.{◌≡◌, refl, ℕ, Bool, true, false, cond, ◌&&◌, List, [], ◌∷◌, ◌++◌, length, take, set, eqb, None as Nobody}
 use Rattle.std.proofs.Common.{sym, ◌∙◌, ap}
 use Rattle.std.proofs.lemmas.Bool.{false≢true}
 use Rattle.std.proofs.Math.Seq.{take-append_seam}
@@ -10,8 +10,7 @@ use Rattle.chain.specs.Layout.{header_command, FIRST}
 use Rattle.chain.specs.declared.block.Block.{Block}
 use Rattle.message.specs.declared.refusal.Forms.{Forms}
 use Rattle.message.specs.Refusal.{status, success}
-use Rattle.message.specs.declared.refusal.HeldBy.{HeldBy}
-use Rattle.message.specs.declared.refusal.HeldBy.TheVariants.{Nobody}
+use Rattle.message.specs.HeldBy.{HeldBy}
 use Rattle.message.specs.Message.{Ran, answered, reply_of, Taken, replied, take-message}
 use Rattle.demands.specs.StatusRead.{status_zero, succeeded}
 use Rattle.demands.specs.Returned.{returned_fid}

@@ -1,10 +1,9 @@
 -- Document 02, CR 6: "for 0xFFFF, and only then, demand 3's separate READ carries the FID returned": the message that a block makes of its own, with that FID, and what it
 -- gives. Assumes nothing.
-use Rattle.std.specs.Prelude.{◌≡◌, refl, ℕ, ◌+◌, ◌*◌, ◌/◌, ◌%◌, ◌≤◌, ◌<◌, Bool, true, false, cond, ◌&&◌, List, [], ◌∷◌, set, eqb}
+use Rattle.std.specs.Prelude.{◌≡◌, refl, ℕ, ◌+◌, ◌*◌, ◌/◌, ◌%◌, ◌≤◌, ◌<◌, Bool, true, false, cond, ◌&&◌, List, [], ◌∷◌, set, eqb, Some, None as End}
 use Rattle.std.proofs.Math.Path.{sym}
 use Rattle.std.proofs.Common.{ap, ◌∙◌, arith, length-set}
 use Rattle.std.proofs.Math.Bool.{and-false}
-use Rattle.std.proofs.Math.Option.{some}
 use Rattle.std.proofs.Math.ListN.{length}
 use Rattle.std.proofs.Math.Seq.{get_or-set_same, get_or-set_other}
 use borrow.Author.Tests.{eqb-true, eq-eqb, ne_eqb}
@@ -15,7 +14,6 @@ use Rattle.chain.specs.Layout.{READ, NO_COMMAND, header_command, FIRST, word_cou
 use Rattle.chain.specs.Grammar.{Bare, IsBlock, locking-10, locking-20, read-10, read-12, write-12, write-14, close, logoff, tree-disconnect, process-exit, core-read, core-write, lock-byte-range, unlock-byte-range, open-15, NamedAndx, locking-andx, read-andx, write-andx, logoff-andx, open-andx, close-plain, tree-disconnect-plain, process-exit-plain, core-read-plain, core-write-plain, lock-byte-range-plain, unlock-byte-range-plain}
 use Rattle.chain.specs.Chain.{blocks}
 use Rattle.chain.specs.ChainLaws.{chain-end}
-use Rattle.chain.specs.declared.block.Next.TheVariants.{End}
 use Rattle.invariants.specs.BlockTests.{Served, plain as plain_served, andx as andx_served}
 use Rattle.invariants.specs.BlockParse.{body_at, block_at, block-served, parse-complete}
 use Rattle.invariants.specs.JustOpenedLaws.{meant-nobody}
@@ -152,7 +150,7 @@ served-true (andx_served open-andx) = refl
 
 module _ {command : ℕ} (m : List ℕ) (h : IsBlock m FIRST command) (is : header_command m ≡ command) (ends : NamedAndx command → andx_command m FIRST ≡ NO_COMMAND) where
   -- it is read as that block alone
-  pub one_block : blocks m ≡ some (block_at m command FIRST End ∷ [])
+  pub one_block : blocks m ≡ Some (block_at m command FIRST End ∷ [])
   unfolding blocks block_at
   one_block = rw is (chain-end m command FIRST (block_at m command FIRST End) (parse-complete m FIRST h (alone-link m FIRST (block-served h) ends)) refl)
 
@@ -242,7 +240,7 @@ module _ {command : ℕ} (m : List ℕ) (h : IsBlock m FIRST command) (is : head
   carried_gives connection t memory = test-cases (asks_opened m) (carried-changed connection t memory) (carried-as-is connection t memory)
 
   -- it is read as one block, as long as the other
-  changed_block : asks_opened m ≡ true → (blocks (carrying fid m) ≡ some (block_at (carrying fid m) command FIRST End ∷ [])) × (block_end (carrying fid m) FIRST ≡ block_end m FIRST)
+  changed_block : asks_opened m ≡ true → (blocks (carrying fid m) ≡ Some (block_at (carrying fid m) command FIRST End ∷ [])) × (block_end (carrying fid m) FIRST ≡ block_end m FIRST)
   unfolding asks_opened
   changed_block e =
       let read : header_command m ≡ READ = eqb-true (header_command m) READ (both_hold (eqb (header_command m) READ) (eqb (fid_after_andx m FIRST) NOBODY) e).0 in
@@ -254,9 +252,9 @@ module _ {command : ℕ} (m : List ℕ) (h : IsBlock m FIRST command) (is : head
       let words = carried-words fid m in
       (rw r (one_block (carrying fid m) b.0 is' ends'), omega arith)
 
-  same_block : asks_opened m ≡ false → (blocks (carrying fid m) ≡ some (block_at (carrying fid m) command FIRST End ∷ [])) × (block_end (carrying fid m) FIRST ≡ block_end m FIRST)
+  same_block : asks_opened m ≡ false → (blocks (carrying fid m) ≡ Some (block_at (carrying fid m) command FIRST End ∷ [])) × (block_end (carrying fid m) FIRST ≡ block_end m FIRST)
   unfolding carrying
   same_block e = rw e (one_block m h is ends, refl)
 
-  pub carried-block : (blocks (carrying fid m) ≡ some (block_at (carrying fid m) command FIRST End ∷ [])) × (block_end (carrying fid m) FIRST ≡ block_end m FIRST)
+  pub carried-block : (blocks (carrying fid m) ≡ Some (block_at (carrying fid m) command FIRST End ∷ [])) × (block_end (carrying fid m) FIRST ≡ block_end m FIRST)
   carried-block = test-cases (asks_opened m) changed_block same_block

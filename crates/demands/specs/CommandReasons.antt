@@ -1,20 +1,17 @@
 -- The status of each command and the one reason for it, in plain words (document 01, "Refusals on the wire": the codes, and "Order: as written, for the whole of each
 -- command with all its ranges"; document 02, CR 3, of the core commands: "as for the counterparts"; CR 6, of OPEN_ANDX: OpenReasons.antt). A reason names the failure of those
 -- before it in that order; the status is given just where its reason holds. Assumes nothing.
-use Rattle.std.specs.Prelude.{◌≡◌, ◌⊎◌, ◌↔◌, ℕ, ◌+◌, ◌*◌, ◌/◌, ◌%◌, ◌^◌, ◌≤◌, ◌<◌, true, not, ◌||◌, get_or, leb, ltb, eqb}
+use Rattle.std.specs.Prelude.{◌≡◌, ◌⊎◌, ◌↔◌, ℕ, ◌+◌, ◌*◌, ◌/◌, ◌%◌, ◌^◌, ◌≤◌, ◌<◌, true, not, ◌||◌, get_or, leb, ltb, eqb, Option, Some, None}
 use Rattle.std.proofs.Math.Path.{refl, ap}
 use Rattle.std.proofs.Math.Logic.{inl, inr}
 use native.Mathlib.Omega.{arith}
 use Rattle.std.proofs.Math.Bool.{false, and-false}
 use mathlib.Core.List.{List, [], ◌∷◌, map}
-use Rattle.std.proofs.Math.Option.{Option}
 use Rattle.std.proofs.Math.ListN.{length}
 use Rattle.std.proofs.Math.Decide.{ℕ_discrete}
 use borrow.Author.Tests.{leb-true, leb-false, ltb-true, ltb-false, lt-ltb, le-ltb, eqb-true, eqb-false, eq-eqb, ne_eqb, not-true}
 use Rattle.lists.specs.Walk.{any}
 use Rattle.lists.specs.Truth.{both_hold, either-holds, decided, not-decided-twice}
-use Rattle.lists.specs.declared.Found.{Found}
-use Rattle.lists.specs.declared.Found.TheVariants.{At, Nothing}
 use Rattle.records.specs.declared.Open.{Open}
 use Rattle.records.specs.declared.Lock.{Lock}
 use Rattle.records.specs.declared.Tables.{Tables}
@@ -223,11 +220,11 @@ module _ (c : Caller) (t : Tables) (memory : List ℕ) (ok : sound t ≡ true) w
 
     module _ (e : eqb read-open.access 1 ≡ false) where
       -- a lock is in the way, or the read is done
-      pub read-ends : (x : Found) → do_read c t memory f ≡ unless_barred t x read-end → (BarsRead c t f read-open × (status_in (do_read c t memory f) ≡ status 1 33))
+      pub read-ends : (x : Option ℕ) → do_read c t memory f ≡ unless_barred t x read-end → (BarsRead c t f read-open × (status_in (do_read c t memory f) ≡ status 1 33))
           ⊎ ((BarsRead c t f read-open → ⊥) × (status_in (do_read c t memory f) ≡ status 0 0))
       unfolding unless_barred status_in held_in status
-      read-ends (At j) g = inl ((read-exact c t memory k ok f may e).0 (_, ap held_in g), conflicts-status (do_read c t memory f) (_, ap held_in g))
-      read-ends Nothing g =
+      read-ends (Some j) g = inl ((read-exact c t memory k ok f may e).0 (_, ap held_in g), conflicts-status (do_read c t memory f) (_, ap held_in g))
+      read-ends None g =
           inr (λ w. other-status (do_read c t memory f) (read-other g) ((read-exact c t memory k ok f may e).1 w), ap status_in g)
         where
           read-other : do_read c t memory f ≡ read-end → (status_in (do_read c t memory f)).code ≡ 33 → ⊥

@@ -1,6 +1,6 @@
 -- "C0000055 for a lock refused, C0000054 for a read or write refused" (document 02, CR 7), by the command refused: LOCKING and LOCK_BYTE_RANGE, and READ and WRITE in all forms, count 0 too
 -- (docs/DECISIONS.md, 118). Assumes nothing.
-use Rattle.std.specs.Prelude.{◌≡◌, refl, ℕ, ◌+◌, ◌*◌, cond, ◌||◌, List, ◌∷◌, eqb, ltb, length, take, get_or}
+use Rattle.std.specs.Prelude.{◌≡◌, refl, ℕ, ◌+◌, ◌*◌, cond, ◌||◌, List, ◌∷◌, eqb, ltb, length, take, get_or, None as Nobody}
 use Rattle.std.proofs.Common.{sym, ap, ◌∙◌}
 use Rattle.records.specs.Empty.{no_open}
 use Rattle.records.specs.Held.{opens_of}
@@ -19,7 +19,6 @@ use Rattle.invariants.specs.BlockParse.{body_at}
 use Rattle.invariants.specs.GivenCases.{cond-case, request-case, session-case, tree-case, open-case, barred-case, writing-case, opening-case}
 use Rattle.message.specs.declared.caller.Caller.{Caller}
 use Rattle.message.specs.Refusal.{forms_of, nt_of, holder_of}
-use Rattle.message.specs.declared.refusal.HeldBy.TheVariants.{Nobody}
 use Rattle.message.specs.declared.refusal.Refusal.{Refusal}
 use Rattle.message.specs.declared.refusal.Refusal.TheVariants.{NotSentence, NoSession, NoTree, NoOpen, NoAccess, LockType, NoSuchLock, PassesEnd, LockNotGranted, FileLockConflict, NoRecord, NoSpace, OpenMode, BadAccess, NoSuchFile, BadShare, NoFids}
 use Rattle.message.specs.Command.{Said, Given, refused, done, served_type, request_of, locking_end, locking_after, do_locking, do_read, ends_past, do_write, as_core, one_range, range_by, do_range, do_set_size, do_core_write, perform}

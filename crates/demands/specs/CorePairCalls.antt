@@ -1,9 +1,8 @@
 -- Document 02, CR 3: "Prove once that a core command and its counterpart with equal fields change the same things, count 0 excepted", said of two messages of one
 -- sender and of the calls that take them. Equal fields are said of the messages' bytes, where the layout has them. Assumes nothing.
-use Rattle.std.specs.Prelude.{◌≡◌, refl, ℕ, zero, suc, ◌+◌, ◌*◌, ◌/◌, ◌%◌, List, [], ◌∷◌, ◌++◌, length, take, drop, eqb}
+use Rattle.std.specs.Prelude.{◌≡◌, refl, ℕ, zero, suc, ◌+◌, ◌*◌, ◌/◌, ◌%◌, List, [], ◌∷◌, ◌++◌, length, take, drop, eqb, Some, None as End, None as no_link}
 use Rattle.std.proofs.Math.Path.{sym}
 use Rattle.std.proofs.Common.{ap, ◌∙◌, zero-add, suc-add, arith, append-nil, drop-drop, eqb-true}
-use Rattle.std.proofs.Math.Option.{some}
 use Rattle.std.proofs.Math.Seq.{take-nil}
 use Rattle.lists.specs.Truth.{both_hold, test-cases}
 use Rattle.lists.specs.Put.{put}
@@ -15,8 +14,7 @@ use Rattle.chain.specs.Layout.{LOCKING, READ, WRITE, CORE-READ, CORE-WRITE, LOCK
 use Rattle.chain.specs.Grammar.{IsBlock, Span, ReadingFrom, plain_end, andx-end, andx-next}
 use Rattle.chain.specs.Parse.{shaped, is_large, locking_fits, wide_offset}
 use Rattle.chain.specs.Chain.{blocks_from}
-use Rattle.chain.specs.declared.block.Next.TheVariants.{End, Follow}
-use Rattle.chain.specs.declared.block.Next.{Next}
+use Rattle.chain.specs.Next.{Follow, Next}
 use Rattle.chain.specs.declared.block.Block.{Block}
 use Rattle.invariants.specs.BlockTests.{fits, fits-complete}
 use Rattle.invariants.specs.BlockParse.{body_at, block_at, Linked, link-plain, link-end, link-next}
@@ -28,7 +26,6 @@ use Rattle.message.specs.declared.caller.Caller.{Caller}
 use Rattle.message.specs.Caller.{caller_of}
 use Rattle.message.specs.Refusal.{status}
 use Rattle.message.specs.declared.refusal.Status.{Status}
-use Rattle.message.specs.declared.link.Link.TheVariants.{None as no_link, Next as next}
 use Rattle.message.specs.Command.{Said, locked, Given, do_locking, perform}
 use Rattle.message.specs.JustOpened.{NOBODY, opened_by, body_meant}
 use Rattle.message.specs.Reply.{reply_header, reply_block, refused_block, reply_size}
@@ -180,12 +177,12 @@ pub record SameLocking (s t : List ℕ) : Type 0 where
 pub data ChainsAlike (core other : ℕ) : Status → List ℕ → List ℕ → Type 0 where
   locking-refused-alike : {why : Status} → (why ≡ status 0 0 → ⊥) → ChainsAlike core other why refused_block refused_block
   locking-then : {why : Status} {one two : List ℕ} → BlocksAlike 39 why one two
-      → ChainsAlike core other why (reply_block locked FIRST (next core 39) ++ one) (reply_block locked FIRST (next other 39) ++ two)
+      → ChainsAlike core other why (reply_block locked FIRST (Follow core 39) ++ one) (reply_block locked FIRST (Follow other 39) ++ two)
 
 -- a reading of two blocks, from a place on
 pub record TwoBlocks (s : List ℕ) (command at : ℕ) : Type 0 where
   pub second : IsBlock s (andx_offset s at) (andx_command s at)
-  pub is_read : blocks_from s command at ≡ some (block_at s command at (Follow (andx_command s at) (andx_offset s at)) ∷ block_at s (andx_command s at) (andx_offset s at) End ∷ [])
+  pub is_read : blocks_from s command at ≡ Some (block_at s command at (Follow (andx_command s at) (andx_offset s at)) ∷ block_at s (andx_command s at) (andx_offset s at) End ∷ [])
 
 some_block : {s : List ℕ} {command at : ℕ} {spans : List Span} → ReadingFrom s command at spans → spans ≡ [] → ⊥
 some_block (plain_end h p) e = let z : ◌≡◌ {A = ℕ} 0 1 = cc in omega arith

@@ -1,10 +1,9 @@
 -- Document 02, CR 3: "Prove once that a core command and its counterpart with equal fields change the same things, count 0 excepted." The four pairs are one list,
 -- and of each what the core command gives is what its counterpart gives, said in its own reply block. Of two messages: CorePairCalls.antt. Assumes nothing.
-use Rattle.std.specs.Prelude.{◌≡◌, ◌↔◌, ℕ, ◌+◌, ◌*◌, ◌/◌, ◌%◌, Bool, true, false, List, [], ◌∷◌, take, drop, get_or, eqb}
+use Rattle.std.specs.Prelude.{◌≡◌, ◌↔◌, ℕ, ◌+◌, ◌*◌, ◌/◌, ◌%◌, Bool, true, false, List, [], ◌∷◌, take, drop, get_or, eqb, Option, None, Some, Ok, Err}
 use Rattle.std.proofs.Math.Path.{refl, ap}
 use Rattle.std.proofs.Common.{sym, ◌∙◌}
 use native.Mathlib.Omega.{arith}
-use Rattle.std.proofs.Math.Option.{Option, none, some}
 use Rattle.std.proofs.Math.ListN.{length}
 use borrow.Author.Tests.{eq-eqb, ne_eqb}
 use Rattle.records.specs.declared.Lock.{Lock}
@@ -15,8 +14,8 @@ use Rattle.locks.specs.Wire.{range_size, range_at, ranges_at, small_form, small-
 use Rattle.locks.specs.Request.{of_header, ranges_of, grant_all, after_releases, request, settle, locking}
 use Rattle.locks.specs.declared.types.LockRange.{LockRange}
 use Rattle.locks.specs.declared.types.Locking.{Locking}
-use Rattle.locks.specs.declared.types.Outcome.{Outcome}
-use Rattle.locks.specs.declared.types.Outcome.TheVariants.{Done, Malformed as BadRanges, NoSuchLock as NoLock, PassesEnd as PastEnd, Conflict as InWay, NoRecord as NoRoom}
+use Rattle.locks.specs.Outcome.{Outcome}
+use Rattle.locks.specs.declared.types.LockRefusal.TheVariants.{Malformed as BadRanges, NoSuchLock as NoLock, PassesEnd as PastEnd, Conflict as InWay, NoRecord as NoRoom}
 use Rattle.soundness.specs.File.{file_of}
 use Rattle.chain.specs.declared.block.LockingFields.{LockingFields}
 use Rattle.chain.specs.declared.block.ReadFields.{ReadFields}
@@ -87,8 +86,8 @@ module _ (c : Caller) (f : RangeFields) where
     -- nothing to lock: whether it would be shared does not count
     no-locks : (file : ℕ → ℕ) (fid : ℕ) (shared : Bool) (o : Option (List Lock)) → after_releases file fid shared [] o ≡ after_releases file fid false [] o
     unfolding after_releases grant_all
-    no-locks file fid shared none = refl
-    no-locks file fid shared (some list) = refl
+    no-locks file fid shared None = refl
+    no-locks file fid shared (Some list) = refl
 
     one-unlock : (g : LockingFields) (area : List ℕ) → served_type g.kind ≡ true → g.unlocks ≡ 1 → g.locks ≡ 0
         → JustRange c f (eqb (g.kind / 16 % 2) 1) area → do_locking c t memory g area ≡ locking_gives g.fid false (asked c f ∷ []) []
@@ -153,12 +152,12 @@ locking-speaks locking-done = says-locked
 
 ending-says : (o : Outcome) (t : Tables) (memory : List ℕ) (l : Locking) → LockingSays (locking_end o t memory l)
 unfolding locking_end
-ending-says Done t memory l = locking-done
-ending-says BadRanges t memory l = locking-refused
-ending-says NoLock t memory l = locking-refused
-ending-says PastEnd t memory l = locking-refused
-ending-says (InWay h) t memory l = locking-refused
-ending-says NoRoom t memory l = locking-refused
+ending-says (Ok _) t memory l = locking-done
+ending-says (Err BadRanges) t memory l = locking-refused
+ending-says (Err NoLock) t memory l = locking-refused
+ending-says (Err PastEnd) t memory l = locking-refused
+ending-says (Err (InWay h)) t memory l = locking-refused
+ending-says (Err NoRoom) t memory l = locking-refused
 
 module _ (c : Caller) (t : Tables) (memory : List ℕ) where
   pub locking-says : (f : LockingFields) (area : List ℕ) → LockingSays (do_locking c t memory f area)

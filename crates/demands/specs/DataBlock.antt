@@ -1,6 +1,6 @@
 -- Document 02, CR 3: "a data block not marked 0x01 or whose lengths disagree is 2/1". The data block of a core WRITE: its mark 0x01, its length and the data; the
 -- lengths are the block's count, the data block's length and ByteCount less 3. Assumes nothing.
-use Rattle.std.specs.Prelude.{◌≡◌, ℕ, ◌+◌, true, List}
+use Rattle.std.specs.Prelude.{◌≡◌, ℕ, ◌+◌, true, List, None as Nobody}
 use Rattle.std.proofs.Common.{arith}
 use Rattle.records.specs.declared.Tables.{Tables}
 use Rattle.chain.specs.Layout.{LOCKING, CORE-WRITE, header_command, FIRST, byte_count, andx_command, andx_offset, core_count, data_mark, marked_length}
@@ -8,7 +8,6 @@ use Rattle.chain.specs.Grammar.{IsBlock, MarkedData, locking-andx, Span, Reading
 use Rattle.invariants.specs.BlockTests.{fits, fits-complete, core-write-exact}
 use Rattle.invariants.specs.BlockParse.{plain-not-andx}
 use Rattle.message.specs.Refusal.{status}
-use Rattle.message.specs.declared.refusal.HeldBy.TheVariants.{Nobody}
 use Rattle.message.specs.Message.{served, Taken}
 use Rattle.demands.specs.StatusRead.{status_read}
 use Rattle.demands.specs.RefusedCall.{Untouched}

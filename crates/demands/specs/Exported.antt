@@ -1,7 +1,7 @@
 -- What the host sees of each exported function, in the core's own words: the number returned, the out-parameter and the words after
 -- it are those of the core's call with the same arguments, on the tables that the words hold; and what a call that is done leaves in
 -- them is what `HostFrames.antt` and `EndOne.antt` of `claims` say. From the equations of the contracts. Assumes nothing.
-use Rattle.std.specs.Prelude.{◌≡◌, refl, ◌⊎◌, ◌↔◌, ℕ, ◌<◌, ◌≤◌, true, false}
+use Rattle.std.specs.Prelude.{◌≡◌, refl, ◌⊎◌, ◌↔◌, ℕ, ◌<◌, ◌≤◌, true, false, None as Nobody, Some as held_by}
 use Rattle.std.proofs.Math.Path.{sym, ap}
 use Rattle.std.proofs.Common.{◌∙◌, arith}
 use Rattle.std.proofs.Math.Logic.{⊎_elim}
@@ -15,8 +15,7 @@ use Rattle.host.specs.declared.answer.Returned.{Returned}
 use Rattle.host.specs.declared.ending.One.{One}
 use Rattle.host.specs.HostCall.{refused, done, load_file, drop_connection, set_catalogue, ask_unchanged, end_one}
 use Rattle.locks.specs.declared.types.Holder.{Holder}
-use Rattle.message.specs.declared.refusal.HeldBy.{HeldBy}
-use Rattle.message.specs.declared.refusal.HeldBy.TheVariants.{Nobody, Holder as held_by}
+use Rattle.message.specs.HeldBy.{HeldBy}
 use Rattle.message.specs.Message.{Taken, not_taken, take-message}
 use Rattle.invariants.specs.GivenCases.{cond-case}
 use Rattle.invariants.specs.HostCases.{load_file-either, drop_connection-either, end_one-either}

@@ -1,10 +1,8 @@
 -- What a READ or a WRITE that is done gives and leaves, byte by byte (document 01, "Locks, reads and writes"), and the core READ and WRITE (document 02, CR 3),
 -- said of the command. Assumes nothing.
-use Rattle.std.specs.Prelude.{◌≡◌, refl, ℕ, min, max, ◌+◌, ◌-◌, ◌*◌, ◌≤◌, ◌<◌, Bool, true, false, cond, List, length, drop, get_or, eqb}
+use Rattle.std.specs.Prelude.{◌≡◌, refl, ℕ, min, max, ◌+◌, ◌-◌, ◌*◌, ◌≤◌, ◌<◌, Bool, true, false, cond, List, length, drop, get_or, eqb, Option, Some, None}
 use Rattle.std.proofs.Common.{◌∙◌, arith, length-drop, length-take-le}
 use Rattle.std.proofs.Math.Path.{ap}
-use Rattle.lists.specs.declared.Found.{Found}
-use Rattle.lists.specs.declared.Found.TheVariants.{At, Nothing}
 use Rattle.records.specs.declared.Tables.{Tables}
 use Rattle.records.specs.Change.{raised, changes_of}
 use Rattle.records.specs.Empty.{no_file}
@@ -14,7 +12,7 @@ use Rattle.chain.specs.Layout.{WRITE, CORE-WRITE, word_count, block_end, fid_aft
 use Rattle.chain.specs.Parse.{wide_offset}
 use Rattle.chain.specs.Grammar.{IsBlock, Data, locking-10, locking-20, read-10, read-12, write-12, write-14, close, logoff, tree-disconnect, process-exit, core-read, core-write, lock-byte-range, unlock-byte-range, open-15}
 use Rattle.chain.specs.declared.block.Body.TheVariants.{Write as WriteBody, CoreWrite as CoreWriteBody}
-use Rattle.chain.specs.declared.block.Next.{Next}
+use Rattle.chain.specs.Next.{Next}
 use Rattle.chain.specs.declared.block.WriteFields.{WriteFields}
 use Rattle.invariants.specs.BlockParse.{body_at, block_at}
 use Rattle.message.specs.declared.refusal.Refusal.{Refusal}
@@ -52,10 +50,10 @@ pub not-refused : (b : Bool) (why : Refusal) (g : Given) {u : Tables} {m : List 
 not-refused true why g e = never cc
 not-refused false why g e = (refl, e)
 
-pub not-barred : (t : Tables) (x : Found) (g : Given) {u : Tables} {m : List ℕ} {said : Said} → unless_barred t x g ≡ done u m said → g ≡ done u m said
+pub not-barred : (t : Tables) (x : Option ℕ) (g : Given) {u : Tables} {m : List ℕ} {said : Said} → unless_barred t x g ≡ done u m said → g ≡ done u m said
 unfolding unless_barred
-not-barred t (At k) g e = never cc
-not-barred t Nothing g e = e
+not-barred t (Some k) g e = never cc
+not-barred t None g e = e
 
 pub same_bytes : {x y : List ℕ} → read x ≡ read y → x ≡ y
 same_bytes e = cc

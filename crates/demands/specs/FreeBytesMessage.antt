@@ -1,11 +1,10 @@
 -- "Free bytes" (document 01): a message gives what its header and the blocks of its reading say, whatever stands between and after, and
 -- whatever stands in them where it is not looked at.
 -- Assumes nothing.
-use Rattle.std.specs.Prelude.{◌≡◌, refl, ℕ, ◌+◌, ◌≤◌, ◌<◌, List, [], map, length, take, drop}
+use Rattle.std.specs.Prelude.{◌≡◌, refl, ℕ, ◌+◌, ◌≤◌, ◌<◌, List, [], map, length, take, drop, Some}
 use Rattle.std.proofs.Common.{sym, ◌∙◌, ap, arith, length-take, length-drop, get_or-take, get_or-drop, ext_get_or}
 use mathlib.Core.List.Memᴰ.{head as first}
 use mathlib.Core.List.Memᴰ.{tail as later}
-use Rattle.std.proofs.Math.Option.{some}
 use Rattle.wire.specs.LittleEndian.{byte_at, le16_at}
 use Rattle.records.specs.declared.Tables.{Tables}
 use Rattle.message.specs.declared.refusal.Forms.{Forms}
@@ -13,7 +12,7 @@ use Rattle.chain.specs.Layout.{header_command, FIRST}
 use Rattle.chain.specs.Grammar.{IsBlock, Span, span_at, Reading}
 use Rattle.chain.specs.Chain.{blocks}
 use Rattle.chain.specs.declared.block.Block.{Block}
-use Rattle.chain.specs.declared.block.Next.{Next}
+use Rattle.chain.specs.Next.{Next}
 use Rattle.invariants.specs.BlockParse.{body_at, block_at}
 use Rattle.invariants.specs.ReaderSound.{span_of}
 use Rattle.readings.specs.ReaderComplete.{reader-complete-from}
@@ -106,7 +105,7 @@ module _ (s t : List ℕ) (sender : HeaderBut11 s t) {spans : List Span} (r : Re
   unfolding run_chain blocks
   chain_same alike c u memory =
       let a = reader-complete-from r in
-      let e : blocks s ≡ some a.bs = a.answer in
+      let e : blocks s ≡ Some a.bs = a.answer in
       let f : blocks t ≡ blocks s = unread-blocks t (sender.same 4 (omega arith) (λ e. omega arith)) r alike in
       let g : AllAlike s t (map span_of a.bs) = rw a.same alike in
       rw (f, e) (run-same t c (read-chained s (header_command s) FIRST a.bs e) g NOBODY FIRST u memory)

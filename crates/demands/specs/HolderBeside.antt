@@ -1,13 +1,12 @@
 -- What the host gets beside a Status (document 02, CR 2): a holder beside 1/33, lock conflict, and beside no other. Assumes nothing.
-use Rattle.std.specs.Prelude.{◌≡◌, refl, ◌↔◌, ℕ, List}
+use Rattle.std.specs.Prelude.{◌≡◌, refl, ◌↔◌, ℕ, List, None as Nobody, Some as held_by}
 use Rattle.std.proofs.Common.{ap, arith}
 use Rattle.records.specs.declared.Tables.{Tables}
 use Rattle.locks.specs.declared.types.Holder.{Holder}
 use Rattle.message.specs.Refusal.{status, forms_of, status_of, holder_of}
 use Rattle.message.specs.declared.refusal.Status.{Status}
 use Rattle.message.specs.declared.refusal.Forms.{Forms}
-use Rattle.message.specs.declared.refusal.HeldBy.{HeldBy}
-use Rattle.message.specs.declared.refusal.HeldBy.TheVariants.{Nobody, Holder as held_by}
+use Rattle.message.specs.HeldBy.{HeldBy}
 use Rattle.message.specs.declared.refusal.Refusal.{Refusal}
 use Rattle.message.specs.declared.refusal.Refusal.TheVariants.{NotServed, NotSentence, NoSession, NoTree, NoOpen, NoAccess, LockType, NoSuchLock, PassesEnd, LockNotGranted, FileLockConflict, NoRecord, NoSpace, OpenMode, BadAccess, NoSuchFile, BadShare, NoFids}
 use Rattle.message.specs.Message.{answered}

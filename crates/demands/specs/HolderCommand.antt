@@ -1,13 +1,10 @@
 -- A command is refused for conflict with a holder exactly if that holder is in its way, in plain words (document 02, CR 2: "Locks, reads and writes pass it up").
 -- Assumes nothing.
-use Rattle.std.specs.Prelude.{◌≡◌, ◌↔◌, ℕ, ◌+◌, ◌*◌, ◌/◌, ◌%◌, length, leb, eqb}
+use Rattle.std.specs.Prelude.{◌≡◌, ◌↔◌, ℕ, ◌+◌, ◌*◌, ◌/◌, ◌%◌, length, leb, eqb, Option, Some, None, Some as held_by}
 use Rattle.std.proofs.Math.Path.{ap}
 use native.Mathlib.Omega.{arith}
 use Rattle.std.proofs.Math.Bool.{true, cond}
 use mathlib.Core.List.{List, Memᴰ as In}
-use Rattle.std.proofs.Math.Option.{Option}
-use Rattle.lists.specs.declared.Found.{Found}
-use Rattle.lists.specs.declared.Found.TheVariants.{At, Nothing}
 use Rattle.records.specs.declared.Open.{Open}
 use Rattle.records.specs.declared.Lock.{Lock}
 use Rattle.records.specs.declared.Tables.{Tables}
@@ -27,7 +24,6 @@ use Rattle.message.specs.declared.caller.Caller.{Caller}
 use Rattle.message.specs.Refusal.{status}
 use Rattle.message.specs.declared.refusal.Status.{Status}
 use Rattle.message.specs.declared.refusal.Refusal.TheVariants.{NoAccess}
-use Rattle.message.specs.declared.refusal.HeldBy.TheVariants.{Holder as held_by}
 use Rattle.message.specs.Command.{Given, refused, done, locking_end, locking_after, ask_by, unless_barred, barring, as_core}
 use Rattle.demands.specs.LoneLock.{held_in, shared_in}
 use Rattle.demands.specs.Admitted.{Admitted, no-session, before-tree, no-tree, NoOpenFor, before-open, no-open}
@@ -55,11 +51,11 @@ module _ (c : Caller) (t : Tables) (memory : List ℕ) (ok : sound t ≡ true) w
   listed-opened l m = ((sound-plain t).0 ok).lock-open l m
 
   -- what the walk found decides
-  pub barred-names : (q : Ask) (x : Found) (next : Given) (h : Holder) → (Names next h → ⊥) → barring t q ≡ x → Names (unless_barred t x next) h
-      → (j : ℕ) × (barring t q ≡ At j) × (holder_at (locks_of t) j ≡ h)
+  pub barred-names : (q : Ask) (x : Option ℕ) (next : Given) (h : Holder) → (Names next h → ⊥) → barring t q ≡ x → Names (unless_barred t x next) h
+      → (j : ℕ) × (barring t q ≡ Some j) × (holder_at (locks_of t) j ≡ h)
   unfolding unless_barred held_in
-  barred-names q (At j) next h n e f = let same : holder_at (locks_of t) j ≡ h = cc in (j, e, same)
-  barred-names q Nothing next h n e f = absurd (n f)
+  barred-names q (Some j) next h n e f = let same : holder_at (locks_of t) j ≡ h = cc in (j, e, same)
+  barred-names q None next h n e f = absurd (n f)
 
   -- both are told by the access denied, by what is asked of the list and by what follows where nothing is in the way, which has no holder
   module _ (fid denied : ℕ) (from size : Open → ℕ) (purpose : Purpose) (h : Holder) where

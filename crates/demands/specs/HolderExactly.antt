@@ -1,12 +1,11 @@
 -- Beside which reply there is a holder (document 02, CR 2: "the host gets the holder's FID and process beside the reply"): of a call that is done exactly if the Status
 -- in its reply is 1/33, lock conflict; of any other call there is none. Assumes nothing.
-use Rattle.std.specs.Prelude.{◌≡◌, refl, ℕ, ◌||◌, List, length, ltb, eqb}
+use Rattle.std.specs.Prelude.{◌≡◌, refl, ℕ, ◌||◌, List, length, ltb, eqb, None as Nobody}
 use Rattle.std.proofs.Math.Path.{ap}
 use Rattle.std.proofs.Math.Bool.{not}
 use Rattle.records.specs.declared.Tables.{Tables}
 use Rattle.soundness.specs.Sound.{sound}
 use Rattle.chain.specs.Header.{dropped}
-use Rattle.message.specs.declared.refusal.HeldBy.TheVariants.{Nobody}
 use Rattle.message.specs.Message.{answered, Taken, not_taken, replied, take-message}
 use Rattle.invariants.specs.GivenCases.{cond-case}
 use Rattle.invariants.specs.Fit.{Fit, fit-answered}

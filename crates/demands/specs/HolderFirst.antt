@@ -1,13 +1,11 @@
 -- The holder beside the reply to a message whose first command is refused for conflict, by the message's bytes: of a READ, of a WRITE and, demand 2's sentence, of a lock
 -- alone in its request the first listed lock that is in the way; of the core commands likewise. Assumes nothing.
-use Rattle.std.specs.Prelude.{◌≡◌, ℕ, List, ◌∷◌}
-use Rattle.std.proofs.Math.Option.{some}
+use Rattle.std.specs.Prelude.{◌≡◌, ℕ, List, ◌∷◌, Some, Some as held_by}
 use Rattle.records.specs.declared.Tables.{Tables}
 use Rattle.locks.specs.declared.types.Holder.{Holder}
 use Rattle.chain.specs.Chain.{blocks}
 use Rattle.chain.specs.declared.block.Block.{Block}
 use Rattle.invariants.specs.Fit.{Fit}
-use Rattle.message.specs.declared.refusal.HeldBy.TheVariants.{Holder as held_by}
 use Rattle.message.specs.declared.refusal.Refusal.TheVariants.{}
 use Rattle.message.specs.Command.{Given}
 use Rattle.message.specs.Message.{area_of, Taken}
@@ -26,7 +24,7 @@ pub all_first : {s : List ℕ} {b : Block} {bs : List Block} → AllAnnounced s 
 all_first (next-announced a more) = a
 
 module _ (connection : ℕ) (s : List ℕ) (t : Tables) (memory room : List ℕ) (fit : Fit s t memory room) (h : Holder) where
-  module _ (b : Block) (bs : List Block) (e : blocks s ≡ some (b ∷ bs)) where
+  module _ (b : Block) (bs : List Block) (e : blocks s ≡ Some (b ∷ bs)) where
     abbrev pub given : Given
     given = first-given connection s b bs e t memory room fit
 

@@ -1,9 +1,8 @@
 -- In a chain the holder is the one that the refused command met, on the tables as they stood when it was begun (document 02, CR 2; document 01: "Commands before it in
 -- the chain stand; those after it aren't begun"), said of the call, exactly. Assumes nothing.
-use Rattle.std.specs.Prelude.{◌≡◌, ℕ}
+use Rattle.std.specs.Prelude.{◌≡◌, ℕ, Option, None, Some, Some as held_by}
 use Rattle.std.proofs.Math.Path.{refl}
 use mathlib.Core.List.{List, ◌∷◌, ◌++◌}
-use Rattle.std.proofs.Math.Option.{Option, none, some}
 use Rattle.records.specs.declared.Tables.{Tables}
 use Rattle.locks.specs.declared.types.Holder.{Holder}
 use Rattle.chain.specs.Layout.{header_command, FIRST}
@@ -15,7 +14,6 @@ use Rattle.invariants.specs.Fit.{Fit}
 use Rattle.message.specs.Caller.{caller_of}
 use Rattle.message.specs.declared.caller.Caller.{Caller}
 use Rattle.message.specs.Refusal.{status}
-use Rattle.message.specs.declared.refusal.HeldBy.TheVariants.{Holder as held_by}
 use Rattle.message.specs.JustOpened.{NOBODY, body_meant}
 use Rattle.message.specs.Message.{area_of, Ran, run, served, only_status, run_chain, answered}
 use Rattle.demands.specs.RefusedCall.{meant_after}
@@ -46,7 +44,7 @@ pub record Met (connection : ℕ) (s : List ℕ) (t : Tables) (memory : List ℕ
   pub front : List Block
   pub command : Block
   pub later : List Block
-  pub read : blocks s ≡ some (front ++ (command ∷ later))
+  pub read : blocks s ≡ Some (front ++ (command ∷ later))
   -- "Commands before it in the chain stand": carried out alone they are done
   pub front-done : (run (caller_of connection s) s NOBODY front FIRST t memory).forms.status ≡ status 0 0
   -- its FID 0xFFFF is what the last of them opened (document 02, CR 6)
@@ -55,13 +53,13 @@ pub record Met (connection : ℕ) (s : List ℕ) (t : Tables) (memory : List ℕ
 
 -- a message that is not served, or no sentence, has no holder
 pub data Sentenced (connection : ℕ) (s : List ℕ) (t : Tables) (memory : List ℕ) (h : Holder) : Type 0 where
-  read_as : (bs : List Block) → blocks s ≡ some bs → (run (caller_of connection s) s NOBODY bs FIRST t memory).holder ≡ held_by h → Sentenced connection s t memory h
+  read_as : (bs : List Block) → blocks s ≡ Some bs → (run (caller_of connection s) s NOBODY bs FIRST t memory).holder ≡ held_by h → Sentenced connection s t memory h
 
 chain-sentenced : (connection : ℕ) (s : List ℕ) (t : Tables) (memory : List ℕ) (h : Holder) (o : Option (List Block)) → blocks s ≡ o
     → (run_chain (caller_of connection s) s o t memory).holder ≡ held_by h → Sentenced connection s t memory h
 unfolding run_chain only_status
-chain-sentenced connection s t memory h none e n = never cc
-chain-sentenced connection s t memory h (some bs) e n = read_as bs e n
+chain-sentenced connection s t memory h None e n = never cc
+chain-sentenced connection s t memory h (Some bs) e n = read_as bs e n
 
 pub answered-sentenced : (connection : ℕ) (s : List ℕ) (t : Tables) (memory : List ℕ) (h : Holder) → (answered connection s t memory).holder ≡ held_by h → Sentenced connection s t memory h
 unfolding answered only_status

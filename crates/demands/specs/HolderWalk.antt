@@ -2,7 +2,7 @@
 -- yes or no, the place of the first conflicting lock in the list as it then stands"). Assumes nothing.
 use Rattle.std.proofs.Math.Path.{◌≡◌, refl, sym, ap}
 use Rattle.std.proofs.Common.{◌∙◌, take-append-drop, get_or-take}
-use Rattle.std.specs.Prelude.{◌↔◌, Bool, true, false, ◌&&◌, take, drop, get_or}
+use Rattle.std.specs.Prelude.{◌↔◌, Bool, true, false, ◌&&◌, take, drop, get_or, Option, Some, None}
 use Prim.Native.Nat.{ℕ, min, ◌<◌}
 use native.Mathlib.Omega.{arith}
 use Rattle.std.proofs.Math.Decide.{dec_lt}
@@ -15,8 +15,6 @@ use Rattle.lists.specs.Walk.{found}
 use Rattle.lists.specs.FoundLaws.{first_of, shifted, found-append, found_below}
 use Rattle.lists.specs.PairLaws.{place_in}
 use Rattle.lists.specs.Truth.{both_hold, hold-both, not-decided-twice}
-use Rattle.lists.specs.declared.Found.{Found}
-use Rattle.lists.specs.declared.Found.TheVariants.{At, Nothing}
 use Rattle.records.specs.declared.Open.{Open}
 use Rattle.records.specs.declared.Lock.{Lock}
 use Rattle.records.specs.declared.Tables.{Tables}
@@ -51,24 +49,24 @@ module _ {A : Type 0} (d : A) (xs : List A) (j k : ℕ) (below : j < k) (inside 
 
 module _ {A : Type 0} (p : A → Bool) (xs : List A) where
   -- none in front of the one found passes: that would be found there
-  front-none : (k : ℕ) (x y : Found) → found p (take k xs) ≡ x → first_of x y ≡ At k → x ≡ Nothing
+  front-none : (k : ℕ) (x y : Option ℕ) → found p (take k xs) ≡ x → first_of x y ≡ Some k → x ≡ None
   unfolding first_of
-  front-none k (At j) y e f =
+  front-none k (Some j) y e f =
       let same : j ≡ k = cc in
       let n : length (take k xs) ≡ min k (length xs) = length-take k xs in
       let below : j < length (take k xs) = found_below p (take k xs) j e in
       absurd (let z : ⊥ = omega arith in z)
-  front-none k Nothing y e f = refl
+  front-none k None y e f = refl
 
-  none-front : (k : ℕ) → found p xs ≡ At k → {x : A} → In x (take k xs) → p x ≡ false
+  none-front : (k : ℕ) → found p xs ≡ Some k → {x : A} → In x (take k xs) → p x ≡ false
   none-front k e m =
-      let whole : first_of (found p (take k xs)) (shifted (length (take k xs)) (found p (drop k xs))) ≡ At k =
+      let whole : first_of (found p (take k xs)) (shifted (length (take k xs)) (found p (drop k xs))) ≡ Some k =
       sym (found-append p (take k xs) (drop k xs)) ∙ ap (found p) (take-append-drop k xs) ∙ e in
       found-miss p m (front-none k (found p (take k xs)) _ refl whole)
 
   -- one that passes, with none in front of it that does, is the one found
-  first_found : (d : A) (k : ℕ) → k < length xs → p (get_or xs k d) ≡ true → ((x : A) → In x (take k xs) → p x ≡ true → ⊥) → (x : Found) → found p xs ≡ x → x ≡ At k
-  first_found d k inside passes free (At j) e =
+  first_found : (d : A) (k : ℕ) → k < length xs → p (get_or xs k d) ≡ true → ((x : A) → In x (take k xs) → p x ≡ true → ⊥) → (x : Option ℕ) → found p xs ≡ x → x ≡ Some k
+  first_found d k inside passes free (Some j) e =
       let same : j ≡ k =
       elim (dec_lt j k) [
         | yes l ↦ absurd (free (get_or xs j d) (place-before d xs j k l (found_below p xs j e)) (found-hit p xs j d e).passes)
@@ -77,8 +75,8 @@ module _ {A : Type 0} (p : A → Bool) (xs : List A) where
           | no m ↦ omega arith
         ]
       ] in
-      ap At same
-  first_found d k inside passes free Nothing e = absurd (not-decided-twice (p (get_or xs k d)) passes (found-miss p (place_in d xs k inside) e))
+      ap Some same
+  first_found d k inside passes free None e = absurd (not-decided-twice (p (get_or xs k d)) passes (found-miss p (place_in d xs k inside) e))
 
 -- what is taken of a list was in it
 take-was : {A : Type 0} (k : ℕ) (xs : List A) {x : A} → In x (take k xs) → In x xs
@@ -100,15 +98,15 @@ module _ {t : Tables} {o : Open} {offset size : ℕ} {Clash : Lock → Type 0} (
   passes-way xs was l m e = let w = (exact l (was l m)).0 e in record { lock = l; listed = m; of-file = w.of-file; overlap = w.overlap; clash = w.clash }
 
   -- the walk found nothing exactly if none is in the way
-  pub none_found : found p list ≡ Nothing → InWay t o list offset size Clash → ⊥
+  pub none_found : found p list ≡ None → InWay t o list offset size Clash → ⊥
   none_found e w = not-decided-twice (p w.lock) (way-passes list (λ l m. m) w) (found-miss p w.listed e)
 
-  pub found_none : (InWay t o list offset size Clash → ⊥) → (x : Found) → found p list ≡ x → x ≡ Nothing
-  found_none free (At k) e = let h = found-hit p list k no_lock e in absurd (free (passes-way list (λ l m. m) (get_or list k no_lock) h.listed h.passes))
-  found_none free Nothing e = refl
+  pub found_none : (InWay t o list offset size Clash → ⊥) → (x : Option ℕ) → found p list ≡ x → x ≡ None
+  found_none free (Some k) e = let h = found-hit p list k no_lock e in absurd (free (passes-way list (λ l m. m) (get_or list k no_lock) h.listed h.passes))
+  found_none free None e = refl
 
   -- and a place exactly if the record there is the first in the way
-  pub found_first : (k : ℕ) → found p list ≡ At k → FirstInWay t o list offset size Clash (holder_at list k)
+  pub found_first : (k : ℕ) → found p list ≡ Some k → FirstInWay t o list offset size Clash (holder_at list k)
   unfolding holder_at
   found_first k e =
       let h = found-hit p list k no_lock e in
@@ -122,7 +120,7 @@ module _ {t : Tables} {o : Open} {offset size : ℕ} {Clash : Lock → Type 0} (
         none_before = λ b. not-decided-twice (p b.lock) (way-passes (take k list) (λ l m. take-was k list m) b) (none-front p list k e b.listed);
       }
 
-  pub first-place : {h : Holder} → FirstInWay t o list offset size Clash h → (found p list ≡ At h.place) × (holder_at list h.place ≡ h)
+  pub first-place : {h : Holder} → FirstInWay t o list offset size Clash h → (found p list ≡ Some h.place) × (holder_at list h.place ≡ h)
   unfolding holder_at
   first-place {h} a = (
     first_found p list no_lock h.place a.in_list

@@ -1,8 +1,7 @@
 -- What the head of staffing wants to know of a terminal's copy (document 02, CR 8): over a history of calls, what stood in its file when an open was last granted a READ, and whether
 -- the file was changed since. Nobody keeps this in the box: it is told from the calls, from which of their commands are granted and from what stands in the files then; it looks at no
 -- change number and at nothing that an open remembers, so that what the box answers can be held against it. Assumes nothing.
-use Rattle.std.specs.Prelude.{ℕ, Bool, false, cond, ◌||◌, List, [], ◌∷◌, eqb}
-use Rattle.std.proofs.Math.Option.{Option, none, some}
+use Rattle.std.specs.Prelude.{ℕ, Bool, false, cond, ◌||◌, List, [], ◌∷◌, eqb, Option, None, Some}
 use Rattle.records.specs.declared.Tables.{Tables}
 use Rattle.records.specs.Held.{opens_of}
 use Rattle.soundness.specs.File.{file_of}
@@ -63,14 +62,14 @@ read_now t memory file = record { file = file; size = size_of t file; bytes = co
 
 -- that file was changed
 unfoldable pub changed_in : ℕ → Option LastRead → Option LastRead
-changed_in file none = none
-changed_in file (some r) = some (record { file = r.file; size = r.size; bytes = r.bytes; changed = eqb r.file file || r.changed })
+changed_in file None = None
+changed_in file (Some r) = Some (record { file = r.file; size = r.size; bytes = r.bytes; changed = eqb r.file file || r.changed })
 
 unfoldable pub after_event : Event → Tables → List ℕ → Reads → Reads
 after_event nothing t memory reads = reads
-after_event (was_read fid) t memory reads = λ k. cond (eqb k fid) (some (read_now t memory (file_of (opens_of t) fid))) (reads k)
+after_event (was_read fid) t memory reads = λ k. cond (eqb k fid) (Some (read_now t memory (file_of (opens_of t) fid))) (reads k)
 after_event (was-changed file) t memory reads = λ k. changed_in file (reads k)
-after_event (was-opened fid) t memory reads = λ k. cond (eqb k fid) none (reads k)
+after_event (was-opened fid) t memory reads = λ k. cond (eqb k fid) None (reads k)
 
 -- ---- a message: "command by command", up to the first refused
 
@@ -84,8 +83,8 @@ reads_run c s just (b ∷ bs) t memory reads =
     reads_given (perform c t memory (body_meant just b.body) (area_of s b) (data_of s b)) (body_meant just b.body) t memory reads (λ j t' m r. reads_run c s j bs t' m r)
 
 unfoldable pub reads_chain : Caller → List ℕ → Option (List Block) → Tables → List ℕ → Reads → Reads
-reads_chain c s none t memory reads = reads
-reads_chain c s (some bs) t memory reads = reads_run c s NOBODY bs t memory reads
+reads_chain c s None t memory reads = reads
+reads_chain c s (Some bs) t memory reads = reads_run c s NOBODY bs t memory reads
 
 -- of one that is answered
 unfoldable pub reads_message : ℕ → List ℕ → List ℕ → Tables → List ℕ → Reads → Reads
@@ -114,4 +113,4 @@ reads_after (a ∷ more) t memory reads = reads_after more (told a t memory).tab
 
 -- nobody has read
 unfoldable pub none_read : Reads
-none_read fid = none
+none_read fid = None

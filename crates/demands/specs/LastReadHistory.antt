@@ -1,15 +1,13 @@
 -- The change numbers over all histories (document 02, CR 8): command by command, call by call. Assumes nothing.
-use Rattle.std.specs.Prelude.{◌≡◌, ℕ, ◌≤◌, get_or}
+use Rattle.std.specs.Prelude.{◌≡◌, ℕ, ◌≤◌, get_or, None, Some}
 use Rattle.std.proofs.Math.Path.{ap}
 use Rattle.std.proofs.Common.{sym, ◌∙◌, inl, inr}
 use native.Mathlib.Omega.{arith}
 use Rattle.std.proofs.Math.Decide.{dec_lt}
 use Rattle.std.proofs.Math.Bool.{true, false}
 use mathlib.Core.List.{List, map, Memᴰ as In}
-use Rattle.std.proofs.Math.Option.{none, some}
 use Rattle.std.proofs.Math.ListN.{length}
 use Rattle.lists.specs.Walk.{found}
-use Rattle.lists.specs.declared.Found.TheVariants.{At}
 use Rattle.lists.specs.Members.{kept-was}
 use Rattle.lists.specs.Truth.{test-cases}
 use Rattle.records.specs.declared.Open.{Open}
@@ -69,7 +67,7 @@ module _ (t : Tables) (g : Good t) (memory : List ℕ) (full : length memory ≡
 
   module _ (c : Caller) where
     -- the file of the open that a command names
-    pub file-named : (fid j : ℕ) → found (is_open c fid) (opens_of t) ≡ At j → file_of (opens_of t) fid ≡ (get_or (opens_of t) j no_open).file
+    pub file-named : (fid j : ℕ) → found (is_open c fid) (opens_of t) ≡ Some j → file_of (opens_of t) fid ≡ (get_or (opens_of t) j no_open).file
     file-named fid j e =
         ap (file_of (opens_of t)) (sym (open-fid c t fid j e)) ∙ file_of-one 64 (opens_of t) (sound-says t g.sound).records.fids (open-hit c t fid j e).listed
 
@@ -106,7 +104,7 @@ start-kept memory reads = record { each = λ o m h. elim m [ ]; unread = λ o m 
 -- what the head of staffing wants to know, of an open and its last granted READ: the file's size and bytes are what they were at that READ
 pub record AsItWas (t : Tables) (memory : List ℕ) (reads : Reads) (o : Open) : Type 0 where
   pub last : LastRead
-  pub is_last : reads o.fid ≡ some last
+  pub is_last : reads o.fid ≡ Some last
   pub of-file : last.file ≡ o.file
   pub not-changed : last.changed ≡ false
   pub same_size : size_of t o.file ≡ last.size
@@ -114,19 +112,19 @@ pub record AsItWas (t : Tables) (memory : List ℕ) (reads : Reads) (o : Open) :
 
 -- and why it is told to read again: no READ was granted to it since it was opened; the file was changed after the last one; or the number is at its largest
 pub data ReadAgain (t : Tables) (reads : Reads) (o : Open) : Type 0 where
-  never-read : reads o.fid ≡ none → ReadAgain t reads o
-  changed-since : (r : LastRead) → reads o.fid ≡ some r → r.file ≡ o.file → r.changed ≡ true → ReadAgain t reads o
+  never-read : reads o.fid ≡ None → ReadAgain t reads o
+  changed-since : (r : LastRead) → reads o.fid ≡ Some r → r.file ≡ o.file → r.changed ≡ true → ReadAgain t reads o
   at-largest : changes_of t o.file ≡ LARGEST → ReadAgain t reads o
 
 module _ (t : Tables) (memory : List ℕ) (reads : Reads) (g : Good t) (k : Kept t memory reads) (o : Open) (listed : In o (opens_of t)) where
-  pub by-changed : (r : LastRead) → reads o.fid ≡ some r → Agrees t memory o r → UpToDate t o → AsItWas t memory reads o
+  pub by-changed : (r : LastRead) → reads o.fid ≡ Some r → Agrees t memory o r → UpToDate t o → AsItWas t memory reads o
   by-changed r e a u =
       test-cases r.changed
       (λ c. let fresh = u.equal in let below = u.below in
       elim (a.stale c) [ inl h ↦ absurd (let z : ⊥ = omega arith in z) | inr h ↦ absurd (let z : ⊥ = omega arith in z) ])
       (λ c. let f = a.fresh c in record { last = r; is_last = e; of-file = a.its-file; not-changed = c; same_size = sym f.1; same_bytes = sym f.2 })
 
-  pub with-read : o.read ≡ true → (r : LastRead) → reads o.fid ≡ some r → Agrees t memory o r → (UpToDate t o → ⊥) → ReadAgain t reads o
+  pub with-read : o.read ≡ true → (r : LastRead) → reads o.fid ≡ Some r → Agrees t memory o r → (UpToDate t o → ⊥) → ReadAgain t reads o
   with-read read r e a n =
       test-cases r.changed (λ c. changed-since r e a.its-file c)
       (λ c. elim (dec_lt (changes_of t o.file) LARGEST) [

@@ -1,5 +1,5 @@
 -- What an open remembers and what a history tells of its last granted READ agree (document 02, CR 8): of every open that has read, after every call. Assumes nothing.
-use Rattle.std.specs.Prelude.{◌≡◌, ◌⊎◌, ℕ, ◌+◌, ◌*◌, ◌≤◌, ◌<◌, cond, ◌||◌, length, get_or}
+use Rattle.std.specs.Prelude.{◌≡◌, ◌⊎◌, ℕ, ◌+◌, ◌*◌, ◌≤◌, ◌<◌, cond, ◌||◌, length, get_or, None, Some}
 use Rattle.std.proofs.Math.Path.{refl, sym, ap, subst}
 use Rattle.std.proofs.Common.{◌∙◌, inl, inr, arith}
 use Rattle.std.proofs.Math.Decide.{ℕ_discrete, dec_lt}
@@ -8,7 +8,6 @@ use mathlib.Core.List.Memᴰ.{cases_cons as first-or-later}
 use mathlib.Core.List.Memᴰ.{head as here}
 use mathlib.Core.List.Memᴰ.{tail as there}
 use mathlib.Core.List.{List, [], ◌∷◌, ◌++◌, Memᴰ as In}
-use Rattle.std.proofs.Math.Option.{none, some}
 use Rattle.std.proofs.Math.Dec.{eqb}
 use borrow.Author.Tests.{eq-eqb, ne_eqb}
 use Rattle.lists.specs.Truth.{not-decided-twice}
@@ -38,8 +37,8 @@ pub record Agrees (t : Tables) (memory : List ℕ) (o : Open) (r : LastRead) : T
 
 -- of every open: one that has read agrees with its last granted READ, and of one that has not the history tells none
 pub record Kept (t : Tables) (memory : List ℕ) (reads : Reads) : Type 0 where
-  pub each : (o : Open) → In o (opens_of t) → o.read ≡ true → (r : LastRead) × (reads o.fid ≡ some r) × Agrees t memory o r
-  pub unread : (o : Open) → In o (opens_of t) → o.read ≡ false → reads o.fid ≡ none
+  pub each : (o : Open) → In o (opens_of t) → o.read ≡ true → (r : LastRead) × (reads o.fid ≡ Some r) × Agrees t memory o r
+  pub unread : (o : Open) → In o (opens_of t) → o.read ≡ false → reads o.fid ≡ None
 
 -- ---- the opens, no more than before
 
@@ -66,17 +65,17 @@ pub opened-kept : {t u : Tables} {memory : List ℕ} {reads : Reads} (x : Open) 
 unfolding after_event
 opened-kept {t} {u} {memory} {reads} x e more not-read new k = record { each = one; unread = none_told }
   where
-    old : (o : Open) → o.read ≡ true → In o (opens_of t) → (r : LastRead) × (cond (eqb o.fid x.fid) none (reads o.fid) ≡ some r) × Agrees u memory o r
+    old : (o : Open) → o.read ≡ true → In o (opens_of t) → (r : LastRead) × (cond (eqb o.fid x.fid) None (reads o.fid) ≡ Some r) × Agrees u memory o r
     old o h m = let w = k.each o m h in (w.0, rw (ne_eqb o.fid x.fid (new o m)) w.1, agrees-files e w.2)
 
-    one : (o : Open) → In o (opens_of u) → o.read ≡ true → (r : LastRead) × (cond (eqb o.fid x.fid) none (reads o.fid) ≡ some r) × Agrees u memory o r
+    one : (o : Open) → In o (opens_of u) → o.read ≡ true → (r : LastRead) × (cond (eqb o.fid x.fid) None (reads o.fid) ≡ Some r) × Agrees u memory o r
     one o m h =
         elim (snoc-or x (opens_of t) (rw more at m)) [
           | inl i ↦ old o h i
           | inr q ↦ absurd (not-decided-twice o.read h (ap (λ (y : Open). y.read) q ∙ not-read))
         ]
 
-    none_told : (o : Open) → In o (opens_of u) → o.read ≡ false → cond (eqb o.fid x.fid) none (reads o.fid) ≡ none
+    none_told : (o : Open) → In o (opens_of u) → o.read ≡ false → cond (eqb o.fid x.fid) None (reads o.fid) ≡ None
     none_told o m h =
         elim (snoc-or x (opens_of t) (rw more at m)) [
           | inl i ↦ rw (ne_eqb o.fid x.fid (new o i)) (k.unread o i h)
@@ -166,7 +165,7 @@ module _ (t : Tables) (memory : List ℕ) (g : Good t) (through : Open) (listed 
       }
 
   pub noted-kept : {reads : Reads} → Kept t memory reads → (o : Open) → In o (opens_of t) → (noting through.fid (changes_of t through.file) o).read ≡ true
-      → (r : LastRead) × (after_event (was_read through.fid) t memory reads (noting through.fid (changes_of t through.file) o).fid ≡ some r)
+      → (r : LastRead) × (after_event (was_read through.fid) t memory reads (noting through.fid (changes_of t through.file) o).fid ≡ Some r)
       × Agrees after memory (noting through.fid (changes_of t through.file) o) r
   unfolding after_event noting with_opens
   noted-kept {reads} k o m h =
@@ -181,7 +180,7 @@ module _ (t : Tables) (memory : List ℕ) (g : Good t) (through : Open) (listed 
       ]
 
   pub noted-unread : {reads : Reads} → Kept t memory reads → (o : Open) → In o (opens_of t) → (noting through.fid (changes_of t through.file) o).read ≡ false
-      → after_event (was_read through.fid) t memory reads (noting through.fid (changes_of t through.file) o).fid ≡ none
+      → after_event (was_read through.fid) t memory reads (noting through.fid (changes_of t through.file) o).fid ≡ None
   unfolding after_event noting
   noted-unread {reads} k o m h =
       elim (ℕ_discrete o.fid through.fid) [

@@ -5,7 +5,7 @@ use Rattle.std.proofs.Common.{◌∙◌, length-append}
 use Rattle.std.proofs.Math.Logic.{inl, inr}
 use Prim.Native.Nat.{ℕ, ◌+◌, ◌-◌, ◌^◌, ◌≤◌, ◌<◌}
 use native.Mathlib.Omega.{arith}
-use Rattle.std.specs.Prelude.{Bool, not, ◌&&◌, length}
+use Rattle.std.specs.Prelude.{Bool, not, ◌&&◌, length, Option, None, Some}
 use Rattle.std.proofs.Math.Bool.{true}
 use mathlib.Core.List.Memᴰ.{append_cases as front-or-back}
 use mathlib.Core.List.Memᴰ.{cases_cons as first-or-later}
@@ -13,7 +13,6 @@ use mathlib.Core.List.Memᴰ.{eq_of_singleton as only_one}
 use mathlib.Core.List.Memᴰ.{head as here}
 use mathlib.Core.List.Memᴰ.{tail as there}
 use mathlib.Core.List.{List, [], ◌∷◌, ◌++◌, Memᴰ as In}
-use Rattle.std.proofs.Math.Option.{Option, none, some}
 use Rattle.std.proofs.Math.Dec.{eqb}
 use borrow.Author.Tests.{eqb-true, eq-eqb, ltb-true, lt-ltb, not-true}
 use Rattle.lists.specs.Walk.{any}
@@ -122,8 +121,8 @@ one-released (release-then out none-to-release) = out
 
 -- what the release of all gives, and what that means
 pub data Releasing (fid : ℕ) (rs : List LockRange) (list : List Lock) : Option (List Lock) → Type 0 where
-  all-released : {left : List Lock} → Released fid rs list left → Releasing fid rs list (some left)
-  one-unnamed : Unnamed fid rs list → Releasing fid rs list none
+  all-released : {left : List Lock} → Released fid rs list left → Releasing fid rs list (Some left)
+  one-unnamed : Unnamed fid rs list → Releasing fid rs list None
 
 pub releasing-then : {fid : ℕ} {r : LockRange} {rs : List LockRange} {list left : List Lock} {o : Option (List Lock)} → TakenOut fid r list left → Releasing fid rs left o
     → Releasing fid (r ∷ rs) list o

@@ -1,10 +1,9 @@
 -- Demand 2's sentence on a lock alone in its request, said of the call: a message's reply is 35 bytes with Status 1/33 exactly if its first command is
 -- refused for conflict, and so for a lone lock exactly if a listed lock of that file overlaps it and the two aren't both shared. Assumes nothing.
-use Rattle.std.specs.Prelude.{◌≡◌, ◌↔◌, ℕ, ◌+◌, ◌*◌, ◌/◌, ◌%◌, ◌^◌, ◌≤◌, take, drop}
+use Rattle.std.specs.Prelude.{◌≡◌, ◌↔◌, ℕ, ◌+◌, ◌*◌, ◌/◌, ◌%◌, ◌^◌, ◌≤◌, take, drop, Some, None as End}
 use Rattle.std.proofs.Math.Path.{refl, sym, ap}
 use Rattle.std.proofs.Common.{◌∙◌, arith, length-append, eq-eqb, ne_eqb}
 use mathlib.Core.List.{List, [], ◌∷◌}
-use Rattle.std.proofs.Math.Option.{some}
 use Rattle.std.proofs.Math.ListN.{length}
 use Rattle.std.proofs.Math.Dec.{eqb}
 use Rattle.records.specs.declared.Open.{Open}
@@ -17,8 +16,7 @@ use Rattle.chain.specs.Chain.{blocks}
 use Rattle.chain.specs.declared.block.LockingFields.{LockingFields}
 use Rattle.chain.specs.declared.block.Body.TheVariants.{Locking as LockingBody}
 use Rattle.chain.specs.declared.block.Block.{Block}
-use Rattle.chain.specs.declared.block.Next.{Next}
-use Rattle.chain.specs.declared.block.Next.TheVariants.{End, Follow}
+use Rattle.chain.specs.Next.{Next, Follow}
 use Rattle.invariants.specs.BlockParse.{body_at, block_at}
 use Rattle.invariants.specs.Chained.{Chained, chained-end, chained_more}
 use Rattle.message.specs.Caller.{caller_of}
@@ -164,7 +162,7 @@ area-first {s} {at} {command} (chained-end h l) b bs e f body =
 area-first {s} {at} {command} (chained_more {c = c} {a = a} h l r) b bs e f body =
     let q : block_at s command at (Follow c a) ≡ b = cc in rw (← q) (area-announced h (Follow c a) f (rw q body))
 
-module _ (connection : ℕ) (s : List ℕ) (b : Block) (bs : List Block) (e : blocks s ≡ some (b ∷ bs)) (t : Tables) (memory room : List ℕ) (fit : Fit s t memory room) where
+module _ (connection : ℕ) (s : List ℕ) (b : Block) (bs : List Block) (e : blocks s ≡ Some (b ∷ bs)) (t : Tables) (memory room : List ℕ) (fit : Fit s t memory room) where
   -- what the first command gives
   abbrev pub first-given : Given
   first-given = perform (caller_of connection s) t memory b.body (area_of s b) (data_of s b)

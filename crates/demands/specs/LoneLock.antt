@@ -1,5 +1,5 @@
 -- When a lone lock, a read or a write is refused for a lock (document 01, "Locks, reads and writes"; document 02, CR 3), in plain propositions. Assumes nothing.
-use Rattle.std.specs.Prelude.{◌≡◌, ◌↔◌, ℕ, min, max, ◌+◌, ◌-◌, ◌*◌, ◌/◌, ◌%◌, Bool, false, cond, not, ◌&&◌, length, leb, ltb}
+use Rattle.std.specs.Prelude.{◌≡◌, ◌↔◌, ℕ, min, max, ◌+◌, ◌-◌, ◌*◌, ◌/◌, ◌%◌, Bool, false, cond, not, ◌&&◌, length, leb, ltb, Option, Some, None, None as Nobody, Some as held_by}
 use Rattle.std.proofs.Math.Path.{refl, ap}
 use Rattle.std.proofs.Common.{sym, ◌∙◌, arith}
 use Rattle.std.proofs.Math.Bool.{true}
@@ -9,8 +9,6 @@ use Rattle.std.proofs.Math.Dec.{eqb}
 use borrow.Author.Tests.{eqb-true, eq-eqb, not-true}
 use Rattle.lists.specs.Walk.{any, found}
 use Rattle.lists.specs.Truth.{both_hold, hold-both, fails, not-decided-twice, not-holds}
-use Rattle.lists.specs.declared.Found.{Found}
-use Rattle.lists.specs.declared.Found.TheVariants.{At, Nothing}
 use Rattle.records.specs.declared.Open.{Open}
 use Rattle.records.specs.declared.Lock.{Lock}
 use Rattle.records.specs.declared.Tables.{Tables}
@@ -23,7 +21,7 @@ use Rattle.locks.specs.Request.{of_header, ranges_of, ask_of as ask_for, lock_of
 use Rattle.locks.specs.declared.types.Ask.{Ask}
 use Rattle.locks.specs.declared.types.LockRange.{LockRange}
 use Rattle.locks.specs.declared.types.Holder.{Holder}
-use Rattle.locks.specs.declared.types.Outcome.TheVariants.{NoRecord as NoRoom}
+use Rattle.locks.specs.declared.types.LockRefusal.TheVariants.{NoRecord as NoRoom}
 use Rattle.locks.specs.declared.types.Purpose.TheVariants.{Grant, Read as Reading, Write as Writing}
 use Rattle.soundness.specs.File.{file_of}
 use Rattle.soundness.specs.Sound.{sound}
@@ -39,8 +37,7 @@ use Rattle.message.specs.declared.caller.Caller.{Caller}
 use Rattle.message.specs.Contents.{size_of, grown, sized_to}
 use Rattle.message.specs.Command.{Given, Said, core_wrote, refused, done, is_session, with_session, with_tree, is_open, open_at, with_open, served_type, request_of, locking_end, locking_after, do_locking, ask_by, unless_barred, barring, do_read, writing, ends_past, do_write, as_core, range_by, one_range, between_sizes, do_set_size}
 use Rattle.message.specs.Refusal.{status, forms_of, status_of, holder_of}
-use Rattle.message.specs.declared.refusal.HeldBy.{HeldBy}
-use Rattle.message.specs.declared.refusal.HeldBy.TheVariants.{Nobody, Holder as held_by}
+use Rattle.message.specs.HeldBy.{HeldBy}
 use Rattle.message.specs.declared.refusal.Refusal.{Refusal}
 use Rattle.message.specs.declared.refusal.Refusal.TheVariants.{NotServed, NotSentence, NoSession, NoTree, NoOpen, NoAccess, LockType, NoSuchLock, PassesEnd, LockNotGranted, FileLockConflict, NoRecord, NoSpace, OpenMode, BadAccess, NoSuchFile, BadShare, NoFids}
 use Rattle.invariants.specs.GivenCases.{cond-case}
@@ -92,7 +89,7 @@ held-refused (done t memory said) h e = absurd (nobody-holds e)
 pub record May (c : Caller) (t : Tables) (fid k : ℕ) : Type 0 where
   pub session : any (is_session c) (sessions_of t) ≡ true
   pub tree : any (is_tree c.tid c.uid) (trees_of t) ≡ true
-  pub named : found (is_open c fid) (opens_of t) ≡ At k
+  pub named : found (is_open c fid) (opens_of t) ≡ Some k
 
 -- the lock is of the file that the open names: through an open of the lock's FID
 abbrev pub OfFile : Tables → Open → Lock → Type 0
@@ -139,9 +136,9 @@ BarsRange c t f o = InWay t o (locks_of t) (core_range c f).offset (core_range c
 
 -- ---- a walk that finds one
 
-pub some_at : {A : Type 0} (p : A → Bool) (xs : List A) (f : Found) → found p xs ≡ f → {x : A} → In x xs → p x ≡ true → (k : ℕ) × (f ≡ At k)
-some_at p xs (At k) e m h = (k, refl)
-some_at p xs Nothing e {x} m h = absurd (not-decided-twice (p x) h (found-miss p m e))
+pub some_at : {A : Type 0} (p : A → Bool) (xs : List A) (f : Option ℕ) → found p xs ≡ f → {x : A} → In x xs → p x ≡ true → (k : ℕ) × (f ≡ Some k)
+some_at p xs (Some k) e m h = (k, refl)
+some_at p xs None e {x} m h = absurd (not-decided-twice (p x) h (found-miss p m e))
 
 -- ---- what a lock in the way is
 
@@ -202,7 +199,7 @@ module _ (c : Caller) (t : Tables) (fid k : ℕ) (may : May c t fid k) where
     -- some listed lock answers the question exactly if one is in the way
     module _ (q : Ask) (of : q.fid ≡ fid) (Clash : Lock → Type 0) (exact : (l : Lock) → (bars q.purpose q l ≡ true) ↔ Clash l)
         (asks : (l : Lock) → answers (file_of (opens_of t)) q l ≡ in_way (file_of (opens_of t)) q l) where
-      hit-way : (j : ℕ) → found (answers (file_of (opens_of t)) q) (locks_of t) ≡ At j → (d : Lock) → InWay t asked (locks_of t) q.offset q.length Clash
+      hit-way : (j : ℕ) → found (answers (file_of (opens_of t)) q) (locks_of t) ≡ Some j → (d : Lock) → InWay t asked (locks_of t) q.offset q.length Clash
       unfolding in_way
       hit-way j e d =
           let h = found-hit (answers (file_of (opens_of t)) q) (locks_of t) j d e in
@@ -217,7 +214,7 @@ module _ (c : Caller) (t : Tables) (fid k : ℕ) (may : May c t fid k) where
             clash = (exact (get_or (locks_of t) j d)).0 v.0;
           }
 
-      way-hit : InWay t asked (locks_of t) q.offset q.length Clash → (j : ℕ) × (found (answers (file_of (opens_of t)) q) (locks_of t) ≡ At j)
+      way-hit : InWay t asked (locks_of t) q.offset q.length Clash → (j : ℕ) × (found (answers (file_of (opens_of t)) q) (locks_of t) ≡ Some j)
       unfolding in_way
       way-hit w =
           some_at (answers (file_of (opens_of t)) q) (locks_of t) (found (answers (file_of (opens_of t)) q) (locks_of t)) refl w.listed
@@ -229,10 +226,10 @@ module _ (c : Caller) (t : Tables) (fid k : ℕ) (may : May c t fid k) where
 
 -- ---- reading and writing
 
-unless-exact : (t : Tables) (f : Found) (next : Given) → (Conflicts next → ⊥) → Conflicts (unless_barred t f next) ↔ ((k : ℕ) × (f ≡ At k))
+unless-exact : (t : Tables) (f : Option ℕ) (next : Given) → (Conflicts next → ⊥) → Conflicts (unless_barred t f next) ↔ ((k : ℕ) × (f ≡ Some k))
 unfolding unless_barred held_in
-unless-exact t (At k) next n = (λ h. (k, refl), λ h. (_, refl))
-unless-exact t Nothing next n = (λ h. absurd (n h), λ h. let f = h.1 in let z : ◌≡◌ {A = ℕ} 0 1 = cc in absurd (omega arith))
+unless-exact t (Some k) next n = (λ h. (k, refl), λ h. (_, refl))
+unless-exact t None next n = (λ h. absurd (n h), λ h. let f = h.1 in let z : ◌≡◌ {A = ℕ} 0 1 = cc in absurd (omega arith))
 
 done-not : (u : Tables) (m : List ℕ) (said : Said) → Conflicts (done u m said) → ⊥
 unfolding held_in
@@ -289,11 +286,11 @@ module _ (c : Caller) (t : Tables) (memory : List ℕ) (k : ℕ) (ok : sound t �
 -- ---- a lone lock
 
 -- what a lone range's walk found decides
-lone-exact : (t : Tables) (memory : List ℕ) (f : Found) (before list : List Lock)
-    → Conflicts (locking_after t memory (settle t.locks t.nlocks (after_grants (after_walk f before (granted list))))) ↔ ((k : ℕ) × (f ≡ At k))
+lone-exact : (t : Tables) (memory : List ℕ) (f : Option ℕ) (before list : List Lock)
+    → Conflicts (locking_after t memory (settle t.locks t.nlocks (after_grants (after_walk f before (granted list))))) ↔ ((k : ℕ) × (f ≡ Some k))
 unfolding after_grants after_walk settle locking_after locking_end held_in
-lone-exact t memory (At k) before list = (λ h. (k, refl), λ h. (_, refl))
-lone-exact t memory Nothing before list = (
+lone-exact t memory (Some k) before list = (λ h. (k, refl), λ h. (_, refl))
+lone-exact t memory None before list = (
   λ h. absurd (cond-case (λ (r : Result). Conflicts (locking_after t memory (settle t.locks t.nlocks r)) → ⊥) (leb (length list) 128) (done_with list) (refused_by NoRoom)
       (λ _ h. nobody-holds h.1) (λ _ h. nobody-holds h.1) h),
   λ h. let f = h.1 in let z : ◌≡◌ {A = ℕ} 0 1 = cc in absurd (omega arith),

@@ -1,9 +1,8 @@
 -- Which messages are answered as malformed: exactly those that are no sentence.
 -- Assumes nothing.
-use Rattle.std.specs.Prelude.{◌≡◌, ◌↔◌, ℕ, ◌+◌, ◌*◌, ◌/◌, ◌%◌, ◌≤◌, true, false, List, length, take, drop, get_or, ltb, eqb}
+use Rattle.std.specs.Prelude.{◌≡◌, ◌↔◌, ℕ, ◌+◌, ◌*◌, ◌/◌, ◌%◌, ◌≤◌, true, false, List, length, take, drop, get_or, ltb, eqb, Option, None, Some}
 use Rattle.std.proofs.Math.Path.{refl}
 use Rattle.std.proofs.Common.{sym, ◌∙◌, ap, arith, length-drop, length-take-le, eq-eqb, ne_eqb}
-use Rattle.std.proofs.Math.Option.{Option, none, some}
 use Rattle.records.specs.declared.Tables.{Tables}
 use Rattle.records.specs.Empty.{no_open}
 use Rattle.records.specs.Held.{opens_of}
@@ -21,7 +20,7 @@ use Rattle.chain.specs.declared.block.RangeFields.{RangeFields}
 use Rattle.chain.specs.declared.block.WriteFields.{WriteFields}
 use Rattle.chain.specs.declared.block.OpenFields.{OpenFields}
 use Rattle.chain.specs.declared.block.Block.{Block}
-use Rattle.chain.specs.declared.block.Next.{Next}
+use Rattle.chain.specs.Next.{Next}
 use Rattle.invariants.specs.BlockParse.{body_at, block_at, block_inside}
 use Rattle.invariants.specs.Chained.{Chained, chained-end, chained_more, read-chained}
 use Rattle.readings.specs.ReaderComplete.{no-sentence}
@@ -213,12 +212,12 @@ run-other {s} c (chained_more {command} {at} h l r) just place t memory =
 
 module _ (c : Caller) (s : List ℕ) (t : Tables) (memory : List ℕ) where
   -- of what the reader answers, only that there is no reading ends with 2/1
-  chain-malformed : (o : Option (List Block)) → blocks s ≡ o → (run_chain c s o t memory).forms.status ≡ status 2 1 → o ≡ none
+  chain-malformed : (o : Option (List Block)) → blocks s ≡ o → (run_chain c s o t memory).forms.status ≡ status 2 1 → o ≡ None
   unfolding run_chain blocks
-  chain-malformed none e f = refl
-  chain-malformed (some bs) e f = absurd (run-other c (read-chained s (header_command s) FIRST bs e) NOBODY FIRST t memory f)
+  chain-malformed None e f = refl
+  chain-malformed (Some bs) e f = absurd (run-other c (read-chained s (header_command s) FIRST bs e) NOBODY FIRST t memory f)
 
-  chain-unread : blocks s ≡ none → (run_chain c s (blocks s) t memory).forms.status ≡ status 2 1
+  chain-unread : blocks s ≡ None → (run_chain c s (blocks s) t memory).forms.status ≡ status 2 1
   unfolding run_chain only_status forms_of
   chain-unread e = rw e
 

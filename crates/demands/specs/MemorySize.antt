@@ -1,7 +1,6 @@
 -- A message leaves a file memory of 65,536 bytes (document 01, "Tables and room"), so the next one may be given it. Assumes nothing.
-use Rattle.std.specs.Prelude.{◌≡◌, refl, ℕ, ◌+◌, ◌-◌, ◌*◌, ◌≤◌, false, List, [], length, drop, get_or, replicate, eqb, ltb}
+use Rattle.std.specs.Prelude.{◌≡◌, refl, ℕ, ◌+◌, ◌-◌, ◌*◌, ◌≤◌, false, List, [], length, drop, get_or, replicate, eqb, ltb, Option, None, Some}
 use Rattle.std.proofs.Common.{◌∙◌, arith, length-take, length-drop, ne_eqb, ltb-false}
-use Rattle.std.proofs.Math.Option.{Option, none, some}
 use Rattle.std.proofs.lemmas.List.{length-replicate}
 use Rattle.std.proofs.lemmas.Bool.{eqb-false}
 use Rattle.lists.specs.Put.{put}
@@ -12,7 +11,7 @@ use Rattle.records.specs.Held.{opens_of, locks_of}
 use Rattle.locks.specs.Wire.{range_size}
 use Rattle.locks.specs.Request.{ranges_of, Result, refused as refused_by, settle, request, locking}
 use Rattle.locks.specs.declared.types.Request.{Request}
-use Rattle.locks.specs.declared.types.Outcome.TheVariants.{Malformed}
+use Rattle.locks.specs.declared.types.LockRefusal.TheVariants.{Malformed}
 use Rattle.soundness.specs.File.{file_of}
 use Rattle.invariants.specs.SoundParts.{sound-says}
 use Rattle.chain.specs.Layout.{header_command, FIRST, byte_area, byte_count, data_length, data_offset}
@@ -184,8 +183,8 @@ run-leaves {s} c (chained_more {command} {at} {rest = rest} h l r) just place t 
 chain-leaves : (c : Caller) (s : List ℕ) (o : Option (List Block)) → blocks s ≡ o → (t : Tables) (memory : List ℕ) → Good t → length memory ≡ 65536
     → length (run_chain c s o t memory).memory ≡ 65536
 unfolding run_chain only_status blocks
-chain-leaves c s none e t memory g full = full
-chain-leaves c s (some bs) e t memory g full = run-leaves c (read-chained s (header_command s) FIRST bs e) NOBODY FIRST t memory g full
+chain-leaves c s None e t memory g full = full
+chain-leaves c s (Some bs) e t memory g full = run-leaves c (read-chained s (header_command s) FIRST bs e) NOBODY FIRST t memory g full
 
 -- "file memory of 65,536 bytes": a message leaves one of that length
 pub answered-memory : (connection : ℕ) (s : List ℕ) (t : Tables) (memory : List ℕ) → Good t → length memory ≡ 65536

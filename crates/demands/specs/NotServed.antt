@@ -1,15 +1,14 @@
 -- "2/22 header command not served" (document 01, "Refusals on the wire"), exactly: of the messages fit to be answered those, and only those, whose header's
 -- command is none of the twelve. Assumes nothing.
-use Rattle.std.specs.Prelude.{◌≡◌, refl, ℕ, ◌+◌, ◌*◌, true, List, [], ◌∷◌, length, get_or, ltb, eqb}
+use Rattle.std.specs.Prelude.{◌≡◌, refl, ℕ, ◌+◌, ◌*◌, true, List, [], ◌∷◌, length, get_or, ltb, eqb, Option, None, Some}
 use Rattle.std.proofs.Common.{ap, arith, eqb-true}
-use Rattle.std.proofs.Math.Option.{Option, none, some}
 use Rattle.records.specs.declared.Tables.{Tables}
 use Rattle.records.specs.Empty.{no_open}
 use Rattle.records.specs.Held.{opens_of, locks_of}
 use Rattle.locks.specs.Wire.{range_size}
 use Rattle.locks.specs.Request.{ranges_of, Result, refused as refused_by, settle, request, locking}
 use Rattle.locks.specs.declared.types.Request.{Request}
-use Rattle.locks.specs.declared.types.Outcome.TheVariants.{Malformed}
+use Rattle.locks.specs.declared.types.LockRefusal.TheVariants.{Malformed}
 use Rattle.soundness.specs.File.{file_of}
 use Rattle.chain.specs.Layout.{header_command, FIRST}
 use Rattle.chain.specs.Chain.{blocks}
@@ -159,8 +158,8 @@ run-begun c s just (b ∷ bs) place t memory =
 
 chain-begun : (c : Caller) (s : List ℕ) (o : Option (List Block)) (t : Tables) (memory : List ℕ) → (run_chain c s o t memory).forms.status.code ≡ 22 → ⊥
 unfolding run_chain only_status forms_of status
-chain-begun c s none t memory = λ e. omega arith
-chain-begun c s (some bs) t memory = run-begun c s NOBODY bs FIRST t memory
+chain-begun c s None t memory = λ e. omega arith
+chain-begun c s (Some bs) t memory = run-begun c s NOBODY bs FIRST t memory
 
 -- a message with a served command is not answered 2/22
 pub served-begun : (connection : ℕ) (s : List ℕ) (t : Tables) (memory : List ℕ) → served (header_command s) ≡ true → (answered connection s t memory).forms.status ≡ status 2 22 → ⊥

@@ -15,7 +15,7 @@ use Rattle.readings.specs.MovedBytes.{part_same}
 use Rattle.message.specs.Refusal.{status, forms_of}
 use Rattle.message.specs.declared.refusal.Status.{Status}
 use Rattle.message.specs.declared.refusal.Forms.{Forms}
-use Rattle.message.specs.declared.refusal.HeldBy.{HeldBy}
+use Rattle.message.specs.HeldBy.{HeldBy}
 use Rattle.message.specs.declared.refusal.Refusal.TheVariants.{NotServed, NotSentence, NoSession, NoTree, NoOpen, NoAccess, LockType, NoSuchLock, PassesEnd, LockNotGranted, FileLockConflict, NoRecord, NoSpace, OpenMode, BadAccess, NoSuchFile, BadShare, NoFids}
 use Rattle.message.specs.Reply.{two, four, nt_bit, status_number, reply_header}
 use Rattle.message.specs.Message.{Ran, answered, reply_of, Taken, replied, take-message}

@@ -1,6 +1,6 @@
 -- Old bytes never show (document 02, CR 3: "with zeros where it grows and no byte changed where it shrinks"): a file that was cut and grows again, by a count of 0 or by a
 -- write further on, has zeros where it grew; and whatever stands in the file memory at or above a file's size, no history of calls tells it. Assumes nothing.
-use Rattle.std.specs.Prelude.{◌≡◌, ℕ, ◌+◌, ◌-◌, ◌*◌, ◌≤◌, ◌<◌, List, [], ◌∷◌, get_or, replicate}
+use Rattle.std.specs.Prelude.{◌≡◌, ℕ, ◌+◌, ◌-◌, ◌*◌, ◌≤◌, ◌<◌, List, [], ◌∷◌, get_or, replicate, None as Nobody}
 use Rattle.std.proofs.Math.Path.{refl, ap}
 use Rattle.std.proofs.Common.{◌∙◌}
 use native.Mathlib.Omega.{arith}
@@ -18,8 +18,7 @@ use Rattle.invariants.specs.Fit.{Fit, take-message-good}
 use Rattle.claims.proofs.SoundPlain.{sound-plain}
 use Rattle.chain.specs.Layout.{FIRST, first_fid, core_offset}
 use Rattle.wire.specs.LittleEndian.{byte_at}
-use Rattle.message.specs.declared.refusal.HeldBy.{HeldBy}
-use Rattle.message.specs.declared.refusal.HeldBy.TheVariants.{Nobody}
+use Rattle.message.specs.HeldBy.{HeldBy}
 use Rattle.message.specs.Contents.{contents, read_bytes}
 use Rattle.message.specs.Caller.{caller_of}
 use Rattle.message.specs.Message.{Taken, take-message}

@@ -1,10 +1,9 @@
 -- Demand 3's single claim (document 01, "Sent one to a message" and "Compared"): a chain gives what its blocks give, each sent in a message
 -- of its own. Assumes nothing.
-use Rattle.std.specs.Prelude.{◌≡◌, ℕ, ◌+◌, ◌≤◌, ◌<◌, Bool, true, false, cond, ◌||◌, drop, eqb}
+use Rattle.std.specs.Prelude.{◌≡◌, ℕ, ◌+◌, ◌≤◌, ◌<◌, Bool, true, false, cond, ◌||◌, drop, eqb, Some, None as End, None as Nobody, None as none}
 use Rattle.std.proofs.Math.Path.{refl}
 use Rattle.std.proofs.Common.{sym, ◌∙◌, ap, arith, drop_at}
 use mathlib.Core.List.{List, [], ◌∷◌, ◌++◌, append-nil, map}
-use Rattle.std.proofs.Math.Option.{some}
 use Rattle.std.proofs.Math.ListN.{length}
 use Rattle.lists.specs.Put.{put}
 use Rattle.wire.specs.LittleEndian.{byte_at, le16_at}
@@ -13,8 +12,7 @@ use Rattle.chain.specs.Layout.{header_command, FIRST, block_end}
 use Rattle.chain.specs.Grammar.{IsBlock, Span, Reading}
 use Rattle.chain.specs.Chain.{blocks}
 use Rattle.chain.specs.declared.block.Block.{Block}
-use Rattle.chain.specs.declared.block.Next.{Next}
-use Rattle.chain.specs.declared.block.Next.TheVariants.{End, Follow}
+use Rattle.chain.specs.Next.{Next, Follow}
 use Rattle.invariants.specs.BlockParse.{body_at, block_at, block_inside, block-served, behind}
 use Rattle.readings.specs.Moved.{Moved}
 use Rattle.readings.proofs.Moved.{moved-block, moved-body}
@@ -25,12 +23,9 @@ use Rattle.message.specs.Caller.{caller_of}
 use Rattle.message.specs.declared.refusal.Forms.{Forms}
 use Rattle.message.specs.declared.caller.Caller.{Caller}
 use Rattle.message.specs.Refusal.{status, success, forms_of, status_of, holder_of}
-use Rattle.message.specs.declared.refusal.HeldBy.{HeldBy}
-use Rattle.message.specs.declared.refusal.HeldBy.TheVariants.{Nobody}
+use Rattle.message.specs.HeldBy.{HeldBy}
 use Rattle.message.specs.Command.{Said, locked, logged_off, read, wrote, plain, core_read, core_wrote, opened, Given, refused, done, perform}
 use Rattle.message.specs.Reply.{two, four, reply_header, link_words, reply_block, refused_block, reply_size}
-use Rattle.message.specs.declared.link.Link.{Link}
-use Rattle.message.specs.declared.link.Link.TheVariants.{None as none, Next as next}
 use Rattle.message.specs.Message.{area_of, data_of, Ran, after, link_to, after_given, run, served, run_chain, answered, reply_of}
 use Rattle.message.specs.declared.refusal.Refusal.{Refusal}
 use Rattle.message.specs.JustOpened.{NOBODY, opened_by, body_meant}
@@ -85,13 +80,13 @@ placed place block = cond (eqb (byte_at block 0) 12) (put block 13 (two (place +
 unfoldable pub has_link : ℕ → Bool
 has_link words = eqb words 2 || (eqb words 6 || (eqb words 12 || eqb words 15))
 
-unfoldable pub relinked : ℕ → Link → List ℕ → List ℕ
+unfoldable pub relinked : ℕ → Next → List ℕ → List ℕ
 relinked place link block = cond (has_link (byte_at block 0)) (placed place (put block 1 (link_words link))) block
 
 -- "AndX names the next block written; with none it is FF 00 00 00": the next reply's, with the command in its header
-unfoldable pub link_of : List (List ℕ) → ℕ → Link
+unfoldable pub link_of : List (List ℕ) → ℕ → Next
 link_of [] place = none
-link_of (reply ∷ replies) place = next (byte_at reply 4) place
+link_of (reply ∷ replies) place = Follow (byte_at reply 4) place
 
 -- "a block for each message sent, a refused one's too: that message's reply block", end to end from a place
 unfoldable pub joined : ℕ → List (List ℕ) → List ℕ
@@ -110,23 +105,23 @@ pub refusal-fails : (why : Refusal) → succeeded (status_of why) ≡ false
 refusal-fails why = fails (succeeded (status_of why)) (λ e. (none-zero why).0 (zero-succeeded (status_of why) e))
 
 -- a reply block of a message of its own, set for its place in the chain's reply
-relinked-block : (said : Said) (place p : ℕ) (link : Link) → relinked place link (reply_block said p none) ≡ reply_block said place link
+relinked-block : (said : Said) (place p : ℕ) (link : Next) → relinked place link (reply_block said p none) ≡ reply_block said place link
 unfolding relinked has_link placed reply_block link_words put two four
 relinked-block locked place p none = refl
-relinked-block locked place p (next c q) = refl
+relinked-block locked place p (Some follower) = refl
 relinked-block logged_off place p none = refl
-relinked-block logged_off place p (next c q) = refl
+relinked-block logged_off place p (Some follower) = refl
 relinked-block (read bytes) place p none = refl
-relinked-block (read bytes) place p (next c q) = refl
+relinked-block (read bytes) place p (Some follower) = refl
 relinked-block (wrote count) place p none = refl
-relinked-block (wrote count) place p (next c q) = refl
+relinked-block (wrote count) place p (Some follower) = refl
 relinked-block plain place p link = refl
 relinked-block (core_read bytes) place p link = refl
 relinked-block (core_wrote count) place p link = refl
 relinked-block (opened fid size access results) place p none = refl
-relinked-block (opened fid size access results) place p (next c q) = refl
+relinked-block (opened fid size access results) place p (Some follower) = refl
 
-relinked-refused : (place : ℕ) (link : Link) → relinked place link refused_block ≡ refused_block
+relinked-refused : (place : ℕ) (link : Next) → relinked place link refused_block ≡ refused_block
 unfolding relinked has_link refused_block
 relinked-refused place link = refl
 
@@ -202,7 +197,7 @@ alone-answered {s} {command} {at} connection just nx t memory h from small fits 
 
 -- the head of the replies is the first message's
 send-head : (t : Bool) (reply : List ℕ) (sent : Sent) (why : Forms) (h : HeldBy) (u : Tables) (m : List ℕ) (p : ℕ)
-    → link_of (cond t (reply_then reply sent) (record { forms = why; holder = h; tables = u; memory = m; replies = reply ∷ [] })).replies p ≡ next (byte_at reply 4) p
+    → link_of (cond t (reply_then reply sent) (record { forms = why; holder = h; tables = u; memory = m; replies = reply ∷ [] })).replies p ≡ Follow (byte_at reply 4) p
 unfolding link_of reply_then
 send-head true reply sent why h u m p = refl
 send-head false reply sent why h u m p = refl
@@ -232,7 +227,7 @@ unfolding send_all link_to send_on link_of
 links-same connection s long [] j p t memory = refl
 links-same connection s long (b ∷ bs) j p t memory =
     send-head (succeeded (answered connection (own s j b) t memory).forms.status) (reply_of (own s j b) (answered connection (own s j b) t memory)) _ _ _ _ _ p
-    ∙ ap (λ (c : ℕ). next c p) (reply-command (own s j b) (answered connection (own s j b) t memory) ∙ own-command s j b long)
+    ∙ ap (λ (c : ℕ). Follow c p) (reply-command (own s j b) (answered connection (own s j b) t memory) ∙ own-command s j b long)
 
 -- the message of a block of the table has a header
 own-long : {s : List ℕ} {command at : ℕ} (just : ℕ) (nx : Next) → IsBlock s at command → 32 ≤ at → 32 ≤ length (own s just (block_at s command at nx))
@@ -300,7 +295,7 @@ chained-served (chained_more h l r) = served-true (block-served h)
 
 -- "This is a single claim about the whole list of blocks": the chain's status, holder, tables, file memory and reply blocks are what its blocks give, each
 -- sent in a message of its own
-pub one_by_one : (connection : ℕ) (s : List ℕ) (bs : List Block) → blocks s ≡ some bs → length s ≤ 8192 → (t : Tables) (memory : List ℕ)
+pub one_by_one : (connection : ℕ) (s : List ℕ) (bs : List Block) → blocks s ≡ Some bs → length s ≤ 8192 → (t : Tables) (memory : List ℕ)
     → answered connection s t memory ≡ compared FIRST (send_all connection s NOBODY bs t memory)
 unfolding answered run_chain blocks
 one_by_one connection s bs e small t memory =

@@ -1,15 +1,14 @@
 -- "Compared" (document 01): the chain's whole reply, against the replies of its blocks sent one to a message. Assumes nothing.
-use Rattle.std.specs.Prelude.{◌≡◌, refl, ℕ, ◌+◌, ◌≤◌, ◌<◌, Bool, true, false, cond, length, take, drop}
+use Rattle.std.specs.Prelude.{◌≡◌, refl, ℕ, ◌+◌, ◌≤◌, ◌<◌, Bool, true, false, cond, length, take, drop, Some}
 use Rattle.std.proofs.Common.{◌∙◌, arith, take_at}
 use Rattle.std.proofs.Math.Path.{ap}
 use mathlib.Core.List.{List, [], ◌∷◌, ◌++◌}
-use Rattle.std.proofs.Math.Option.{some}
 use Rattle.std.proofs.Math.ListN.{set}
 use Rattle.wire.specs.LittleEndian.{byte_at}
 use Rattle.records.specs.declared.Tables.{Tables}
 use Rattle.message.specs.Refusal.{success}
 use Rattle.message.specs.declared.refusal.Forms.{Forms}
-use Rattle.message.specs.declared.refusal.HeldBy.{HeldBy}
+use Rattle.message.specs.HeldBy.{HeldBy}
 use Rattle.chain.specs.Layout.{header_command, FIRST, block_end}
 use Rattle.chain.specs.Chain.{blocks}
 use Rattle.chain.specs.declared.block.Block.{Block}
@@ -108,7 +107,7 @@ chained-header {s} connection (chained_more {command} {at} h l r) from just t me
     let i : block_end s at ≤ length s = block_inside h in last-header connection s (omega arith) just _ _ t memory
 
 -- "Its reply is the last reply's header with the chain's Command, then a block for each message sent, a refused one's too"
-pub one-by-one-reply : (connection : ℕ) (s : List ℕ) (bs : List Block) → blocks s ≡ some bs → length s ≤ 8192 → (t : Tables) (memory : List ℕ)
+pub one-by-one-reply : (connection : ℕ) (s : List ℕ) (bs : List Block) → blocks s ≡ Some bs → length s ≤ 8192 → (t : Tables) (memory : List ℕ)
     → reply_of s (answered connection s t memory) ≡ compared_reply s (send_all connection s NOBODY bs t memory)
 unfolding reply_of compared_reply compared blocks
 one-by-one-reply connection s bs e small t memory =

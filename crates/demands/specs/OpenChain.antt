@@ -1,6 +1,6 @@
 -- FID 0xFFFF behind an OPEN_ANDX (document 02, CR 6: "READ_ANDX may follow .., where FID 0xFFFF means the file just opened; for 0xFFFF, and only then, demand 3's separate READ
 -- carries the FID returned"), by the bytes of messages and replies. Assumes nothing.
-use Rattle.std.specs.Prelude.{◌≡◌, refl, ℕ, ◌+◌, ◌*◌, ◌%◌, ◌≤◌, ◌<◌, true, take}
+use Rattle.std.specs.Prelude.{◌≡◌, refl, ℕ, ◌+◌, ◌*◌, ◌%◌, ◌≤◌, ◌<◌, true, take, None as End, None as none, None as Nobody}
 use Rattle.std.proofs.Common.{ap, ◌∙◌, arith, get_or-take, eq-eqb}
 use Rattle.std.proofs.Math.Decide.{ℕ_discrete}
 use mathlib.Core.List.{List, [], ◌∷◌, ◌++◌, Memᴰ as In}
@@ -15,7 +15,6 @@ use Rattle.chain.specs.Layout.{READ, OPEN, NO_COMMAND, header_command, FIRST, an
 use Rattle.chain.specs.Grammar.{Name, IsBlock, locking-10, locking-20, read-10, read-12, write-12, write-14, close, logoff, tree-disconnect, process-exit, core-read, core-write, lock-byte-range, unlock-byte-range, open-15, MayFollow, locking-read, locking-write, locking-core-read, locking-core-write, read-close, write-write, write_read, write-close, open-read, read-andx, NamedAndx, Span, ReadingFrom, plain_end, andx-end, andx-next, Reading}
 use Rattle.chain.specs.declared.block.Block.{Block}
 use Rattle.chain.specs.declared.block.Body.TheVariants.{Logoff}
-use Rattle.chain.specs.declared.block.Next.TheVariants.{End}
 use Rattle.invariants.specs.BlockParse.{plain-not-andx}
 use Rattle.invariants.specs.Fit.{Fit, fit-answered}
 use Rattle.invariants.specs.Numbered.{numbered_within}
@@ -26,8 +25,6 @@ use Rattle.message.specs.Caller.{caller_of}
 use Rattle.message.specs.Command.{Given, refused, done}
 use Rattle.message.specs.Message.{Ran, after, after_given, link_to, run, answered, reply_of, Taken, take-message}
 use Rattle.message.specs.Reply.{reply_block, refused_block, reply_size}
-use Rattle.message.specs.declared.link.Link.TheVariants.{None as none}
-use Rattle.message.specs.declared.refusal.HeldBy.TheVariants.{Nobody}
 use Rattle.message.specs.JustOpened.{NOBODY, opened_by}
 use Rattle.demands.specs.Admitted.{Admitted}
 use Rattle.demands.specs.Carrying.{carrying-byte, lone-gives}

@@ -1,6 +1,6 @@
 -- The status of an OPEN_ANDX and the one reason for it, in plain words (document 02, CR 6: "Refusals, after 2/5: 2/65535 OpenMode, 1/12 access or sharing code, 1/2 name, 1/5 tree
 -- right, 1/32 sharing, 1/4 all 64 FIDs in use"). A reason names the failure of those before it in that order; the status is given just where its reason holds. Assumes nothing.
-use Rattle.std.specs.Prelude.{◌≡◌, ℕ, ◌≤◌, ◌<◌, Bool, ◌&&◌, leb, eqb}
+use Rattle.std.specs.Prelude.{◌≡◌, ℕ, ◌≤◌, ◌<◌, Bool, ◌&&◌, leb, eqb, Some}
 use Rattle.std.proofs.Math.Path.{refl, sym, ap}
 use Rattle.std.proofs.Common.{◌∙◌}
 use Rattle.std.proofs.Math.Logic.{inl, inr}
@@ -13,7 +13,6 @@ use borrow.Author.Tests.{leb-true, leb-false, le-leb, eqb-true, eq-eqb}
 use Rattle.lists.specs.Walk.{any, found}
 use Rattle.lists.specs.Truth.{both_hold, hold-both, decided}
 use Rattle.lists.specs.Members.{any-one, one-any}
-use Rattle.lists.specs.declared.Found.TheVariants.{At}
 use Rattle.records.specs.declared.Tree.{Tree}
 use Rattle.records.specs.declared.Name.{Name}
 use Rattle.records.specs.declared.Tables.{Tables}
@@ -131,7 +130,7 @@ same-through (x ∷ xs) (y ∷ ys) (z ∷ zs) e f =
 
 module _ (t : Tables) (name : List ℕ) where
   -- the name that is found
-  pub found-names : (k : ℕ) → found (is_named name) (names_of t) ≡ At k → NamesFile t name (get_or (names_of t) k no_name).file
+  pub found-names : (k : ℕ) → found (is_named name) (names_of t) ≡ Some k → NamesFile t name (get_or (names_of t) k no_name).file
   unfolding is_named
   found-names k e =
       let h = found-hit (is_named name) (names_of t) k no_name e in

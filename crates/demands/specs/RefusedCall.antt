@@ -1,9 +1,8 @@
 -- A refusal in a chain, said of the call (document 01, "Refusals on the wire"): "A command refused changes no table and no file byte, its own unlocks
 -- included. Commands before it in the chain stand; those after it aren't begun." Assumes nothing.
-use Rattle.std.specs.Prelude.{◌≡◌, ℕ, ◌+◌, ◌≤◌, List, [], ◌∷◌, ◌++◌, drop}
+use Rattle.std.specs.Prelude.{◌≡◌, ℕ, ◌+◌, ◌≤◌, List, [], ◌∷◌, ◌++◌, drop, Some}
 use Rattle.std.proofs.Math.Path.{refl, ap}
 use Rattle.std.proofs.Common.{◌∙◌, arith, append_assoc, length-append}
-use Rattle.std.proofs.Math.Option.{some}
 use Rattle.std.proofs.Math.ListN.{length, take}
 use Rattle.std.proofs.Math.Seq.{drop-append-add}
 use Rattle.std.proofs.lemmas.List.{drop-append-le}
@@ -121,7 +120,7 @@ block-in-room header blocks rest k h n e =
     let b : drop k (blocks ++ rest) ≡ refused_block ++ rest = drop-append-le k blocks rest (omega arith) ∙ ap (λ (x : List ℕ). x ++ rest) e in
     ap (take 3) (a ∙ b)
 
-module _ (connection : ℕ) (s : List ℕ) (bs : List Block) (e : blocks s ≡ some bs) (t : Tables) (memory room : List ℕ) (fit : Fit s t memory room) where
+module _ (connection : ℕ) (s : List ℕ) (bs : List Block) (e : blocks s ≡ Some bs) (t : Tables) (memory room : List ℕ) (fit : Fit s t memory room) where
   -- what the call leaves is what the commands leave
   pub call-tables : (take-message connection s t memory room).tables ≡ (run (caller_of connection s) s NOBODY bs FIRST t memory).tables
   unfolding replied

@@ -1,6 +1,6 @@
 -- What stands in the reply room after a reply of one block (document 01, "Reply blocks"): a READ's data and the words for them, a WRITE's count; and the blocks of the
 -- core commands (document 02, CR 3, as in source documents 000 and 004) and of OPEN_ANDX (CR 6, as in source document 001). Assumes nothing.
-use Rattle.std.specs.Prelude.{◌≡◌, ℕ, ◌+◌, ◌/◌, ◌%◌, ◌≤◌, ◌<◌, take, get_or, replicate}
+use Rattle.std.specs.Prelude.{◌≡◌, ℕ, ◌+◌, ◌/◌, ◌%◌, ◌≤◌, ◌<◌, take, get_or, replicate, None as no_link}
 use Rattle.std.proofs.Common.{sym, ◌∙◌, get_or-append-add}
 use Rattle.std.proofs.Math.Path.{ap}
 use native.Mathlib.Omega.{arith}
@@ -12,7 +12,6 @@ use Rattle.wire.specs.LittleEndian.{byte_at, le16_at, le32_at}
 use Rattle.chain.specs.Layout.{FIRST}
 use Rattle.message.specs.Refusal.{success}
 use Rattle.message.specs.declared.refusal.Forms.{Forms}
-use Rattle.message.specs.declared.link.Link.TheVariants.{None as no_link}
 use Rattle.message.specs.Command.{Said, read, wrote, plain, core_read, core_wrote, opened}
 use Rattle.message.specs.Reply.{two, four, link_words, reply_header, reply_block, refused_block}
 use Rattle.invariants.specs.ReplySize.{length-header}

@@ -1,6 +1,6 @@
 -- The FID that a reply returns (document 02, CR 6: "for 0xFFFF, and only then, demand 3's separate READ carries the FID returned"), read off its bytes, and that it is what
 -- 0xFFFF means in the chain. Assumes nothing.
-use Rattle.std.specs.Prelude.{◌≡◌, refl, ℕ, ◌+◌, ◌*◌, ◌/◌, ◌%◌, ◌≤◌, ◌<◌, Bool, cond, List, [], ◌++◌, map, length, get_or, leb, ltb, eqb}
+use Rattle.std.specs.Prelude.{◌≡◌, refl, ℕ, ◌+◌, ◌*◌, ◌/◌, ◌%◌, ◌≤◌, ◌<◌, Bool, cond, List, [], ◌++◌, map, length, get_or, leb, ltb, eqb, None as none}
 use Rattle.std.proofs.Common.{sym, ap, ◌∙◌, arith, length-take, get_or-append-add, leb-false}
 use Rattle.std.proofs.Math.Bool.{true, false}
 use Rattle.std.proofs.lemmas.List.{length-map}
@@ -13,7 +13,7 @@ use Rattle.numbers.specs.Column.{fid_of}
 use Rattle.locks.specs.Wire.{range_size}
 use Rattle.locks.specs.Request.{ranges_of, Result, refused as refused_by, settle, request, locking}
 use Rattle.locks.specs.declared.types.Request.{Request}
-use Rattle.locks.specs.declared.types.Outcome.TheVariants.{Malformed}
+use Rattle.locks.specs.declared.types.LockRefusal.TheVariants.{Malformed}
 use Rattle.soundness.specs.File.{file_of}
 use Rattle.chain.specs.Layout.{OPEN}
 use Rattle.chain.specs.Grammar.{IsBlock, locking-10, locking-20, read-10, read-12, write-12, write-14, close, logoff, tree-disconnect, process-exit, core-read, core-write, lock-byte-range, unlock-byte-range, open-15}
@@ -31,7 +31,6 @@ use Rattle.message.specs.declared.refusal.Refusal.TheVariants.{NoAccess, LockTyp
 use Rattle.message.specs.Command.{Said, locked, logged_off, read, wrote, plain, core_read, core_wrote, opened, Given, refused, done, served_type, request_of, locking_end, locking_after, do_locking, do_read, ends_past, do_write, core_said, as_core, one_range, do_range, do_set_size, do_core_write, open_by, opened_said, do_open, perform}
 use Rattle.message.specs.JustOpened.{NOBODY, opened_by, body_meant}
 use Rattle.message.specs.Reply.{two, four, reply_header, link_words, reply_block, refused_block}
-use Rattle.message.specs.declared.link.Link.TheVariants.{None as none}
 use Rattle.message.specs.Message.{Ran, reply_of}
 use Rattle.invariants.specs.GivenCases.{cond-case, request-case, session-case, tree-case, open-case, barred-case, writing-case, opening-case}
 use Rattle.invariants.specs.Number.{smallest-high}

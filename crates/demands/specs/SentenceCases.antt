@@ -1,8 +1,7 @@
 -- Cases 1 to 3 of document 01, said of the grammar and not of the reader: the rows of the table of cases (claims, `Cases.antt`) by the reader's laws.
 -- Assumes nothing.
-use Rattle.std.specs.Prelude.{◌≡◌, refl, ℕ, List, [], ◌∷◌, map, length, get_or}
+use Rattle.std.specs.Prelude.{◌≡◌, refl, ℕ, List, [], ◌∷◌, map, length, get_or, Option, None, Some}
 use Rattle.std.proofs.Common.{ap, sym, ◌∙◌, arith}
-use Rattle.std.proofs.Math.Option.{Option, none, some}
 use Rattle.locks.specs.Wire.{range_size}
 use Rattle.wire.specs.LittleEndian.{le16_at}
 use Rattle.chain.specs.Grammar.{Sentence}
@@ -23,13 +22,13 @@ done-malformed e = let n : ◌≡◌ {A = ℕ} 0 1 = ap (λ (x : Status). x.code
 -- what the table says of the reader's answer, said of the grammar
 read-sentence : (s : List ℕ) (o : Option (List Block)) → blocks s ≡ o → reading o ≡ status 0 0 → Sentence s
 unfolding reading
-read-sentence s none e f = absurd (done-malformed (sym f))
-read-sentence s (some bs) e f = (map span_of bs, reader-sound s bs e)
+read-sentence s None e f = absurd (done-malformed (sym f))
+read-sentence s (Some bs) e f = (map span_of bs, reader-sound s bs e)
 
 read_none : (s : List ℕ) (o : Option (List Block)) → blocks s ≡ o → reading o ≡ status 2 1 → Sentence s → ⊥
 unfolding reading
-read_none s none e f = (no-sentence s).0 e
-read_none s (some bs) e f = absurd (done-malformed f)
+read_none s None e f = (no-sentence s).0 e
+read_none s (Some bs) e f = absurd (done-malformed f)
 
 -- a row of the table: what is given is what is said
 row : (k : ℕ) → get_or (map (λ c. c.given) table) k (status 0 0) ≡ get_or (map (λ c. c.said) table) k (status 0 0)

@@ -1,14 +1,12 @@
 -- Whatever stands in the file memory at or above a file's size, no command, no chain and no message tells it (document 02, CR 3: "with zeros where it grows and no byte
 -- changed where it shrinks"): two file memories of which every file shows the same bytes give the same, and what they leave shows the same again. Assumes nothing.
-use Rattle.std.specs.Prelude.{◌≡◌, Bool, true, false, cond, List, ◌++◌, drop, get_or}
+use Rattle.std.specs.Prelude.{◌≡◌, Bool, true, false, cond, List, ◌++◌, drop, get_or, Option, Some, None}
 use Rattle.std.proofs.Math.Path.{refl, ap}
 use Rattle.std.proofs.Common.{sym, ◌∙◌}
 use Prim.Native.Nat.{ℕ, ◌+◌, ◌*◌, ◌≤◌, ◌<◌}
 use native.Mathlib.Omega.{arith}
 use Rattle.std.proofs.Math.ListN.{length}
 use Rattle.lists.specs.Walk.{any}
-use Rattle.lists.specs.declared.Found.{Found}
-use Rattle.lists.specs.declared.Found.TheVariants.{At, Nothing}
 use Rattle.records.specs.declared.Open.{Open}
 use Rattle.records.specs.declared.Tables.{Tables}
 use Rattle.records.specs.Empty.{no_open}
@@ -20,7 +18,7 @@ use Rattle.chain.specs.declared.block.WriteFields.{WriteFields}
 use Rattle.chain.specs.declared.block.Body.{Body}
 use Rattle.chain.specs.declared.block.Body.TheVariants.{Locking as LockingBody, Read as ReadBody, Write as WriteBody, Close, Logoff, TreeDisconnect, ProcessExit, CoreRead as CoreReadBody, CoreWrite as CoreWriteBody, LockByteRange, UnlockByteRange, Open as OpenBody}
 use Rattle.chain.specs.declared.block.Block.{Block}
-use Rattle.chain.specs.declared.block.Next.{Next}
+use Rattle.chain.specs.Next.{Next}
 use Rattle.message.specs.declared.refusal.Forms.{Forms}
 use Rattle.message.specs.declared.caller.Caller.{Caller}
 use Rattle.message.specs.declared.refusal.Refusal.{Refusal}
@@ -93,16 +91,16 @@ module _ (c : Caller) (t : Tables) where
   unfolding with_session
   session-alike next next' h = both_cond GivenAlike (any (is_session c) (sessions_of t)) next (refused NoSession) next' (refused NoSession) (λ _. h) (λ _. both-refused)
 
-  pub open-at-alike : (f : Found) (next next' : Open → Given) → ((k : ℕ) → f ≡ At k → GivenAlike (next (get_or (opens_of t) k no_open)) (next' (get_or (opens_of t) k no_open)))
+  pub open-at-alike : (f : Option ℕ) (next next' : Open → Given) → ((k : ℕ) → f ≡ Some k → GivenAlike (next (get_or (opens_of t) k no_open)) (next' (get_or (opens_of t) k no_open)))
       → GivenAlike (open_at f (opens_of t) next) (open_at f (opens_of t) next')
   unfolding open_at
-  open-at-alike (At k) next next' h = h k refl
-  open-at-alike Nothing next next' h = both-refused
+  open-at-alike (Some k) next next' h = h k refl
+  open-at-alike None next next' h = both-refused
 
-  pub barred-alike : (f : Found) (next next' : Given) → GivenAlike next next' → GivenAlike (unless_barred t f next) (unless_barred t f next')
+  pub barred-alike : (f : Option ℕ) (next next' : Given) → GivenAlike next next' → GivenAlike (unless_barred t f next) (unless_barred t f next')
   unfolding unless_barred
-  barred-alike (At k) next next' h = both-refused
-  barred-alike Nothing next next' h = h
+  barred-alike (Some k) next next' h = both-refused
+  barred-alike None next next' h = h
 
 -- a file with other bytes, and the others as they were: what shows then shows alike if its own bytes do
 

@@ -1,12 +1,11 @@
 -- "Sent one to a message" over the blocks of a reading (document 01): the message that a block makes of its own depends on its command, place and length alone, so
 -- the messages of a reading are known from the message's bytes, with no reader between. Assumes nothing.
-use Rattle.std.specs.Prelude.{◌≡◌, refl, ℕ, ◌-◌, cond, List, [], ◌∷◌, ◌++◌, map, take, drop, set}
+use Rattle.std.specs.Prelude.{◌≡◌, refl, ℕ, ◌-◌, cond, List, [], ◌∷◌, ◌++◌, map, take, drop, set, None as Nobody}
 use Rattle.records.specs.declared.Tables.{Tables}
 use Rattle.chain.specs.Layout.{data_offset}
 use Rattle.chain.specs.Grammar.{Span}
 use Rattle.chain.specs.declared.block.Block.{Block}
 use Rattle.invariants.specs.ReaderSound.{span_of}
-use Rattle.message.specs.declared.refusal.HeldBy.TheVariants.{Nobody}
 use Rattle.message.specs.Message.{Taken, take-message}
 use Rattle.demands.specs.Alone.{end_set, data_set, alone_block, alone}
 use Rattle.demands.specs.Returned.{returned_fid}

@@ -1,10 +1,9 @@
 -- A refusal in a chain, over the blocks of a reading and their messages sent one by one (document 01, "Refusals on the wire"): "A command refused changes no table
 -- and no file byte, its own unlocks included. Commands before it in the chain stand; those after it aren't begun." Assumes nothing.
-use Rattle.std.specs.Prelude.{◌≡◌, ℕ, ◌-◌, ◌≤◌, ◌<◌, true, false, length}
+use Rattle.std.specs.Prelude.{◌≡◌, ℕ, ◌-◌, ◌≤◌, ◌<◌, true, false, length, Some, None as End}
 use Rattle.std.proofs.Math.Path.{refl, ap}
 use Rattle.std.proofs.Common.{◌∙◌, arith}
 use mathlib.Core.List.{List, [], ◌∷◌, ◌++◌}
-use Rattle.std.proofs.Math.Option.{some}
 use Rattle.lists.specs.Truth.{not-decided-twice}
 use Rattle.wire.specs.LittleEndian.{le32_at}
 use Rattle.records.specs.declared.Tables.{Tables}
@@ -12,8 +11,7 @@ use Rattle.chain.specs.Layout.{FIRST, block_end}
 use Rattle.chain.specs.Grammar.{IsBlock, Span}
 use Rattle.chain.specs.Chain.{blocks}
 use Rattle.chain.specs.declared.block.Block.{Block}
-use Rattle.chain.specs.declared.block.Next.{Next}
-use Rattle.chain.specs.declared.block.Next.TheVariants.{End}
+use Rattle.chain.specs.Next.{Next}
 use Rattle.invariants.specs.BlockParse.{block_at, block_inside}
 use Rattle.invariants.specs.ReaderSound.{span_of}
 use Rattle.invariants.specs.Fit.{Fit}
@@ -21,7 +19,7 @@ use Rattle.readings.specs.Moved.{Moved}
 use Rattle.readings.proofs.Moved.{moved-block, moved-size}
 use Rattle.message.specs.Refusal.{status}
 use Rattle.message.specs.declared.refusal.Status.{Status}
-use Rattle.message.specs.declared.refusal.HeldBy.{HeldBy}
+use Rattle.message.specs.HeldBy.{HeldBy}
 use Rattle.message.specs.Message.{Ran, answered, reply_of, Taken, take-message}
 use Rattle.demands.specs.Returned.{returned_fid}
 use Rattle.demands.specs.Carrying.{carried-block}
@@ -88,10 +86,10 @@ at_first b = record { command = b.command; place = FIRST; size = b.size }
 -- of every block, whatever 0xFFFF means in it
 pub data AllLone (s : List ℕ) : List Block → Type 0 where
   lone-none : AllLone s []
-  lone-then : {b : Block} {bs : List Block} → ((just : ℕ) → just < 65536 → (d : Block) × (blocks (own s just b) ≡ some (d ∷ [])) × (span_of d ≡ at_first (span_of b))) → AllLone s bs → AllLone s (b ∷ bs)
+  lone-then : {b : Block} {bs : List Block} → ((just : ℕ) → just < 65536 → (d : Block) × (blocks (own s just b) ≡ Some (d ∷ [])) × (span_of d ≡ at_first (span_of b))) → AllLone s bs → AllLone s (b ∷ bs)
 
 pub lone-block : {s : List ℕ} {command at : ℕ} (just : ℕ) (nx : Next) → IsBlock s at command → 32 ≤ at → length s ≤ 8192 → just < 65536
-    → (d : Block) × (blocks (own s just (block_at s command at nx)) ≡ some (d ∷ [])) × (span_of d ≡ at_first (span_of (block_at s command at nx)))
+    → (d : Block) × (blocks (own s just (block_at s command at nx)) ≡ Some (d ∷ [])) × (span_of d ≡ at_first (span_of (block_at s command at nx)))
 unfolding block_at own span_of at_first
 lone-block {s} {command} {at} just nx h from small fits =
     let i : block_end s at ≤ length s = block_inside h in

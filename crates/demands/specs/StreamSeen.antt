@@ -7,7 +7,7 @@ use borrow.Author.Tests.{eqb-true, eqb-false, lt-ltb, le-ltb}
 use Rattle.lists.specs.Put.{put}
 use Rattle.lists.specs.Truth.{test-cases}
 use Rattle.stream.specs.declared.state.State.{State}
-use Rattle.stream.specs.declared.reader.Event.TheVariants.{NoMessage, InPiece, InBuffer}
+use Rattle.stream.specs.Reader.{NoMessage, InPiece, InBuffer}
 use Rattle.stream.specs.Stream.{First, wanted, stops, whole, first}
 use Rattle.stream.specs.State.{stopped_by, pending, is_left}
 use Rattle.stream.specs.Reader.{Read, step_of, handed, read_by, read}

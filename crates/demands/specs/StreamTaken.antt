@@ -6,13 +6,13 @@ use Rattle.std.proofs.Common.{arith}
 use Prim.Native.Nat.{ℕ, zero, suc, ◌≤◌}
 use mathlib.Core.List.{List, [], ◌∷◌, ◌++◌}
 use Rattle.records.specs.declared.Tables.{Tables}
-use Rattle.message.specs.declared.refusal.HeldBy.{HeldBy}
+use Rattle.message.specs.HeldBy.{HeldBy}
 use Rattle.message.specs.Message.{Taken, take-message}
 use Rattle.invariants.specs.Sound.{Good}
 use Rattle.invariants.specs.Fit.{take-message-good}
 use Rattle.stream.specs.declared.state.State.{State}
-use Rattle.stream.specs.declared.reader.Event.{Event}
-use Rattle.stream.specs.declared.reader.Event.TheVariants.{NoMessage, InPiece, InBuffer}
+use Rattle.stream.specs.Reader.{Event}
+use Rattle.stream.specs.Reader.{NoMessage, InPiece, InBuffer}
 use Rattle.stream.specs.Stream.{begins, First, wanted, stops, whole, first, Carried, with_message, carried_by, carried}
 use Rattle.stream.specs.State.{state_of}
 use Rattle.stream.specs.Reader.{Read, read}

@@ -1,8 +1,7 @@
 -- The call itself, `take-message`: free bytes, malformed messages and the messages sent one by one, of what the call gives. Assumes nothing.
-use Rattle.std.specs.Prelude.{◌≡◌, refl, ℕ, ◌+◌, ◌≤◌, ◌<◌, true, false, not, ◌||◌, List, [], ◌∷◌, take, ltb}
+use Rattle.std.specs.Prelude.{◌≡◌, refl, ℕ, ◌+◌, ◌≤◌, ◌<◌, true, false, not, ◌||◌, List, [], ◌∷◌, take, ltb, Some, None as End}
 use Rattle.std.proofs.Common.{sym, ap, ◌∙◌}
 use native.Mathlib.Omega.{arith}
-use Rattle.std.proofs.Math.Option.{some}
 use Rattle.std.proofs.Math.ListN.{length}
 use borrow.Author.Tests.{ltb-false, le-ltb}
 use Rattle.lists.specs.Truth.{neither-holds}
@@ -14,8 +13,7 @@ use Rattle.chain.specs.Grammar.{IsBlock, Span, Reading, Sentence}
 use Rattle.chain.specs.Header.{starts_smb, is_reply, dropped}
 use Rattle.chain.specs.Chain.{blocks}
 use Rattle.chain.specs.declared.block.Block.{Block}
-use Rattle.chain.specs.declared.block.Next.{Next}
-use Rattle.chain.specs.declared.block.Next.TheVariants.{End, Follow}
+use Rattle.chain.specs.Next.{Next, Follow}
 use Rattle.invariants.specs.BlockParse.{block_at, block_inside, block_size, behind}
 use Rattle.readings.specs.FreeBytes.{AllAlike}
 use Rattle.invariants.specs.Chained.{Chained, chained-end, chained_more, read-chained}
@@ -112,7 +110,7 @@ all-fit-from {s} connection (chained_more {command} {at} {c} {a} h l r) from fit
 
 -- "Each is taken by demand 2's definition, same connection, reply room 12,292": of a sentence that is not dropped, on sound tables, every block's
 -- message is fit to be answered, so that the call gives it number 0 and what `answered` says (`fit-answered`)
-pub all_fit : (connection : ℕ) (s : List ℕ) (bs : List Block) → blocks s ≡ some bs → dropped s ≡ false → (t : Tables) (memory : List ℕ) → Good t → length memory ≡ 65536
+pub all_fit : (connection : ℕ) (s : List ℕ) (bs : List Block) → blocks s ≡ Some bs → dropped s ≡ false → (t : Tables) (memory : List ℕ) → Good t → length memory ≡ 65536
     → AllFit connection s NOBODY bs t memory
 unfolding blocks
 all_fit connection s bs e fit t memory g full = all-fit-from connection (read-chained s (header_command s) FIRST bs e) (omega arith) fit NOBODY t memory g full (omega arith)

@@ -1,9 +1,8 @@
 -- The fields of the header and of a message's first block, which stands at 32, where the layout has them, and the step from a reading to the reader's block
 -- with these fields. Assumes nothing.
-use Rattle.std.specs.Prelude.{◌≡◌, refl, ℕ, ◌+◌, ◌-◌, ◌*◌, ◌/◌, ◌≤◌, ◌<◌, cond, List, [], ◌∷◌, map, drop, eqb}
+use Rattle.std.specs.Prelude.{◌≡◌, refl, ℕ, ◌+◌, ◌-◌, ◌*◌, ◌/◌, ◌≤◌, ◌<◌, cond, List, [], ◌∷◌, map, drop, eqb, Some, None as End}
 use Rattle.std.proofs.Common.{sym, ◌∙◌, arith, length-take, length-drop, length-take-le, take-take, get_or-take, get_or-drop, ext_get_or}
 use Rattle.std.proofs.Math.Path.{ap}
-use Rattle.std.proofs.Math.Option.{some}
 use Rattle.std.proofs.Math.ListN.{length, take}
 use Rattle.wire.specs.LittleEndian.{byte_at, le16_at}
 use Rattle.chain.specs.Layout.{header_command, FIRST, word_count, byte_area, byte_count, fid_after_andx, offset_low, read_max, read_offset_high, data_length, data_offset, write_offset_high, first_fid, core_count, core_offset, marked_data}
@@ -12,7 +11,6 @@ use Rattle.chain.specs.Chain.{blocks}
 use Rattle.chain.specs.declared.block.ReadFields.{ReadFields}
 use Rattle.chain.specs.declared.block.WriteFields.{WriteFields}
 use Rattle.chain.specs.declared.block.Block.{Block}
-use Rattle.chain.specs.declared.block.Next.TheVariants.{End}
 use Rattle.invariants.specs.BlockParse.{body_at, block_at}
 use Rattle.invariants.specs.ReaderSound.{span_of}
 use Rattle.invariants.specs.Chained.{Chained, chained-end, chained_more, read-chained}
@@ -67,7 +65,7 @@ open_name s = take (byte_count s FIRST - 1) (drop (byte_area s FIRST) s)
 
 pub record FirstBlock (s : List ℕ) (later : List Block) : Type 0 where
   pub block : Block
-  pub is_read : blocks s ≡ some (block ∷ later)
+  pub is_read : blocks s ≡ Some (block ∷ later)
   pub stands : block.at ≡ FIRST
   pub holds : block.body ≡ body_at s (header_command s) FIRST
 
@@ -77,7 +75,7 @@ unfolding blocks
 reading-first {s} r =
     let a = reader-complete r in
     let q = first_block (read-chained s (header_command s) FIRST a.0 a.1) in
-    (q.later, record { block = q.block; is_read = a.1 ∙ ap some q.is-first; stands = q.stands; holds = q.holds })
+    (q.later, record { block = q.block; is_read = a.1 ∙ ap Some q.is-first; stands = q.stands; holds = q.holds })
 
 none-behind : (later : List Block) → map span_of later ≡ [] → later ≡ []
 none-behind [] e = refl
@@ -92,7 +90,7 @@ one-first {s} {span} r =
     let all : span_of q.block ∷ map span_of q.later ≡ span ∷ [] = rw q.is-first at a.2 in
     let none_more : map span_of q.later ≡ [] = cc in
     let whole : a.0 ≡ q.block ∷ [] = q.is-first ∙ ap (λ (l : List Block). q.block ∷ l) (none-behind q.later none_more) in
-    record { block = q.block; is_read = a.1 ∙ ap some whole; stands = q.stands; holds = q.holds }
+    record { block = q.block; is_read = a.1 ∙ ap Some whole; stands = q.stands; holds = q.holds }
 
 -- a block's byte area is all there
 chained-area : {s : List ℕ} {command at : ℕ} {bs : List Block} → Chained s command at bs → length (take (byte_count s at) (drop (byte_area s at) s)) ≡ byte_count s at

@@ -1,11 +1,9 @@
 -- The status of a write and the one reason for it, whatever bytes it covers and whatever it comes to (document 01, "Refusals on the wire"; document 02, CR 3): what a WRITE
 -- and a core WRITE of count 0 have in common. Assumes nothing.
-use Rattle.std.specs.Prelude.{◌≡◌, refl, ◌⊎◌, ℕ, Bool, true, false, cond, List, get_or, eqb}
+use Rattle.std.specs.Prelude.{◌≡◌, refl, ◌⊎◌, ℕ, Bool, true, false, cond, List, get_or, eqb, Option, Some, None}
 use Rattle.std.proofs.Common.{sym, ◌∙◌, arith}
 use Rattle.std.proofs.Math.Path.{ap}
 use Rattle.std.proofs.Math.Logic.{inl, inr}
-use Rattle.lists.specs.declared.Found.{Found}
-use Rattle.lists.specs.declared.Found.TheVariants.{At, Nothing}
 use Rattle.records.specs.declared.Open.{Open}
 use Rattle.records.specs.declared.Tables.{Tables}
 use Rattle.records.specs.Empty.{no_open}
@@ -70,11 +68,11 @@ module _ (c : Caller) (t : Tables) (memory : List ℕ) (ok : sound t ≡ true) (
     write-open = get_or (opens_of t) k no_open
 
     -- a lock is in the way, or the write's end decides
-    pub write-ends : eqb write-open.access 0 ≡ false → (x : Found) → a_write ≡ unless_barred t x (cond past (refused NoSpace) (next write-open))
+    pub write-ends : eqb write-open.access 0 ≡ false → (x : Option ℕ) → a_write ≡ unless_barred t x (cond past (refused NoSpace) (next write-open))
         → (Bars write-open × (status_in a_write ≡ status 1 33)) ⊎ ((Bars write-open → ⊥) × (status_in a_write ≡ cond past (status 3 39) (status 0 0)))
     unfolding unless_barred held_in
-    write-ends e (At j) g = inl ((writing-exact c t memory k ok fid from size past next next-not may e).0 (_, ap held_in g), conflicts-status a_write (_, ap held_in g))
-    write-ends e Nothing g =
+    write-ends e (Some j) g = inl ((writing-exact c t memory k ok fid from size past next next-not may e).0 (_, ap held_in g), conflicts-status a_write (_, ap held_in g))
+    write-ends e None g =
         let s = ap status_in g ∙ end-status past (next write-open) (zero write-open) in
         inr (
           λ w. other-status a_write (λ q. end-code past (sym (ap (λ (s : Status). s.code) s) ∙ q)) ((writing-exact c t memory k ok fid from size past next next-not may e).1 w),

@@ -2,7 +2,7 @@
 -- Assumes nothing.
 use Rattle.std.proofs.Math.Path.{◌≡◌, refl, ap}
 use Rattle.std.proofs.Common.{sym, ◌∙◌, arith}
-use Rattle.std.specs.Prelude.{◌↔◌, ℕ, ◌-◌, ◌/◌, ◌%◌, ◌≤◌, Bool, cond, ◌&&◌, List, length}
+use Rattle.std.specs.Prelude.{◌↔◌, ℕ, ◌-◌, ◌/◌, ◌%◌, ◌≤◌, Bool, cond, ◌&&◌, List, length, None as End, Some as Whole}
 use Rattle.std.proofs.Math.Bool.{true, false}
 use Rattle.std.proofs.Math.Dec.{leb, eqb}
 use borrow.Author.Tests.{eqb-true, leb-true, eq-eqb, le-leb, ne_eqb}
@@ -12,10 +12,8 @@ use Rattle.chain.specs.Grammar.{IsBlock, locking-10, locking-20, read-10, read-1
 use Rattle.chain.specs.Parse.{may_follow, link_fits, link_at, answer, wide_offset, parse_locking, parse_read, parse_write, parse_open, parse_logoff, parse_bare, core_read_at, core_write_at, parse_core_write, range_fields, parse}
 use Rattle.chain.specs.declared.block.Body.{Body}
 use Rattle.chain.specs.declared.block.Body.TheVariants.{Locking, Read, Write, Close, Logoff, TreeDisconnect, ProcessExit, LockByteRange, UnlockByteRange, Open}
-use Rattle.chain.specs.declared.block.Next.{Next}
-use Rattle.chain.specs.declared.block.Next.TheVariants.{End, Follow}
+use Rattle.chain.specs.Next.{Next, Follow, same-place}
 use Rattle.chain.specs.declared.block.Block.{Block}
-use Rattle.chain.specs.declared.block.Parsed.TheVariants.{Whole}
 use Rattle.invariants.specs.Follows.{follow-sound, follow-complete}
 use Rattle.invariants.specs.BlockTests.{Served, plain, andx, fits, fits-sound, fits-complete}
 
@@ -58,7 +56,7 @@ pub data Linked (s : List ℕ) (command at : ℕ) : Next → Type 0 where
 pub behind : {s : List ℕ} {command at : ℕ} {nx : Next} (c a : ℕ) → Linked s command at nx → nx ≡ Follow c a → block_end s at ≤ a
 behind c a (link-plain p) e = let z : ◌≡◌ {A = ℕ} 0 1 = cc in absurd (omega arith)
 behind c a (link-end n f) e = let z : ◌≡◌ {A = ℕ} 0 1 = cc in absurd (omega arith)
-behind {s} {command} {at} c a (link-next f g) e = let z : andx_offset s at ≡ a = cc in omega arith
+behind {s} {command} {at} c a (link-next f g) e = let z : andx_offset s at ≡ a = same-place e in omega arith
 
 -- a block of the table is of a request served
 pub block-served : {s : List ℕ} {at command : ℕ} → IsBlock s at command → Served command

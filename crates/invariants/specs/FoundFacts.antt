@@ -3,17 +3,15 @@ use Rattle.std.proofs.Math.Path.{◌≡◌, refl, ap}
 use Rattle.std.proofs.Common.{◌∙◌}
 use Prim.Native.Nat.{ℕ, zero, suc, ◌-◌, ◌≤◌}
 use native.Mathlib.Omega.{arith}
-use Rattle.std.specs.Prelude.{Bool, true, false, cond, get_or}
+use Rattle.std.specs.Prelude.{Bool, true, false, cond, get_or, Option, Some, None}
 use mathlib.Core.List.Memᴰ.{head as here}
 use mathlib.Core.List.Memᴰ.{tail as there}
 use mathlib.Core.List.{List, [], ◌∷◌, Memᴰ as In}
 use Rattle.lists.specs.Walk.{all, found_from, found}
 use Rattle.lists.specs.Truth.{both_hold}
-use Rattle.lists.specs.declared.Found.{Found}
-use Rattle.lists.specs.declared.Found.TheVariants.{At, Nothing}
 
 -- a walk that finds none passes over the first element
-miss-first : (t : Bool) (k : ℕ) (f : Found) → cond t (At k) f ≡ Nothing → (t ≡ false) × (f ≡ Nothing)
+miss-first : (t : Bool) (k : ℕ) (f : Option ℕ) → cond t (Some k) f ≡ None → (t ≡ false) × (f ≡ None)
 miss-first true k f e = let z : ◌≡◌ {A = ℕ} 0 1 = cc in absurd (omega arith)
 miss-first false k f e = (refl, e)
 
@@ -27,8 +25,8 @@ module _ {A : Type 0} where
     from : k ≤ j
     hit : Hit p xs (get_or xs (j - k) d)
 
-  hit-first : (t : Bool) (k : ℕ) (p : A → Bool) (x : A) (xs : List A) (j : ℕ) (d : A) → p x ≡ t → (found_from (suc k) p xs ≡ At j → HitFrom (suc k) p xs j d)
-      → cond t (At k) (found_from (suc k) p xs) ≡ At j → HitFrom k p (x ∷ xs) j d
+  hit-first : (t : Bool) (k : ℕ) (p : A → Bool) (x : A) (xs : List A) (j : ℕ) (d : A) → p x ≡ t → (found_from (suc k) p xs ≡ Some j → HitFrom (suc k) p xs j d)
+      → cond t (Some k) (found_from (suc k) p xs) ≡ Some j → HitFrom k p (x ∷ xs) j d
   hit-first true k p x xs j d e f g =
       let same : k ≡ j = cc in
       let z : j - k ≡ 0 = omega arith in
@@ -39,12 +37,12 @@ module _ {A : Type 0} where
       let z : j - k ≡ suc (j - suc k) = omega arith in
       record { from = omega arith; hit = rw z (record { listed = there h.hit.listed; passes = h.hit.passes }) }
 
-  hit-from : (k : ℕ) (p : A → Bool) (xs : List A) (j : ℕ) (d : A) → found_from k p xs ≡ At j → HitFrom k p xs j d
+  hit-from : (k : ℕ) (p : A → Bool) (xs : List A) (j : ℕ) (d : A) → found_from k p xs ≡ Some j → HitFrom k p xs j d
   unfolding found_from
   hit-from k p [] j d e = let z : ◌≡◌ {A = ℕ} 0 1 = cc in absurd (omega arith)
   hit-from k p (x ∷ xs) j d e = hit-first (p x) k p x xs j d refl (λ g. hit-from (suc k) p xs j d g) e
 
-  pub found-hit : (p : A → Bool) (xs : List A) (j : ℕ) (d : A) → found p xs ≡ At j → Hit p xs (get_or xs j d)
+  pub found-hit : (p : A → Bool) (xs : List A) (j : ℕ) (d : A) → found p xs ≡ Some j → Hit p xs (get_or xs j d)
   unfolding found
   found-hit p xs j d e =
       let h = hit-from 0 p xs j d e in
@@ -52,12 +50,12 @@ module _ {A : Type 0} where
       rw z at h.hit
 
   -- none found: each fails
-  miss-from : {x : A} {xs : List A} (k : ℕ) (p : A → Bool) → In x xs → found_from k p xs ≡ Nothing → p x ≡ false
+  miss-from : {x : A} {xs : List A} (k : ℕ) (p : A → Bool) → In x xs → found_from k p xs ≡ None → p x ≡ false
   unfolding found_from
   miss-from k p (here {x = y} {xs = ys} e) h = ap p e ∙ (miss-first (p y) k (found_from (suc k) p ys) h).0
   miss-from k p (there {x = y} {xs = ys} m) h = miss-from (suc k) p m (miss-first (p y) k (found_from (suc k) p ys) h).1
 
-  pub found-miss : (p : A → Bool) {x : A} {xs : List A} → In x xs → found p xs ≡ Nothing → p x ≡ false
+  pub found-miss : (p : A → Bool) {x : A} {xs : List A} → In x xs → found p xs ≡ None → p x ≡ false
   unfolding found
   found-miss p m h = miss-from 0 p m h
 

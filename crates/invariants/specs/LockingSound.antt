@@ -1,15 +1,12 @@
 -- A LOCKING request that is done keeps the rules for locks: "two locks of one file that overlap are both shared", "no lock passes 2^64", and
 -- each lock's open exists. Assumes nothing.
 use Rattle.std.proofs.Math.Path.{◌≡◌, refl}
-use Rattle.std.specs.Prelude.{ℕ, zero, suc, Bool, true, false}
+use Rattle.std.specs.Prelude.{ℕ, zero, suc, Bool, true, false, Option, Some, None}
 use Rattle.std.proofs.Common.{arith}
 use mathlib.Core.List.{List, [], ◌∷◌, ◌++◌, map}
-use Rattle.std.proofs.Math.Option.{Option, some}
 use Rattle.lists.specs.Walk.{any, all, all_tails, found}
 use Rattle.lists.specs.Members.{all_snoc, tails-snoc}
 use Rattle.lists.specs.Truth.{both_hold, hold-both, neither-holds, not-holds}
-use Rattle.lists.specs.declared.Found.{Found}
-use Rattle.lists.specs.declared.Found.TheVariants.{At, Nothing}
 use Rattle.records.specs.declared.Open.{Open}
 use Rattle.records.specs.declared.Lock.{Lock}
 use Rattle.numbers.specs.Number.{contains}
@@ -48,15 +45,15 @@ removed-ok : (os : List Open) (k : ℕ) (l : List Lock) → LocksOk os l → Loc
 removed-ok os k l h =
     record { owned = all-removed (lock_ok (map fid_of os)) k l h.owned; agreed = agree-removed (file_of os) k l h.agreed }
 
-found-release : (os : List Open) (f : Found) (list left : List Lock) (rest : List Lock → Option (List Lock)) → LocksOk os list
-    → ((l : List Lock) → LocksOk os l → rest l ≡ some left → LocksOk os left) → after_find f list rest ≡ some left → LocksOk os left
+found-release : (os : List Open) (f : Option ℕ) (list left : List Lock) (rest : List Lock → Option (List Lock)) → LocksOk os list
+    → ((l : List Lock) → LocksOk os l → rest l ≡ Some left → LocksOk os left) → after_find f list rest ≡ Some left → LocksOk os left
 unfolding after_find
-found-release os (At k) list left rest h step e = step (remove_at k list) (removed-ok os k list h) e
-found-release os Nothing list left rest h step e = let z : ◌≡◌ {A = ℕ} 0 1 = cc in absurd (omega arith)
+found-release os (Some k) list left rest h step e = step (remove_at k list) (removed-ok os k list h) e
+found-release os None list left rest h step e = let z : ◌≡◌ {A = ℕ} 0 1 = cc in absurd (omega arith)
 
 -- "Unlocks go first, in order"
 pub release-ok : (os : List Open) (file : ℕ → ℕ) (fid : ℕ) (rs : List LockRange) (list left : List Lock) → LocksOk os list
-    → release_all file fid rs list ≡ some left → LocksOk os left
+    → release_all file fid rs list ≡ Some left → LocksOk os left
 unfolding release_all
 release-ok os file fid [] list left h e = let same : list ≡ left = cc in rw (← same) h
 release-ok os file fid (r ∷ rs) list left h e =
@@ -71,7 +68,7 @@ unfolding answers answers_for in_way bars ask_of agree lock_of
 miss-agrees file fid shared r m e = not-holds _ e
 
 module _ (os : List Open) (fid : ℕ) (shared : Bool) (known : contains fid (map fid_of os) ≡ true) where
-  granted-ok : (r : LockRange) (list : List Lock) → range_passes r ≡ false → found (answers (file_of os) (ask_of fid (Grant shared) r)) list ≡ Nothing → LocksOk os list
+  granted-ok : (r : LockRange) (list : List Lock) → range_passes r ≡ false → found (answers (file_of os) (ask_of fid (Grant shared) r)) list ≡ None → LocksOk os list
       → LocksOk os (list ++ (lock_of fid shared r ∷ []))
   unfolding range_passes lock_of agree_all all
   granted-ok r list low free h =
@@ -84,10 +81,10 @@ module _ (os : List Open) (fid : ℕ) (shared : Bool) (known : contains fid (map
             refl h.agreed;
       }
 
-  walk-granted : (f : Found) (list : List Lock) (g : Grants) (out : List Lock) → after_walk f list g ≡ granted out → (f ≡ Nothing) × (g ≡ granted out)
+  walk-granted : (f : Option ℕ) (list : List Lock) (g : Grants) (out : List Lock) → after_walk f list g ≡ granted out → (f ≡ None) × (g ≡ granted out)
   unfolding after_walk
-  walk-granted (At k) list g out e = let z : ◌≡◌ {A = ℕ} 0 1 = cc in absurd (omega arith)
-  walk-granted Nothing list g out e = (refl, e)
+  walk-granted (Some k) list g out e = let z : ◌≡◌ {A = ℕ} 0 1 = cc in absurd (omega arith)
+  walk-granted None list g out e = (refl, e)
 
   -- "Then locks in order, each against the list as it stands"
   pub grant-ok : (rs : List LockRange) (list out : List Lock) → any range_passes rs ≡ false → LocksOk os list

@@ -1,10 +1,9 @@
 -- "reply room under 12,292 bytes" (document 01, "What a call returns"): that room suffices for every reply. No reply block but READ's is longer
 -- than its request block; READ_ANDX's is longer by at most 4 + 4,096, and only CLOSE follows it, the core READ's by at most 3 + 4,096, and nothing follows it.
 -- Assumes nothing.
-use Rattle.std.specs.Prelude.{◌≡◌, refl, ℕ, min, ◌+◌, ◌-◌, ◌*◌, ◌≤◌, Bool, cond, List, [], ◌∷◌, take, drop, get_or, ltb, eqb}
+use Rattle.std.specs.Prelude.{◌≡◌, refl, ℕ, min, ◌+◌, ◌-◌, ◌*◌, ◌≤◌, Bool, cond, List, [], ◌∷◌, take, drop, get_or, ltb, eqb, Option, None, Some, None as End}
 use native.Mathlib.Omega.{arith}
 use Rattle.std.proofs.Math.Bool.{true, false}
-use Rattle.std.proofs.Math.Option.{Option, none, some}
 use Rattle.std.proofs.Math.ListN.{length}
 use Rattle.std.proofs.Common.{length-append, length-take, length-drop}
 use Rattle.records.specs.declared.Tables.{Tables}
@@ -13,7 +12,7 @@ use Rattle.records.specs.Held.{opens_of, locks_of}
 use Rattle.locks.specs.Wire.{range_size}
 use Rattle.locks.specs.Request.{ranges_of, Result, refused as refused_by, settle, request, locking}
 use Rattle.locks.specs.declared.types.Request.{Request}
-use Rattle.locks.specs.declared.types.Outcome.TheVariants.{Malformed}
+use Rattle.locks.specs.declared.types.LockRefusal.TheVariants.{Malformed}
 use Rattle.soundness.specs.File.{file_of}
 use Rattle.invariants.specs.SoundParts.{sound-says}
 use Rattle.chain.specs.Layout.{CLOSE, READ, CORE-READ, header_command, FIRST, block_end, andx_command}
@@ -25,8 +24,7 @@ use Rattle.chain.specs.declared.block.WriteFields.{WriteFields}
 use Rattle.chain.specs.declared.block.RangeFields.{RangeFields}
 use Rattle.chain.specs.declared.block.OpenFields.{OpenFields}
 use Rattle.chain.specs.declared.block.Block.{Block}
-use Rattle.chain.specs.declared.block.Next.{Next}
-use Rattle.chain.specs.declared.block.Next.TheVariants.{End, Follow}
+use Rattle.chain.specs.Next.{Next, Follow, same-command}
 use Rattle.invariants.specs.BlockParse.{body_at, block_at, block_size, behind, block_inside, Linked, link-plain, link-end, link-next}
 use Rattle.invariants.specs.Chained.{Chained, chained-end, chained_more, read-chained}
 use Rattle.message.specs.Caller.{caller_of}
@@ -182,7 +180,7 @@ after-says n more (done u m said) says keeps bs place t memory rest h f =
 follows : {s : List ℕ} {command at : ℕ} {nx : Next} (c a : ℕ) → Linked s command at nx → nx ≡ Follow c a → MayFollow command c
 follows c a (link-plain p) e = let z : ◌≡◌ {A = ℕ} 0 1 = cc in absurd (omega arith)
 follows c a (link-end n f) e = let z : ◌≡◌ {A = ℕ} 0 1 = cc in absurd (omega arith)
-follows {s} {command} {at} c a (link-next f g) e = let z : andx_command s at ≡ c = cc in rw (← z) f
+follows {s} {command} {at} c a (link-next f g) e = let z : andx_command s at ≡ c = same-command e in rw (← z) f
 
 extra-slack : {s : List ℕ} {at command : ℕ} → IsBlock s at command → extra command ≤ slack command
 unfolding extra slack
@@ -242,8 +240,8 @@ slack-most command = cond-case (λ (n : ℕ). n ≤ 4100) (eqb command CLOSE) 0 
 pub chain-room : (c : Caller) (s : List ℕ) (o : Option (List Block)) → blocks s ≡ o → (t : Tables) (memory : List ℕ) → Good t
     → length (run_chain c s o t memory).blocks ≤ length s - 32 + 4100
 unfolding run_chain only_status refused_block blocks
-chain-room c s none e t memory g = omega arith
-chain-room c s (some bs) e t memory g =
+chain-room c s None e t memory g = omega arith
+chain-room c s (Some bs) e t memory g =
     omega (arith, run_room c (read-chained s (header_command s) FIRST bs e) NOBODY FIRST t memory g, slack-most (header_command s))
 
 -- "reply room 12,292": every reply to a message that is not dropped fits

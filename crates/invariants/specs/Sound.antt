@@ -1,10 +1,9 @@
 -- Demand 1 for messages: "Every call on sound tables leaves sound tables" (document 01, "Tables and room"). Assumes nothing.
-use Rattle.std.specs.Prelude.{◌≡◌, ℕ, max, ◌+◌, ◌*◌, ◌≤◌, ◌<◌, true, ◌&&◌, leb}
+use Rattle.std.specs.Prelude.{◌≡◌, ℕ, max, ◌+◌, ◌*◌, ◌≤◌, ◌<◌, true, ◌&&◌, leb, Option, None, Some}
 use Rattle.std.proofs.Math.Path.{refl, sym, ap}
 use Rattle.std.proofs.Common.{◌∙◌, arith, length-take}
 use Rattle.std.proofs.Math.Bool.{false}
 use mathlib.Core.List.{List, [], ◌∷◌, ◌++◌, map}
-use Rattle.std.proofs.Math.Option.{Option, none, some}
 use Rattle.std.proofs.Math.ListN.{length, get_or}
 use Rattle.std.proofs.Math.Dec.{ltb, eqb}
 use borrow.Author.Tests.{leb-true, leb-false, ltb-false, eqb-true, eq-eqb}
@@ -12,7 +11,6 @@ use Rattle.lists.specs.Walk.{all, found}
 use Rattle.lists.specs.RoomLaws.{held_more}
 use Rattle.lists.specs.Members.{all-each, one-any, in_map}
 use Rattle.lists.specs.Truth.{both_hold}
-use Rattle.lists.specs.declared.Found.TheVariants.{At}
 use Rattle.records.specs.declared.Open.{Open}
 use Rattle.records.specs.declared.Lock.{Lock}
 use Rattle.records.specs.declared.Name.{Name}
@@ -25,7 +23,7 @@ use Rattle.numbers.specs.Column.{fid_of}
 use Rattle.locks.specs.Wire.{range_size}
 use Rattle.locks.specs.Request.{ranges_of, Result, done as done_with, refused as refused_by, settle, request, locking}
 use Rattle.locks.specs.declared.types.Request.{Request}
-use Rattle.locks.specs.declared.types.Outcome.TheVariants.{Malformed}
+use Rattle.locks.specs.declared.types.LockRefusal.TheVariants.{Malformed}
 use Rattle.soundness.specs.File.{file_of}
 use Rattle.catalogue.specs.Name.{is_named, not_zero, name_bytes, name_ok, none_doubled, catalogue_ok}
 use Rattle.soundness.specs.Sound.{sound, file_ok, sharing_ok}
@@ -82,7 +80,7 @@ core-keeps keeps-refused = keeps-refused
 core-keeps (keeps-done g) = keeps-done g
 
 -- the open that a caller names: it is listed, with that FID
-module _ (c : Caller) (t : Tables) (fid k : ℕ) (e : found (is_open c fid) (opens_of t) ≡ At k) where
+module _ (c : Caller) (t : Tables) (fid k : ℕ) (e : found (is_open c fid) (opens_of t) ≡ Some k) where
   pub open-hit : Hit (is_open c fid) (opens_of t) (get_or (opens_of t) k no_open)
   open-hit = found-hit (is_open c fid) (opens_of t) k no_open e
 
@@ -177,7 +175,7 @@ module _ (t : Tables) (g : Good t) where
   -- ---- a read
 
   -- the open that has read remembers its file's number: no other has its FID
-  read-good : (c : Caller) (fid k : ℕ) → found (is_open c fid) (opens_of t) ≡ At k → Good (with_read t fid (changes_of t (get_or (opens_of t) k no_open).file))
+  read-good : (c : Caller) (fid k : ℕ) → found (is_open c fid) (opens_of t) ≡ Some k → Good (with_read t fid (changes_of t (get_or (opens_of t) k no_open).file))
   unfolding with_opens changes_of
   read-good c fid k e =
       let number = (get_or t.files (get_or (opens_of t) k no_open).file no_file).changes in
@@ -200,7 +198,7 @@ module _ (t : Tables) (g : Good t) where
   -- ---- an open by name
 
   -- the file that a name of the catalogue has is one of the 16
-  pub named-file : (k : ℕ) (name : List ℕ) → found (is_named name) (names_of t) ≡ At k → leb (get_or (names_of t) k no_name).file 15 ≡ true
+  pub named-file : (k : ℕ) (name : List ℕ) → found (is_named name) (names_of t) ≡ Some k → leb (get_or (names_of t) k no_name).file 15 ≡ true
   unfolding catalogue_ok name_ok
   named-file k name e =
       let n : Name = get_or (names_of t) k no_name in
@@ -302,8 +300,8 @@ run-keeps c s just (b ∷ bs) place t memory g =
 
 chain-keeps : (c : Caller) (s : List ℕ) (o : Option (List Block)) (t : Tables) (memory : List ℕ) → Good t → Good (run_chain c s o t memory).tables
 unfolding run_chain only_status
-chain-keeps c s none t memory g = g
-chain-keeps c s (some bs) t memory g = run-keeps c s NOBODY bs FIRST t memory g
+chain-keeps c s None t memory g = g
+chain-keeps c s (Some bs) t memory g = run-keeps c s NOBODY bs FIRST t memory g
 
 -- "Every call on sound tables leaves sound tables": a message does, whatever its bytes
 pub answered-good : (connection : ℕ) (s : List ℕ) (t : Tables) (memory : List ℕ) → Good t → Good (answered connection s t memory).tables

@@ -1,5 +1,5 @@
 -- Document 01's numbers of refusals, on the wire and of calls, and document 02's (CR 6, CR 7), a second time. Assumes nothing.
-use Rattle.std.specs.Prelude.{◌≡◌, refl, ℕ, ◌-◌, List, [], ◌∷◌, ◌++◌, map, false, length, replicate}
+use Rattle.std.specs.Prelude.{◌≡◌, refl, ℕ, ◌-◌, List, [], ◌∷◌, ◌++◌, map, false, length, replicate, None as Nobody, Some as held_by}
 use Rattle.lists.specs.Walk.{any, all, all_tails, keep}
 use Rattle.lists.specs.Stored.{stored}
 use Rattle.records.specs.declared.Lock.{Lock}
@@ -25,7 +25,6 @@ use Rattle.message.specs.Command.{served_type}
 use Rattle.message.specs.Message.{served, not_taken, take-message}
 use Rattle.message.specs.declared.refusal.Refusal.TheVariants.{NotServed, NotSentence, NoSession, NoTree, NoOpen, NoAccess, LockType, NoSuchLock, PassesEnd, LockNotGranted, FileLockConflict, NoRecord, NoSpace, OpenMode, BadAccess, NoSuchFile, BadShare, NoFids}
 use Rattle.message.specs.declared.refusal.Status.{Status}
-use Rattle.message.specs.declared.refusal.HeldBy.TheVariants.{Nobody, Holder as held_by}
 use Rattle.literals.specs.Counting.{count_from}
 use Rattle.literals.specs.State.{session, tree, open_of, name, sizes, tables_with, few_records, memory}
 

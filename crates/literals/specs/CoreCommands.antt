@@ -1,7 +1,6 @@
 -- The core commands (document 02, CR 3; source documents 000 and 004) in whole messages: data blocks that are no sentence, whole replies, byte for byte, with the holder
 -- beside them, and what a call leaves. Tables and messages are those of State.antt and Replies.antt. Assumes nothing.
-use Rattle.std.specs.Prelude.{◌≡◌, refl, ℕ, true, false, List, [], ◌∷◌, ◌++◌, map, take, replicate}
-use Rattle.std.proofs.Math.Option.{some}
+use Rattle.std.specs.Prelude.{◌≡◌, refl, ℕ, true, false, List, [], ◌∷◌, ◌++◌, map, take, replicate, Some, None as End}
 use Rattle.lists.specs.Walk.{any, all, all_tails, found_from, found}
 use Rattle.lists.specs.Put.{put}
 use Rattle.lists.specs.Stored.{stored}
@@ -23,7 +22,6 @@ use Rattle.chain.specs.Grammar.{Reading, Sentence}
 use Rattle.chain.specs.Parse.{shaped, bare, is_large, locking_fits, data_inside, write_fits, core_write_fits, may_follow, link_fits, link_at, answer, wide_offset, parse_locking, parse_write, parse_bare, parse_core_write, parse}
 use Rattle.chain.specs.Chain.{before, after_block, after_parse, blocks_within, blocks_from, blocks}
 use Rattle.chain.specs.declared.block.Body.TheVariants.{CoreWrite}
-use Rattle.chain.specs.declared.block.Next.TheVariants.{End}
 use Rattle.invariants.specs.ReaderSound.{span_of, reader-sound}
 use Rattle.readings.specs.ReaderComplete.{no-sentence}
 use Rattle.message.specs.Caller.{caller_of}
@@ -83,7 +81,7 @@ sent command block = message command 0x7F 0xFF block
 
 -- as it should be it is a sentence: a core WRITE of 2 bytes, 18 bytes long
 written-whole : blocks (sent 0x0B (write_to 2 0))
-    ≡ some (record { command = 0x0B; at = 32; length = 18; body = CoreWrite (record { fid = 4; offset = 2; count = 2; from = 48 }); next = End } ∷ [])
+    ≡ Some (record { command = 0x0B; at = 32; length = 18; body = CoreWrite (record { fid = 4; offset = 2; count = 2; from = 48 }); next = End } ∷ [])
 unfolding sent write_to core_write message blocks blocks_from blocks_within after_parse after_block parse parse_core_write answer core_write_fits shaped le16_at le32_at
 written-whole = refl
 

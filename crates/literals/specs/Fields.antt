@@ -1,7 +1,7 @@
 -- Document 01's places of the fields ("The grammar of a chain"), of the core commands' (document 02, CR 3) and of OPEN_ANDX's (CR 6), a second time, as numbers, and the whole processes of ranges (CR 4). Each message below has at each place the place itself,
 -- in hex, but where the grammar asks another byte. So a field that is read at another place, or from other bytes, is another number.
 -- Assumes nothing.
-use Rattle.std.specs.Prelude.{◌≡◌, refl, ℕ, ◌+◌, ◌-◌, ◌*◌, ◌/◌, ◌%◌, true, false, List, [], ◌∷◌, ◌++◌, replicate}
+use Rattle.std.specs.Prelude.{◌≡◌, refl, ℕ, ◌+◌, ◌-◌, ◌*◌, ◌/◌, ◌%◌, true, false, List, [], ◌∷◌, ◌++◌, replicate, None as End, Some as Whole}
 use Rattle.lists.specs.Walk.{keep}
 use Rattle.wire.specs.LittleEndian.{le16_at, le32_at}
 use Rattle.locks.specs.Wire.{range_size, number_at, range_from, range_at, ranges_at, small_form}
@@ -14,10 +14,7 @@ use Rattle.chain.specs.declared.block.RangeFields.{RangeFields}
 use Rattle.chain.specs.declared.block.OpenFields.{OpenFields}
 use Rattle.chain.specs.declared.block.Body.{Body}
 use Rattle.chain.specs.declared.block.Body.TheVariants.{Locking, Read, Write, Close, Logoff, TreeDisconnect, ProcessExit, CoreRead, CoreWrite, LockByteRange, UnlockByteRange, Open}
-use Rattle.chain.specs.declared.block.Next.{Next}
-use Rattle.chain.specs.declared.block.Next.TheVariants.{End, Follow}
-use Rattle.chain.specs.declared.block.Parsed.{Parsed}
-use Rattle.chain.specs.declared.block.Parsed.TheVariants.{Whole}
+use Rattle.chain.specs.Next.{Next, Follow, Parsed}
 use Rattle.message.specs.Caller.{caller_of}
 use Rattle.message.specs.Command.{request_of, range_by, one_range, name_asked}
 use Rattle.message.specs.Message.{area_of, data_of}

@@ -1,13 +1,11 @@
 -- Document 01's header and which messages are dropped, a second time, as numbers. Assumes nothing.
-use Rattle.std.specs.Prelude.{◌≡◌, refl, ℕ, true, false, not, List, [], ◌∷◌, ◌++◌, length, replicate}
-use Rattle.std.proofs.Math.Option.{some}
+use Rattle.std.specs.Prelude.{◌≡◌, refl, ℕ, true, false, not, List, [], ◌∷◌, ◌++◌, length, replicate, Some, None as End}
 use Rattle.wire.specs.LittleEndian.{le16_at}
 use Rattle.lists.specs.Walk.{keep}
 use Rattle.chain.specs.Header.{starts_smb, is_reply, dropped}
 use Rattle.chain.specs.Parse.{shaped, bare, answer, parse_bare, parse}
 use Rattle.chain.specs.Chain.{after_block, after_parse, blocks_within, blocks_from, blocks}
 use Rattle.chain.specs.declared.block.Body.TheVariants.{Close}
-use Rattle.chain.specs.declared.block.Next.TheVariants.{End}
 use Rattle.message.specs.Caller.{caller_of}
 use Rattle.literals.specs.Counting.{count_from}
 
@@ -25,7 +23,7 @@ unfolding caller_of own_places le16_at
 caller-places = refl
 
 -- "The first is at 32 and belongs to the header's command."
-pub first_block : blocks own_places ≡ some (record { command = 0x04; at = 32; length = 9; body = Close 0x2221; next = End } ∷ [])
+pub first_block : blocks own_places ≡ Some (record { command = 0x04; at = 32; length = 9; body = Close 0x2221; next = End } ∷ [])
 unfolding own_places blocks blocks_from blocks_within after_parse after_block parse parse_bare answer bare shaped le16_at
 first_block = refl
 

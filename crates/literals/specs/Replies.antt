@@ -1,6 +1,6 @@
 -- One whole reply of each kind, byte for byte (document 01, "Header" and "Reply blocks"), and the holder beside it (document 02, CR 2), from a whole message on tables
 -- with few records. Assumes nothing.
-use Rattle.std.specs.Prelude.{◌≡◌, refl, ℕ, Bool, true, false, List, [], ◌∷◌, ◌++◌, map, take, drop, replicate}
+use Rattle.std.specs.Prelude.{◌≡◌, refl, ℕ, Bool, true, false, List, [], ◌∷◌, ◌++◌, map, take, drop, replicate, None as Nobody, Some as held_by}
 use Rattle.lists.specs.Walk.{any, all, all_tails, keep, found_from, found}
 use Rattle.lists.specs.Put.{put}
 use Rattle.lists.specs.Stored.{stored}
@@ -23,8 +23,7 @@ use Rattle.chain.specs.Parse.{shaped, bare, is_large, locking_fits, read_fits, d
 use Rattle.chain.specs.Chain.{before, after_block, after_parse, blocks_within, blocks_from, blocks}
 use Rattle.message.specs.Caller.{caller_of}
 use Rattle.message.specs.Refusal.{status, forms_of, holder_of}
-use Rattle.message.specs.declared.refusal.HeldBy.{HeldBy}
-use Rattle.message.specs.declared.refusal.HeldBy.TheVariants.{Nobody, Holder as held_by}
+use Rattle.message.specs.HeldBy.{HeldBy}
 use Rattle.message.specs.Contents.{size_of, contents, read_bytes, written, resized}
 use Rattle.message.specs.Command.{is_session, with_session, with_tree, is_open, open_at, with_open, served_type, request_of, with_lock_list, locking_end, locking_after, do_locking, ask_by, unless_barred, barring, do_read, ends_past, do_write, perform}
 use Rattle.message.specs.Reply.{two, reply_header, link_words, reply_block, refused_block, reply_size, four, nt_bit, smb_number, status_number}

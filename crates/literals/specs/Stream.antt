@@ -4,8 +4,8 @@ use Rattle.lists.specs.Walk.{keep}
 use Rattle.lists.specs.Put.{put}
 use Rattle.stream.specs.Stream.{length_of, known, judge_length, judge, header_of}
 use Rattle.stream.specs.Writer.{written_of, framed, write}
-use Rattle.stream.specs.declared.header.Judged.{Judged}
-use Rattle.stream.specs.declared.header.Judged.TheVariants.{Stop, KeepAlive, Message}
+use Rattle.stream.specs.Stream.{Judged}
+use Rattle.stream.specs.Stream.{Stop, KeepAlive, Message}
 use Rattle.literals.specs.Counting.{count_from}
 
 -- the number that a header stops the reader with, or 0

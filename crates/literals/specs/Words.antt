@@ -1,10 +1,9 @@
 -- The words of include/gateway.h's structs, a second time, as numbers: each word of the tables is its own place. Assumes nothing.
-use Rattle.std.specs.Prelude.{◌≡◌, refl, ℕ, ◌+◌, Bool, true, false, not, ◌&&◌, List, [], ◌∷◌, ◌++◌, length, get_or, set, replicate}
+use Rattle.std.specs.Prelude.{◌≡◌, refl, ℕ, ◌+◌, Bool, true, false, not, ◌&&◌, List, [], ◌∷◌, ◌++◌, length, get_or, set, replicate, None as Nobody, Some as held_by}
 use Rattle.lists.specs.Walk.{all}
 use Rattle.records.specs.declared.Tables.{Tables}
 use Rattle.records.specs.Empty.{no_session, no_tree, no_open, no_lock, no_file, no_name}
 use Rattle.tables.specs.Words.{up_to, session_of, tree_of, open_of, lock_of, name_of, array_of, session_array, tree_array, open_array, lock_array, name_array, file_array, tables_of, within, records_fit, in_use_fit}
-use Rattle.message.specs.declared.refusal.HeldBy.TheVariants.{Nobody, Holder as held_by}
 use Rattle.boundary.specs.Boundary.{holder_words}
 use Rattle.literals.specs.Counting.{count_from}
 

@@ -1,13 +1,12 @@
 -- Of specs/Possible.antt: what rests on its other theorems. Assumes nothing.
-use Rattle.std.specs.Prelude.{◌≡◌, ℕ, ◌+◌, false, replicate}
+use Rattle.std.specs.Prelude.{◌≡◌, ℕ, ◌+◌, false, replicate, None as Nobody}
 use Rattle.std.proofs.Common.{ap, ◌∙◌, arith}
 use mathlib.Core.List.{List, []}
 use Rattle.std.proofs.lemmas.List.{length-replicate}
 use Rattle.records.specs.declared.Tables.{Tables}
 use Rattle.chain.specs.Grammar.{Sentence}
 use Rattle.chain.specs.Header.{dropped}
-use Rattle.message.specs.declared.refusal.HeldBy.{HeldBy}
-use Rattle.message.specs.declared.refusal.HeldBy.TheVariants.{Nobody}
+use Rattle.message.specs.HeldBy.{HeldBy}
 use Rattle.message.specs.Message.{Taken, replied}
 use Rattle.invariants.specs.Sound.{Good}
 use Rattle.invariants.specs.Fit.{fit-answered}

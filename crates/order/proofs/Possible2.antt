@@ -1,7 +1,6 @@
 -- Of specs/Possible2.antt: what rests on its other theorems. Assumes nothing.
-use Rattle.std.specs.Prelude.{◌≡◌, replicate}
+use Rattle.std.specs.Prelude.{◌≡◌, replicate, Some as held_by}
 use Rattle.std.proofs.Common.{ap, ◌∙◌}
-use Rattle.message.specs.declared.refusal.HeldBy.TheVariants.{Holder as held_by}
 use Rattle.message.specs.Message.{Taken, replied}
 use Rattle.invariants.specs.Fit.{fit-answered}
 use Rattle.order.specs.Call.{gives, Answerable}

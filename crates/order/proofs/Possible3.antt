@@ -1,12 +1,11 @@
 -- Of specs/Possible3.antt: what rests on its other theorems. Assumes nothing.
-use Rattle.std.specs.Prelude.{◌≡◌, refl, ℕ, List, ◌++◌, replicate, get_or}
+use Rattle.std.specs.Prelude.{◌≡◌, refl, ℕ, List, ◌++◌, replicate, get_or, None as Nobody}
 use Rattle.std.proofs.Common.{ap, ◌∙◌, arith}
 use Rattle.wire.specs.LittleEndian.{le16_at, le32_at}
 use Rattle.records.specs.declared.Tables.{Tables}
 use Rattle.chain.specs.Layout.{LOCKING, READ, WRITE, CORE-READ, CORE-WRITE, LOCK_BYTE_RANGE, UNLOCK_BYTE_RANGE}
 use Rattle.chain.specs.Parse.{shaped, core_write_fits, answer, parse_core_write, parse}
 use Rattle.chain.specs.Chain.{after_block, after_parse, blocks_within, blocks_from, blocks}
-use Rattle.message.specs.declared.refusal.HeldBy.TheVariants.{Nobody}
 use Rattle.message.specs.Message.{answered, Taken, replied}
 use Rattle.invariants.specs.Sound.{Good}
 use Rattle.invariants.specs.Fit.{fit-answered, take-message-good}

@@ -1,5 +1,5 @@
 -- Demand 1 of the order, sentence by sentence. Assumes nothing.
-use Rattle.std.specs.Prelude.{◌≡◌, ◌↔◌, ℕ, ◌≤◌, List, [], ◌∷◌, ◌++◌, length}
+use Rattle.std.specs.Prelude.{◌≡◌, ◌↔◌, ℕ, ◌≤◌, List, [], ◌∷◌, ◌++◌, length, None as Nobody}
 use Rattle.std.proofs.Math.Logic.Iff
 use Rattle.std.proofs.lemmas.List.{length-replicate}
 use Rattle.wire.specs.LittleEndian.{le32_at}
@@ -15,7 +15,6 @@ use Rattle.message.specs.Message.{not_taken, take-message}
 use Rattle.message.specs.JustOpened.{NOBODY}
 use Rattle.message.specs.declared.caller.Caller.{Caller}
 use Rattle.message.specs.declared.refusal.Status.{Status}
-use Rattle.message.specs.declared.refusal.HeldBy.TheVariants.{Nobody}
 use Rattle.invariants.specs.Sound.{Good}
 use Rattle.claims.specs.EndOne.{EndReason, end_one-reason, end_one-given}
 use Rattle.claims.specs.HostReasons.{SessionReason, TreeReason, OpenReason, LoadReason, DropReason, SetReason, add_session-reason, add_session-given, add_tree-reason, add_tree-given, add_open-reason, add_open-given, load_file-reason, load_file-given, drop_connection-reason, drop_connection-given}

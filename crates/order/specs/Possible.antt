@@ -1,7 +1,7 @@
 -- The premises of the page are possible: a plant's tables, a message fit to be answered, a chain whose second command is refused, a lock that is refused and one
 -- that is not, two messages that differ in a free byte and in length, two whose senders differ in the upper half of the process only. Each is an instance that the checker computes. (Each command alone in its message, carried out and
 -- refused: literals/specs/Replies.antt; host calls that are done: literals/specs/Codes.antt.) Assumes nothing.
-use Rattle.std.specs.Prelude.{◌≡◌, refl, ℕ, zero, suc, ◌+◌, ◌-◌, ◌≤◌, ◌<◌, true, false, length, take, drop, replicate, get_or, ltb}
+use Rattle.std.specs.Prelude.{◌≡◌, refl, ℕ, zero, suc, ◌+◌, ◌-◌, ◌≤◌, ◌<◌, true, false, length, take, drop, replicate, get_or, ltb, None as Nobody, Some as held_by}
 use Rattle.std.proofs.Common.{sym, ap, ◌∙◌, arith, get_or-take, get_or-drop, ltb-true}
 use mathlib.Core.List.Memᴰ.{head as first}
 use mathlib.Core.List.Memᴰ.{tail as later}
@@ -29,8 +29,7 @@ use Rattle.chain.specs.Parse.{shaped, bare, is_large, locking_fits, read_fits, m
 use Rattle.chain.specs.Chain.{before, after_block, after_parse, blocks_within, blocks_from, blocks}
 use Rattle.message.specs.Caller.{caller_of}
 use Rattle.message.specs.Refusal.{status, forms_of, holder_of}
-use Rattle.message.specs.declared.refusal.HeldBy.{HeldBy}
-use Rattle.message.specs.declared.refusal.HeldBy.TheVariants.{Nobody, Holder as held_by}
+use Rattle.message.specs.HeldBy.{HeldBy}
 use Rattle.message.specs.Command.{is_session, with_session, with_tree, is_open, open_at, with_open, served_type, request_of, with_lock_list, locking_end, locking_after, do_locking, ask_by, unless_barred, barring, do_read, perform}
 use Rattle.message.specs.Contents.{size_of, contents, read_bytes}
 use Rattle.message.specs.Reply.{two, link_words, reply_size, reply_block, refused_block}

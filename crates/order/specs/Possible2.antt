@@ -1,6 +1,6 @@
 -- A request whose second range is refused by its first is possible (document 02, CR 2: "A lock granted earlier in the same request may be the answer, though it is
 -- undone"): an instance that the checker computes. Assumes nothing.
-use Rattle.std.specs.Prelude.{◌≡◌, refl, ℕ, false, List, [], ◌∷◌, ◌++◌, replicate}
+use Rattle.std.specs.Prelude.{◌≡◌, refl, ℕ, false, List, [], ◌∷◌, ◌++◌, replicate, Some as held_by}
 use Rattle.lists.specs.Walk.{any, found, found_from}
 use Rattle.lists.specs.Stored.{stored}
 use Rattle.wire.specs.LittleEndian.{le16_at, le32_at}
@@ -16,7 +16,6 @@ use Rattle.chain.specs.Parse.{shaped, bare, is_large, locking_fits, link_fits, l
 use Rattle.chain.specs.Chain.{before, after_block, after_parse, blocks_within, blocks_from, blocks}
 use Rattle.message.specs.Caller.{caller_of}
 use Rattle.message.specs.Refusal.{holder_of}
-use Rattle.message.specs.declared.refusal.HeldBy.TheVariants.{Holder as held_by}
 use Rattle.message.specs.Command.{is_session, with_session, with_tree, is_open, open_at, with_open, served_type, request_of, locking_end, locking_after, do_locking, perform}
 use Rattle.message.specs.JustOpened.{fid_meant, body_meant}
 use Rattle.message.specs.Message.{area_of, data_of, after_given, run, served, run_chain, answered}

@@ -1,7 +1,7 @@
 -- The premises of change request 3's page are possible: a count of 0 that is done, one past 4,096, one past 4,096 that meets a lock, a file that is cut and grows again over bytes that are not 0, a LOCK that is
 -- refused, an UNLOCK of what isn't locked, each of the four pairs of messages, a chain of a LOCKING and a READ, and a data block that is none. Each is an instance that the
 -- checker computes. (Whole replies: literals/specs/CoreCommands.antt.) Assumes nothing.
-use Rattle.std.specs.Prelude.{◌≡◌, refl, ℕ, ◌+◌, true, false, List, [], ◌∷◌, ◌++◌, length, replicate, get_or}
+use Rattle.std.specs.Prelude.{◌≡◌, refl, ℕ, ◌+◌, true, false, List, [], ◌∷◌, ◌++◌, length, replicate, get_or, None as Nobody, Some as held_by}
 use Rattle.std.proofs.Common.{ap, ◌∙◌, arith}
 use mathlib.Core.List.Memᴰ.{head as first}
 use Rattle.std.proofs.lemmas.List.{length-replicate}
@@ -29,8 +29,7 @@ use Rattle.chain.specs.Parse.{shaped, bare, is_large, locking_fits, core_write_f
 use Rattle.chain.specs.Chain.{before, after_block, after_parse, blocks_within, blocks_from, blocks}
 use Rattle.message.specs.Caller.{caller_of}
 use Rattle.message.specs.Refusal.{status, forms_of, holder_of}
-use Rattle.message.specs.declared.refusal.HeldBy.{HeldBy}
-use Rattle.message.specs.declared.refusal.HeldBy.TheVariants.{Nobody, Holder as held_by}
+use Rattle.message.specs.HeldBy.{HeldBy}
 use Rattle.message.specs.Command.{is_session, with_session, with_tree, is_open, open_at, with_open, served_type, request_of, with_lock_list, locking_end, locking_after, do_locking, ask_by, unless_barred, barring, do_read, ends_past, do_write, core_said, as_core, range_by, one_range, do_range, between_sizes, do_set_size, do_core_write, perform}
 use Rattle.message.specs.Contents.{size_of, contents, read_bytes, written, resized, sized_to}
 use Rattle.message.specs.Reply.{two, link_words, reply_size, reply_block, refused_block}

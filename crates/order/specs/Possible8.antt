@@ -1,6 +1,6 @@
 -- A history in which a terminal is told "unchanged" is possible (document 02, CR 8), and one in which it is told to read again: a session, a tree, a file of two bytes loaded, an open of it, and a READ; then a
 -- WRITE. Assumes nothing.
-use Rattle.std.specs.Prelude.{◌≡◌, refl, ℕ, true, false, List, [], ◌∷◌, ◌++◌, replicate}
+use Rattle.std.specs.Prelude.{◌≡◌, refl, ℕ, true, false, List, [], ◌∷◌, ◌++◌, replicate, Some}
 use Rattle.catalogue.specs.Name.{catalogue_ok, none_doubled}
 use Rattle.chain.specs.Chain.{after_block, after_parse, before, blocks, blocks_from, blocks_within}
 use Rattle.chain.specs.Header.{dropped, is_reply, starts_smb}
@@ -30,7 +30,6 @@ use Rattle.host.specs.HostCall.{refused as host_refused, done as host_done, no_t
 use Rattle.demands.specs.OldBytes.{Asked, ask-session, ask-tree, ask-load, ask-open, ask-message, host_told, message_told, told, memory_left, left_by}
 use Rattle.demands.specs.LastRead.{reads_after, reads_call, reads_message, reads_chain, reads_run, reads_given, event_of, after_event, changed_in, read_now, none_read}
 use Rattle.order.specs.Request8.{tables_left_by, last_reads}
-use Rattle.std.proofs.Math.Option.{some}
 
 -- a message of that command by process 7 with TID 1 and UID 1
 unfoldable pub sent_by : ℕ → List ℕ → List ℕ
@@ -63,10 +62,10 @@ unfolding sent_by reading writing read_once then_written lent holder_of take-mes
 told-changed = (refl, refl)
 
 -- and what the history tells of the READ
-pub read-once : last_reads read_once lent 1 ≡ some (record { file = 1; size = 2; bytes = 0xA0 ∷ 0xA1 ∷ []; changed = false })
+pub read-once : last_reads read_once lent 1 ≡ Some (record { file = 1; size = 2; bytes = 0xA0 ∷ 0xA1 ∷ []; changed = false })
 unfolding sent_by reading writing read_once then_written lent holder_of take-message dropped starts_smb is_reply answered served replied reply_of reply_header put run_chain only_status blocks blocks_from blocks_within after_parse after_block before parse answer link_fits link_at may_follow shaped bare le16_at le32_at caller_of run body_meant fid_meant after_given after link_to perform area_of data_of status forms_of reply_block refused_block reply_size link_words two with_session is_session with_tree with_open is_open open_at found found_from sound within_room file_ok tree_ok permits holds_open sharing_ok catalogue_ok none_doubled open_ok sound_records lock_ok agree agree_all sound_locks file_of is_tree contains number_ok numbered any all all_tails overlaps passes_end parse_locking locking_fits is_large range_size do_locking served_type request_of locking request release_all after_find remove_at named after_releases grant_all after_walk after_grants settle ranges_of of_header ranges_at range_at range_from number_at range_passes ask_of lock_of answers answers_for in_way bars owns locking_after locking_end with_lock_list stored do_read unless_barred barring ask_by read_bytes contents size_of do_write ends_past resized written with_files parse_bare with_locks parse_core_write core_write_fits core_said as_core range_by one_range do_range small_form between_sizes do_set_size do_core_write four status_number smb_number nt_bit seen_ok noting changes_of with_opens sized_to parse_read read_fits wide_offset parse_write write_fits data_inside host_refused host_done no_tables new_session add_session new_tree add_tree new_open add_open is_of load_number load_file load_memory is_unchanged unchanged_at ask_unchanged free_from smallest_free with_sessions with_trees host_told message_told told memory_left left_by reads_after reads_call reads_message reads_chain reads_run reads_given event_of after_event changed_in read_now none_read opened_by
 read-once = refl
 
-pub then-written : last_reads then_written lent 1 ≡ some (record { file = 1; size = 2; bytes = 0xA0 ∷ 0xA1 ∷ []; changed = true })
+pub then-written : last_reads then_written lent 1 ≡ Some (record { file = 1; size = 2; bytes = 0xA0 ∷ 0xA1 ∷ []; changed = true })
 unfolding sent_by reading writing read_once then_written lent holder_of take-message dropped starts_smb is_reply answered served replied reply_of reply_header put run_chain only_status blocks blocks_from blocks_within after_parse after_block before parse answer link_fits link_at may_follow shaped bare le16_at le32_at caller_of run body_meant fid_meant after_given after link_to perform area_of data_of status forms_of reply_block refused_block reply_size link_words two with_session is_session with_tree with_open is_open open_at found found_from sound within_room file_ok tree_ok permits holds_open sharing_ok catalogue_ok none_doubled open_ok sound_records lock_ok agree agree_all sound_locks file_of is_tree contains number_ok numbered any all all_tails overlaps passes_end parse_locking locking_fits is_large range_size do_locking served_type request_of locking request release_all after_find remove_at named after_releases grant_all after_walk after_grants settle ranges_of of_header ranges_at range_at range_from number_at range_passes ask_of lock_of answers answers_for in_way bars owns locking_after locking_end with_lock_list stored do_read unless_barred barring ask_by read_bytes contents size_of do_write ends_past resized written with_files parse_bare with_locks parse_core_write core_write_fits core_said as_core range_by one_range do_range small_form between_sizes do_set_size do_core_write four status_number smb_number nt_bit seen_ok noting changes_of with_opens sized_to parse_read read_fits wide_offset parse_write write_fits data_inside host_refused host_done no_tables new_session add_session new_tree add_tree new_open add_open is_of load_number load_file load_memory is_unchanged unchanged_at ask_unchanged free_from smallest_free with_sessions with_trees host_told message_told told memory_left left_by reads_after reads_call reads_message reads_chain reads_run reads_given event_of after_event changed_in read_now none_read opened_by
 then-written = refl

@@ -7,8 +7,8 @@ use Rattle.stream.specs.State.{none_begun, header_words, header_begun, begun_sta
 use Rattle.stream.specs.Reader.{Read, read}
 use Rattle.stream.specs.Writer.{framed, write}
 use Rattle.lists.specs.Put.{put}
-use Rattle.stream.specs.declared.reader.Event.TheVariants.{NoMessage}
-use Rattle.stream.specs.declared.header.Judged.TheVariants.{Stop}
+use Rattle.stream.specs.Reader.{NoMessage}
+use Rattle.stream.specs.Stream.{Stop}
 use Rattle.stream.specs.declared.state.State.{State}
 use Rattle.claims.specs.StreamReasons.{StopReason, stop-exact, header-stops, keep-alive-passed, not-judged, WriteReason, write-reason, write-given, write-nothing, write_done}
 use Rattle.claims.specs.StreamCut.{number_of, AllBytes, Same, drained_all, carried-cut, stopped-stands, reader-stopped}

@@ -1,5 +1,5 @@
 -- Change request 2 of document 02, "Say who holds the lock", sentence by sentence. Assumes nothing.
-use Rattle.std.specs.Prelude.{◌≡◌, ◌↔◌, ◌+◌, ◌^◌, ◌≤◌, ◌<◌, ◌/◌, ◌%◌, true, false, length}
+use Rattle.std.specs.Prelude.{◌≡◌, ◌↔◌, ◌+◌, ◌^◌, ◌≤◌, ◌<◌, ◌/◌, ◌%◌, true, false, length, None as Nobody, Some as held_by}
 use Rattle.std.proofs.Common.{sym, ne_eqb}
 use mathlib.Core.List.{List, [], ◌∷◌, ◌++◌, map, Memᴰ as In}
 use Rattle.wire.specs.LittleEndian.{byte_at}
@@ -9,7 +9,6 @@ use Rattle.locks.specs.declared.types.Holder.{Holder}
 use Rattle.chain.specs.Layout.{LOCKING, READ, WRITE, CORE-READ, CORE-WRITE, LOCK_BYTE_RANGE, header_command, FIRST, fid_after_andx, lock_type, unlock_count, read_max, data_length, first_fid, core_count, core_offset}
 use Rattle.chain.specs.Grammar.{Span, Reading}
 use Rattle.chain.specs.Parse.{range_fields}
-use Rattle.message.specs.declared.refusal.HeldBy.TheVariants.{Nobody, Holder as held_by}
 use Rattle.message.specs.JustOpened.{NOBODY}
 use Rattle.message.specs.Reply.{nt_bit}
 use Rattle.message.specs.Message.{run}

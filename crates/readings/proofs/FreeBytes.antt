@@ -1,17 +1,15 @@
 -- Of specs/FreeBytes.antt: what rests on its other theorems. Assumes nothing.
-use Rattle.std.specs.Prelude.{◌≡◌, ℕ, ◌+◌, ◌≤◌, ◌<◌}
+use Rattle.std.specs.Prelude.{◌≡◌, ℕ, ◌+◌, ◌≤◌, ◌<◌, Some, None as End}
 use Rattle.std.proofs.Math.Path.{refl, sym, ap}
 use Rattle.std.proofs.Common.{◌∙◌, arith}
 use mathlib.Core.List.Memᴰ.{head as first}
 use mathlib.Core.List.Memᴰ.{tail as later}
 use mathlib.Core.List.{List, [], ◌∷◌}
-use Rattle.std.proofs.Math.Option.{some}
 use Rattle.wire.specs.LittleEndian.{le16_at}
 use Rattle.chain.specs.Layout.{NO_COMMAND, header_command, word_count, block_end, andx_command, andx_offset, data_offset}
 use Rattle.chain.specs.Grammar.{IsBlock, MayFollow, NamedAndx, Span, span_at, ReadingFrom, plain_end, andx-end, andx-next, Reading}
 use Rattle.chain.specs.Chain.{before, blocks_from, blocks}
-use Rattle.chain.specs.declared.block.Next.{Next}
-use Rattle.chain.specs.declared.block.Next.TheVariants.{End, Follow}
+use Rattle.chain.specs.Next.{Next, Follow}
 use Rattle.chain.specs.declared.block.Block.{Block}
 use Rattle.invariants.specs.BlockParse.{body_at, block_at, Linked, link-plain, link-end, link-next, parse-complete, follow-andx, follow-not-end, write-words, andx-words, block_size}
 use Rattle.readings.specs.SameNumbers.{same-16}
@@ -86,7 +84,7 @@ module _ {s t : List ℕ} {command at : ℕ} (h : IsBlock s at command) (alike :
   unfolding block_at
   same_end l =
       chain-end t command at (block_at t command at End) (parse-complete t at (moved-block h unmoved) (link-same l)) refl
-      ∙ ap (λ (b : Block). some (b ∷ [])) (block_same End)
+      ∙ ap (λ (b : Block). Some (b ∷ [])) (block_same End)
       ∙ sym (chain-end s command at (block_at s command at End) (parse-complete s at h l) refl)
 
   -- one with others behind it

@@ -1,10 +1,9 @@
 -- Of specs/ListingExact.antt: what rests on its other theorems. Assumes nothing.
 use Rattle.std.proofs.Math.Path.{◌≡◌, ap}
-use Rattle.std.specs.Prelude.{refl, ◌↔◌, ℕ, suc, true, false}
+use Rattle.std.specs.Prelude.{refl, ◌↔◌, ℕ, suc, true, false, Option, None, Some}
 use Rattle.std.proofs.Common.{sym, ◌∙◌, arith}
 use Rattle.std.proofs.Math.Logic.{inl, inr}
 use mathlib.Core.List.{List, [], ◌∷◌, map}
-use Rattle.std.proofs.Math.Option.{Option, none, some}
 use Rattle.std.proofs.Math.ListN.{get_or}
 use Rattle.lists.specs.Truth.{decided}
 use Rattle.chain.specs.Grammar.{Span, Reading}
@@ -23,8 +22,8 @@ lines-spans k (b ∷ bs) = rw (line-span k b, lines-spans (suc k) bs)
 
 pub listed-first : (o : Option (List Block)) → get_or (listed o) 0 0 ≡ 100 → ⊥
 unfolding listed not_chain
-listed-first none e = omega arith
-listed-first (some bs) e = lines-first 100 (λ z. omega arith) (λ z. omega arith) (map span_of bs) (ap (λ (l : List ℕ). get_or l 0 0) (sym (lines-spans 1 bs)) ∙ e)
+listed-first None e = omega arith
+listed-first (Some bs) e = lines-first 100 (λ z. omega arith) (λ z. omega arith) (map span_of bs) (ap (λ (l : List ℕ). get_or l 0 0) (sym (lines-spans 1 bs)) ∙ e)
 
 module _ (s : List ℕ) where
   -- "prints for each block its place, command in hex, offset and length, then `end`": the lines are those of any reading, one for each block

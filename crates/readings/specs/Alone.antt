@@ -1,9 +1,8 @@
 -- A block that makes a message of its own is that message's only block, with the same fields.
 -- Assumes nothing.
-use Rattle.std.specs.Prelude.{◌≡◌, ℕ, List}
+use Rattle.std.specs.Prelude.{◌≡◌, ℕ, List, None as End}
 use Rattle.chain.specs.Layout.{NO_COMMAND, andx_command}
 use Rattle.chain.specs.Grammar.{NamedAndx}
-use Rattle.chain.specs.declared.block.Next.TheVariants.{End}
 use Rattle.chain.specs.declared.block.Block.{Block}
 use Rattle.invariants.specs.BlockTests.{Served, plain, andx}
 use Rattle.invariants.specs.BlockParse.{body_at, Linked, link-plain, link-end, block_size}

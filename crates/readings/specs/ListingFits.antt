@@ -1,10 +1,9 @@
 -- The whole listing of a message fits 65,536 bytes, so the lister's program prints all of it.
 -- Assumes nothing.
-use Rattle.std.specs.Prelude.{◌≡◌, ℕ, suc, ◌+◌, ◌*◌, ◌/◌, ◌%◌, ◌≤◌, ◌<◌, Bool, true, false, List, [], ◌∷◌, ◌++◌, ltb}
+use Rattle.std.specs.Prelude.{◌≡◌, ℕ, suc, ◌+◌, ◌*◌, ◌/◌, ◌%◌, ◌≤◌, ◌<◌, Bool, true, false, List, [], ◌∷◌, ◌++◌, ltb, Option, None, Some, None as End, Some as Whole}
 use Rattle.std.proofs.Math.Path.{refl}
 use Rattle.std.proofs.Math.Decide.{dec_lt}
 use native.Mathlib.Omega.{arith}
-use Rattle.std.proofs.Math.Option.{Option, none, some}
 use Rattle.std.proofs.Math.ListN.{length, length-append}
 use Rattle.lists.specs.Truth.{neither-holds}
 use Rattle.std.proofs.Common.{ltb-false}
@@ -13,10 +12,8 @@ use Rattle.chain.specs.Header.{dropped}
 use Rattle.chain.specs.Parse.{parse}
 use Rattle.chain.proofs.ParseLaws.{placed}
 use Rattle.chain.specs.Chain.{blocks_from, blocks}
-use Rattle.chain.specs.declared.block.Next.{Next}
-use Rattle.chain.specs.declared.block.Next.TheVariants.{End, Follow}
+use Rattle.chain.specs.Next.{Next, Follow}
 use Rattle.chain.specs.declared.block.Block.{Block}
-use Rattle.chain.specs.declared.block.Parsed.TheVariants.{Whole}
 use Rattle.text.specs.Digits.{decimal, hex_byte}
 use Rattle.listing.specs.Text.{line, end_line, lines_from, not_chain, dropped_line, listed, listing}
 use Rattle.text.specs.DigitLaws.{decimal-small, decimal-more}
@@ -85,8 +82,8 @@ module _ (s : List ℕ) (short : length s ≤ 8192) where
 
   listed-fits : (o : Option (List Block)) → blocks_from s (header_command s) FIRST ≡ o → length (listed o) ≤ 65536
   unfolding listed not_chain
-  listed-fits none e = omega arith
-  listed-fits (some bs) e =
+  listed-fits None e = omega arith
+  listed-fits (Some bs) e =
       let f = few 1 (read-chained s (header_command s) FIRST bs e) (omega arith) in
       let lines = f.lines in
       let bytes = f.bytes in

@@ -1,8 +1,7 @@
 -- No message has two readings: each is what the reader answers.
 -- Assumes nothing.
-use Rattle.std.specs.Prelude.{◌≡◌, ℕ, List, map}
+use Rattle.std.specs.Prelude.{◌≡◌, ℕ, List, map, Some}
 use Rattle.std.proofs.Common.{sym, ◌∙◌, ap}
-use Rattle.std.proofs.Math.Option.{some}
 use Rattle.chain.specs.Layout.{header_command, FIRST}
 use Rattle.chain.specs.Grammar.{Span, ReadingFrom, Reading}
 use Rattle.chain.specs.Chain.{blocks_from}
@@ -12,8 +11,8 @@ use Rattle.readings.specs.ReaderComplete.{Answered, reader-complete-from}
 -- two answers of the reader have the same blocks
 same_answer : {s : List ℕ} {command at : ℕ} {xs ys : List Span} → Answered s command at xs → Answered s command at ys → xs ≡ ys
 same_answer {s} {command} {at} a b =
-    let p : blocks_from s command at ≡ some a.bs = a.answer in
-    let q : blocks_from s command at ≡ some b.bs = b.answer in
+    let p : blocks_from s command at ≡ Some a.bs = a.answer in
+    let q : blocks_from s command at ≡ Some b.bs = b.answer in
     let e : a.bs ≡ b.bs = cc in
     sym a.same ∙ ap (map span_of) e ∙ b.same
 

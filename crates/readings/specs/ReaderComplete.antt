@@ -1,12 +1,11 @@
 -- The reader of a chain answers every reading, and refuses exactly what is no sentence.
 -- Assumes nothing.
-use Rattle.std.specs.Prelude.{◌≡◌, refl, ◌↔◌, ℕ, List, [], ◌∷◌, map}
+use Rattle.std.specs.Prelude.{◌≡◌, refl, ◌↔◌, ℕ, List, [], ◌∷◌, map, Option, None, Some, None as End}
 use Rattle.std.proofs.Common.{◌∙◌, ap, arith}
-use Rattle.std.proofs.Math.Option.{Option, none, some}
 use Rattle.chain.specs.Layout.{header_command, FIRST, andx_command, andx_offset}
 use Rattle.chain.specs.Grammar.{IsBlock, Span, span_at, ReadingFrom, plain_end, andx-end, andx-next, Reading, Sentence}
 use Rattle.chain.specs.Chain.{before, blocks_from, blocks}
-use Rattle.chain.specs.declared.block.Next.TheVariants.{End, Follow}
+use Rattle.chain.specs.Next.{Follow}
 use Rattle.chain.specs.declared.block.Block.{Block}
 use Rattle.invariants.specs.BlockParse.{block_at, Linked, link-plain, link-end, link-next, parse-complete}
 use Rattle.chain.specs.ChainLaws.{chain-end}
@@ -16,7 +15,7 @@ use Rattle.invariants.specs.ReaderSound.{span_of, span-of-block, reader-sound-fr
 -- the reader's answer with those blocks
 pub record Answered (s : List ℕ) (command at : ℕ) (spans : List Span) : Type 0 where
   pub bs : List Block
-  pub answer : blocks_from s command at ≡ some bs
+  pub answer : blocks_from s command at ≡ Some bs
   pub same : map span_of bs ≡ spans
 
 -- a block alone
@@ -49,18 +48,18 @@ reader-complete-from {s} (andx-next {command} {at} {rest} h m g r) =
     answered-more s command at (andx_command s at) (andx_offset s at) rest h (link-next m g) (reader-complete-from r)
 
 -- "first the block at 32 with the header's command": every reading of a message is what the reader answers
-pub reader-complete : {s : List ℕ} {spans : List Span} → Reading s spans → (bs : List Block) × (blocks s ≡ some bs) × (map span_of bs ≡ spans)
+pub reader-complete : {s : List ℕ} {spans : List Span} → Reading s spans → (bs : List Block) × (blocks s ≡ Some bs) × (map span_of bs ≡ spans)
 unfolding blocks
 reader-complete r = let a = reader-complete-from r in (a.bs, a.answer, a.same)
 
 -- a chain is refused exactly if nothing is read from there on
 refused-by : (s : List ℕ) (command at : ℕ) (o : Option (List Block)) → blocks_from s command at ≡ o
-    → ((spans : List Span) × ReadingFrom s command at spans → ⊥) → o ≡ none
-refused-by s command at none e h = refl
-refused-by s command at (some bs) e h = absurd (h (map span_of bs, reader-sound-from s command at bs e))
+    → ((spans : List Span) × ReadingFrom s command at spans → ⊥) → o ≡ None
+refused-by s command at None e h = refl
+refused-by s command at (Some bs) e h = absurd (h (map span_of bs, reader-sound-from s command at bs e))
 
 -- "either yields the block or ends the chain's reading at once with 2/1": at any place
-pub no-reading-from : (s : List ℕ) (command at : ℕ) → (blocks_from s command at ≡ none) ↔ ((spans : List Span) × ReadingFrom s command at spans → ⊥)
+pub no-reading-from : (s : List ℕ) (command at : ℕ) → (blocks_from s command at ≡ None) ↔ ((spans : List Span) × ReadingFrom s command at spans → ⊥)
 no-reading-from s command at = (
   λ e r. let a = reader-complete-from r.1 in
       let f = a.answer in
@@ -70,6 +69,6 @@ no-reading-from s command at = (
 )
 
 -- "A sentence is a message with a reading": the reader refuses exactly the messages that are none
-pub no-sentence : (s : List ℕ) → (blocks s ≡ none) ↔ (Sentence s → ⊥)
+pub no-sentence : (s : List ℕ) → (blocks s ≡ None) ↔ (Sentence s → ⊥)
 unfolding blocks
 no-sentence s = no-reading-from s (header_command s) FIRST
