@@ -14,6 +14,7 @@ use crate::answer::{Given, HostRefusal};
 use soundness::whole::is_sound;
 use tables::file::put_change;
 use tables::open::open_at;
+use wire::fill::clear;
 
 // Whether an open in use is of the file.
 fn some_open_of(words: &[u64], file: u8) -> bool
@@ -47,7 +48,7 @@ fn fill_file(contents: &[u8], room: &mut [u8])
 {
     let n = contents.len();
     room[..n].copy_from_slice(contents);
-    room[n..].fill(0);
+    clear(&mut room[n..]);
 }
 
 // A load into sound tables and a whole file memory.

@@ -10,6 +10,7 @@ ghost use Rattle.host.specs.OnWords.{set_on_sound, set_on_words, Left};
 use crate::answer::{Given, HostRefusal};
 use catalogue::rules::catalogue_ok;
 use soundness::whole::is_sound;
+use tables::copy::copy_words;
 
 // A catalogue for sound tables: all its words, those of names not in use too.
 fn set_sound(words: &mut [u64], given: &[u64]) -> Given
@@ -20,7 +21,7 @@ fn set_sound(words: &mut [u64], given: &[u64]) -> Given
     if !catalogue_ok(given) {
         return Err(HostRefusal::OutOfRange);
     }
-    words[1380..1605].copy_from_slice(given);
+    copy_words(&mut words[1380..1605], given);
     Ok(0)
 }
 

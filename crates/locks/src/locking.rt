@@ -13,6 +13,7 @@ use crate::grants::{append_locks, first_conflict, holder_at};
 use crate::types::{LockRefusal, Request};
 use crate::unlock::release_all;
 use crate::wire_form::range_size;
+use tables::copy::copy_words;
 use tables::fit::in_use;
 
 const LOCKS: usize = 128;
@@ -90,10 +91,10 @@ pub fn lock_request(
         return grant_all(files, words, q, area);
     }
     let mut kept = [0u64; 641];
-    kept.copy_from_slice(words);
+    copy_words(&mut kept, words);
     let ended = unlock_and_grant(files, words, q, area);
     if ended.is_err() {
-        words.copy_from_slice(&kept);
+        copy_words(words, &kept);
     }
     ended
 }

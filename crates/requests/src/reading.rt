@@ -18,6 +18,7 @@ use locks::types::Purpose;
 use message::answer::Answer;
 use message::caller::Caller;
 use message::refusal::Refusal;
+use numbers::number::at_most;
 use records::Open;
 use tables::file::changes_at;
 use tables::open::put_open;
@@ -37,7 +38,7 @@ fn read_part(words: &[u64], file: u8, offset: u64, max: u16) -> Answer
     }
     let start = file as usize * 4096;
     let place = start + at;
-    let count = (max as usize).min(size - at);
+    let count = at_most(max as usize, size - at);
     Answer::Read(place, count)
 }
 

@@ -20,7 +20,7 @@ use message::caller::Caller;
 use message::refusal::Refusal;
 use records::Open;
 use tables::file::put_change;
-use wire::fill::lay;
+use wire::fill::{clear, lay};
 
 // "write would end past 4,096", and "Length 0 writes nothing .. and is done at any offset".
 fn ends_past(offset: u64, count: u16) -> bool
@@ -41,7 +41,7 @@ fn clear_gap(room: &mut [u8], from: usize, to: usize)
     ensures { room.new ≡ put room.old from (replicate (to - from) 0) }
 {
     if from < to {
-        room[from..to].fill(0);
+        clear(&mut room[from..to]);
     }
 }
 

@@ -3,7 +3,7 @@
 ghost use Rattle.std.specs.Prelude.{◌≡◌, ◌≤◌, length, replicate};
 ghost use Rattle.lists.specs.Put.{put};
 
-// Zeros over the whole slice. No crate here calls it: it is public, and half_a_slice and ones_over_a_slice are tried on it.
+// Zeros over the whole slice.
 pub fn clear(room: &mut [u8])
     ensures { room.new ≡ replicate (length room.old) 0 }
 {

@@ -28,10 +28,10 @@ returns c =
     let given = c.args.given.now in
     let full = c.requires.0 in
     let long = c.requires.1.1 in
-    let same = c.copy_from_slice.ensures.after in
+    let same = c.copy_words.ensures in
     let right = sym c.catalogue_ok.ensures ∙ c.if-not-catalogue_ok.false in
     let fits = (both_hold (table_fits name_limits 16 given) (catalogue_ok (name_array given) (word given 0)) right).0 in record {
-      left = left-done w (lent w 1380 225 c.copy_from_slice.new.self) 0 (set_on_sound w given) (with_catalogue (tables_of w) (name_array given) (word given 0)) (catalogue-set w given c.requires.1.0 right)
+      left = left-done w (lent w 1380 225 c.copy_words.new.to) 0 (set_on_sound w given) (with_catalogue (tables_of w) (name_array given) (word given 0)) (catalogue-set w given c.requires.1.0 right)
           (ap (λ (l : List ℕ). tables_of (lent w 1380 225 l)) same ∙ tables-names w given full long)
           (λ f. ap (λ (l : List ℕ). in_use_fit (lent w 1380 225 l)) same ∙ fit-names w given full long f fits);
       words_after = λ _. ap (lent w 1380 225) same;

@@ -53,7 +53,7 @@ returns-then-is_err c =
     let q = args.q in
     let w = args.words.now in
     let sized : length args.area.now ≡ (q.unlocks + q.locks) * range_size q.large = rw (← c.range_size.ensures) c.if-area-ranges.false in record {
-      settles = rw (locking-sized (file_in args.files.now) (lock_array w) (word w 0) q args.area.now sized, c.copy_from_slice-then-is_err.ensures.after, c.copy_from_slice.ensures.after)
+      settles = rw (locking-sized (file_in args.files.now) (lock_array w) (word w 0) q args.area.now sized, c.copy_words-then-is_err.ensures, c.copy_words.ensures)
           (settles-back w _ (c.is_err.ensures.negation ∙ ap not c.if-is_err.true) c.unlock_and_grant-ended.ensures.tried);
-      words_after = λ f. rw (c.copy_from_slice-then-is_err.ensures.after, c.copy_from_slice.ensures.after) f;
+      words_after = λ f. rw (c.copy_words-then-is_err.ensures, c.copy_words.ensures) f;
     }

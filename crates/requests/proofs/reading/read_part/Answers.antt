@@ -32,4 +32,4 @@ returns c =
     let args = c.args in
     let e = c.file_size-size.ensures in
     let low : args.offset < size_of (tables_of args.words.now) args.file = omega arith in
-    rw (lt-leb _ _ low, c.min-count.ensures, c.file_size-size.ensures)
+    rw (lt-leb _ _ low, c.at_most-count.ensures, c.file_size-size.ensures)
