@@ -22,8 +22,8 @@ pub fn put_text(out: &mut [u8], at: usize, text: &[u8]) -> usize
     ensures { Written out.old at text.now out.new result }
 {
     let mut to = at;
-    for b in text {
-        to = put_byte(out, to, *b);
+    for i in 0..text.len() {
+        to = put_byte(out, to, text[i]);
     }
     to
 }
@@ -68,8 +68,8 @@ pub fn put_hex_bytes(out: &mut [u8], at: usize, bytes: &[u8]) -> usize
     ensures { Written out.old at (hex_bytes bytes.now) out.new result }
 {
     let mut to = at;
-    for b in bytes {
-        to = put_hex(out, to, *b);
+    for i in 0..bytes.len() {
+        to = put_hex(out, to, bytes[i]);
     }
     to
 }

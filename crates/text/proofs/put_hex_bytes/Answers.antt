@@ -5,15 +5,15 @@ use Rattle.text.specs.Digits.{hex_bytes}
 use native.Mathlib.Omega.{arith}
 use Rattle.text.proofs.put_hex_bytes.Goals as goal
 
-pub loop-b-init : goal.loop-b-init
+pub loop-i-init : goal.loop-i-init
 unfolding hex_bytes
-loop-b-init c = written-nothing c.args.out.now c.args.at
+loop-i-init c = written-nothing c.args.out.now c.args.at
 
-pub loop-b-preserved : goal.loop-b-preserved
-loop-b-preserved c = written-hex-more c.args.bytes.now c.loop-b.b-index (omega arith) c.loop-b.invariant c.put_hex-to.ensures
+pub loop-i-preserved : goal.loop-i-preserved
+loop-i-preserved c = written-hex-more c.args.bytes.now c.loop-i.i (omega arith) c.loop-i.invariant c.put_hex-to.ensures
 
 pub shape_of-out : goal.shape_of-out
-shape_of-out c = written-length c.loop-b.invariant
+shape_of-out c = written-length c.loop-i.invariant
 
 pub returns : goal.returns
-returns c = written-hex-whole c.args.bytes.now c.loop-b.b-index (omega arith) c.loop-b.invariant
+returns c = written-hex-whole c.args.bytes.now c.loop-i.i (omega arith) c.loop-i.invariant
